@@ -27,7 +27,7 @@ PROGRAM ?= ./$(BUILT)ldvbi
 # The one place of the version; header, library, program and change log are tested against it
 VERSION := 0.2.0
 # The interface of the library, as include/ldvbi.h has it
-ABI := 1
+ABI := 2
 ROOT := $(DESTDIR)$(PREFIX)
 LIBRARIES := $(DESTDIR)$(LIBDIR)
 # The commands, each with its manual page and completions

@@ -1,9 +1,8 @@
 /* A player. It does each command in turn, and prints the field that it shows then, from 1, and its picture. `search N`
  * or `search H:MM:SS.PP` goes to a picture; if the capture lacks it, to the next one of a hundred. `chapter N`, `next`
- * and `previous` go to where a chapter begins, `play` to the next stop, and `still` stays. All but `play` find their
- * way by halving and fetch a few MB. So numbers and chapters have to rise, and on a worn side one may be missed. System
- * and levels are the first rows of a map (ldvbi-side side.tbc --map side.map). Status 1: something wasn't found; 2:
- * something can't be read, and standard error says what. It is C++, too.
+ * and `previous` go to where a chapter begins, `play` to the next stop, and `still` stays. All but `play` fetch a few
+ * MB: so numbers and chapters have to rise, and on a worn side one may be missed. System and levels are the first rows
+ * of a map (ldvbi-side --map). Status 1: something wasn't found; 2: standard error says what is wrong. It is C++, too.
  *     cc -o player player.c -lldvbi && ./player side.tbc side.map search 12345 play next still */
 #define _DEFAULT_SOURCE
 #include <fcntl.h>
@@ -50,7 +49,7 @@ static int has_picture(const Side *side, size_t field, uint32_t *number) {
     *number = p.shown[field - p.from].number;
     return p.shown[field - p.from].state == LDVBI_BELIEVED || p.shown[field - p.from].state == LDVBI_DUE;
 }
-/* ---- Where commands lead: to a field, or to the count of all fields if it isn't found */
+/* ---- Where commands lead: to a field, or to the count of all fields */
 static int chapter_of(const Side *side, size_t field) { /* the last one up to it; 80 in lead-out, -1 before all */
     Part p = read_around(side, field, LDVBI_REACH);
     check(ldvbi_judge_chapters(p.read, p.count, p.seen, p.count, p.shown, p.count));
@@ -60,12 +59,16 @@ static int chapter_of(const Side *side, size_t field) { /* the last one up to it
             return p.states[i] == LDVBI_IS_LEAD_OUT ? 80 : (int)p.shown[i].number;
     return -1;
 }
-static size_t seek_chapter(const Side *side, int least) { /* the first field of this chapter, or of a later one */
-    size_t low = 0, high = side->fields, middle;
-    while (low < high)
-        if (chapter_of(side, middle = low + (high - low) / 2) < least) low = middle + 1;
-        else high = middle;
-    return low < side->fields && chapter_of(side, low) < 80 ? low : side->fields;
+static size_t seek_chapter(const Side *side, uint32_t chapter) {
+    LdvbiPlace at;
+    check(ldvbi_seek_chapter(side->system, side->black, side->white, side->bytes, side->length, chapter, &at));
+    return at.field;
+}
+static size_t go_on(const Side *side, size_t field, int step) { /* to the next chapter of the side, or the one before */
+    size_t found = side->fields;
+    for (int at = chapter_of(side, field) + step; 0 <= at && at < 80 && found == side->fields; at += step)
+        found = seek_chapter(side, (uint32_t)at);
+    return found;
 }
 static size_t search(const Side *side, int is_chapter, const char *place, uint32_t *lacked) {
     uint32_t n[4] = {0, 0, 0, 0}, counted = LDVBI_PICTURES, rate = side->system == LDVBI_NTSC ? 30 : 25;
@@ -73,48 +76,45 @@ static size_t search(const Side *side, int is_chapter, const char *place, uint32
     require(parts == 1 ? !is_chapter || n[0] < 80 : parts == 4 && !is_chapter && n[1] < 60 && n[2] < 60 &&
             n[3] < rate, "no picture, no time, and no chapter");
     if (parts == 4) counted = LDVBI_TIMES, n[0] = ((n[0] * 60 + n[1]) * 60 + n[2]) * rate + n[3];
-    LdvbiSought sought = {is_chapter ? seek_chapter(side, (int)n[0]) : side->fields, {0, 0}, 0, 0};
-    while (!is_chapter && sought.field == side->fields && *lacked < 100) /* they fetch few fields more */
-        check(ldvbi_seek(side->system, side->black, side->white, counted, LDVBI_FIND_PACE, side->bytes, side->length,
-                         n[0] + (*lacked)++, &sought));
-    *lacked = is_chapter ? sought.field < side->fields && chapter_of(side, sought.field) != (int)n[0] : *lacked - 1;
-    return sought.field;
+    LdvbiSought sought;
+    sought.field = side->fields;
+    while (sought.field == side->fields && *lacked < (is_chapter ? 80 - n[0] : 100)) /* they fetch few fields more */
+        if (is_chapter) sought.field = seek_chapter(side, n[0] + (*lacked)++);
+        else check(ldvbi_seek(side->system, side->black, side->white, counted, LDVBI_FIND_PACE, side->bytes,
+                              side->length, n[0] + (*lacked)++, &sought));
+    return --*lacked, sought.field;
 }
-static int is_stop(const Side *side, size_t field) {
-    Part p = read_around(side, field, 0);
-    check(ldvbi_judge_stops(p.read, 1, p.states, 1));
-    return p.states[0] == LDVBI_BELIEVED;
+static size_t stop_from(const Side *side, size_t field, size_t most) {
+    LdvbiPlace at;
+    check(ldvbi_next_stop(side->system, side->black, side->white, side->bytes, side->length, field, most, &at));
+    return at.field;
 }
 static size_t next_stop(const Side *side, size_t field) { /* the first one, if all fields of a picture have its stop */
     uint32_t last, now;
-    for (int had = is_stop(side, field), has; ++field < side->fields; had = has)
-        if ((has = is_stop(side, field)) && (!had || (has_picture(side, field, &now)
-                && !(has_picture(side, field - 1, &last) && last == now)))) break;
-    return field;
+    size_t stop = field;
+    do stop = stop_from(side, (field = stop) + 1, side->fields);
+    while (stop == field + 1 && stop < side->fields && stop_from(side, field, 1) == field &&
+           !(has_picture(side, stop, &now) && !(has_picture(side, field, &last) && last == now)));
+    return stop;
 }
-
 int main(int count, char **words) {
     require(count > 3, "usage: player FILE MAP search PLACE|chapter N|next|previous|play|still ..");
     Side side = open_side(words[1], words[2]);
+    uint32_t picture, lacked, is_missed = 0;
     size_t shown = 0, field;
-    uint32_t picture, is_missed = 0;
     for (char **word = words + 3; *word; word++) {
-        const char *name = *word;
-        uint32_t lacked = 0;
+        const char *name = (lacked = 0, *word);
         if (strcmp(name, "search") == 0 || strcmp(name, "chapter") == 0)
             field = search(&side, *name == 'c', word[1] ? *++word : "-", &lacked);
-        else if (strcmp(name, "next") == 0) field = seek_chapter(&side, chapter_of(&side, shown) + 1);
-        else if (strcmp(name, "previous") == 0) {
-            size_t begin = seek_chapter(&side, chapter_of(&side, shown));
-            field = seek_chapter(&side, begin == 0 ? -1 : chapter_of(&side, begin - 1));
-        } else if (strcmp(name, "play") == 0) field = next_stop(&side, shown);
+        else if (strcmp(name, "next") == 0 || strcmp(name, "previous") == 0)
+            field = go_on(&side, shown, *name == 'n' ? 1 : -1);
+        else if (strcmp(name, "play") == 0) field = next_stop(&side, shown);
         else require(strcmp(name, "still") == 0, "no such command"), field = shown;
         uint32_t is_lacking = lacked > 0 || field == side.fields;
         printf("%s:%s", name, is_lacking ? " not found" : "");
         if (field < side.fields) printf("%s field %zu", is_lacking ? "," : "", (shown = field) + 1);
         if (field < side.fields && has_picture(&side, field, &picture)) printf(" picture %u", picture);
-        puts("");
-        is_missed |= is_lacking;
+        is_missed |= is_lacking, puts("");
     }
     return (int)is_missed;
 }

@@ -46,13 +46,10 @@ def chapter_of(side, place):
     return -1
 
 
-def seek_chapter(side, least):
-    """The first field of this chapter, or of a later one."""
-    low, high = 0, len(side)
-    while low < high:
-        middle = (low + high) // 2
-        low, high = (middle + 1, high) if chapter_of(side, middle) < least else (low, middle)
-    return low if low < len(side) and chapter_of(side, low) < LEAD_OUT else None
+def first_found(side, chapters):
+    """Where the first of these chapters that is found begins, and which it is."""
+    sought = ((ldvbi.seek_chapter(side, chapter), chapter) for chapter in chapters)
+    return next((found for found in sought if found[0] is not None), (None, None))
 
 
 def search(side, text):
@@ -74,18 +71,10 @@ def search(side, text):
 
 def play(side, place):
     """The next stop. If all fields of a picture have its stop, the first one counts."""
-    had = None
-    for now in range(place, len(side)):
-        has = ldvbi.judge_stops(side[now:now + 1])[0] == ldvbi.State.believed
-        if has and now > place and not (had and picture_of(side, now) in (None, picture_of(side, now - 1))):
-            return now
-        had = has
-    return None
-
-
-def previous(side, place):
-    begin = seek_chapter(side, chapter_of(side, place))
-    return seek_chapter(side, chapter_of(side, begin - 1) if begin else -1)
+    had, now = ldvbi.next_stop(side, place, 1) is not None, ldvbi.next_stop(side, place + 1)
+    while had and now == place + 1 and picture_of(side, now) in (None, picture_of(side, place)):
+        place, now = now, ldvbi.next_stop(side, now + 1)
+    return now
 
 
 def done(side, place, command, words):
@@ -96,12 +85,15 @@ def done(side, place, command, words):
         number = int(next(words, ""))
         if not 0 <= number < LEAD_OUT:
             raise ValueError("no chapter from 0 to 79: %d" % number)
-        found = seek_chapter(side, number)
-        return found, found is not None and chapter_of(side, found) == number
+        found, chapter = first_found(side, range(number, LEAD_OUT))
+        return found, chapter == number
     if command not in ("next", "previous", "play", "still"):
         raise ValueError("no such command: " + command)
-    found = (seek_chapter(side, chapter_of(side, place) + 1) if command == "next" else
-             previous(side, place) if command == "previous" else play(side, place) if command == "play" else place)
+    if command in ("next", "previous"):
+        at = chapter_of(side, place)
+        found, _ = first_found(side, range(at + 1, LEAD_OUT) if command == "next" else reversed(range(at)))
+    else:
+        found = play(side, place) if command == "play" else place
     return found, found is not None
 
 

@@ -30,31 +30,6 @@ static uint32_t parse_time(const char *text, uint32_t rate) { /* the pictures fr
     return ((hour * 60 + minute) * 60 + second) * rate + picture;
 }
 
-static int chapter_of(const Side *side, size_t field) { /* the last one up to it; 80 in lead-out, -1 before all */
-    LdvbiFieldReadings read[LDVBI_PART];
-    LdvbiSightings seen[LDVBI_PART];
-    LdvbiNumber chapters[LDVBI_PART];
-    uint32_t ends[LDVBI_PART];
-    size_t bytes = side->length / side->fields, from = field < LDVBI_REACH ? 0 : field - LDVBI_REACH;
-    size_t count = (side->fields - field > LDVBI_REACH ? field + LDVBI_REACH + 1 : side->fields) - from;
-    check(ldvbi_recover_fields(side->system, side->black, side->white, side->bytes + from * bytes, count * bytes, read,
-                               count));
-    check(ldvbi_judge_chapters(read, count, seen, count, chapters, count));
-    check(ldvbi_judge_ends(read, count, ends, count));
-    for (size_t i = field - from + 1; i-- > 0;)
-        if (ends[i] == LDVBI_IS_LEAD_OUT || chapters[i].state == LDVBI_BELIEVED)
-            return ends[i] == LDVBI_IS_LEAD_OUT ? 80 : (int)chapters[i].number;
-    return -1;
-}
-
-static size_t seek_chapter(const Side *side, int chapter) {
-    size_t low = 0, high = side->fields, middle;
-    while (low < high)
-        if (chapter_of(side, middle = low + (high - low) / 2) < chapter) low = middle + 1;
-        else high = middle;
-    return low < side->fields && chapter_of(side, low) == chapter ? low : side->fields;
-}
-
 int main(int count, char **words) {
     int is_chapter = count == 7 && strcmp(words[5], "chapter") == 0;
     require(count == 6 || is_chapter, "usage: seek FILE NTSC|PAL BLACK WHITE NUMBER|H:MM:SS.PP|chapter N");
@@ -71,10 +46,13 @@ int main(int count, char **words) {
     require(bytes != MAP_FAILED, "no field of the file can be mapped");
     madvise(bytes, side.length, MADV_RANDOM); /* few pages are read: read none ahead */
     side.bytes = (const uint8_t *)bytes;
-    LdvbiSought sought = {0, {0, 0}, 0, 0};
-    if (is_chapter) sought.field = seek_chapter(&side, (int)wanted);
+    LdvbiPlace place;
+    LdvbiSought sought;
+    if (is_chapter) check(ldvbi_seek_chapter(side.system, side.black, side.white, side.bytes, side.length, wanted,
+                                             &place));
     else check(ldvbi_seek(side.system, side.black, side.white, is_time ? LDVBI_TIMES : LDVBI_PICTURES, LDVBI_FIND_PACE,
                           side.bytes, side.length, wanted, &sought));
-    if (sought.field == side.fields) return puts("not found"), 1;
-    return printf("field %zu\n", sought.field + 1) < 0 ? 2 : 0;
+    size_t field = is_chapter ? place.field : sought.field;
+    if (field == side.fields) return puts("not found"), 1;
+    return printf("field %zu\n", field + 1) < 0 ? 2 : 0;
 }

@@ -18,9 +18,6 @@ import sys
 
 import ldvbi
 
-REACH = 24  # the fields before a field, and after it, by which its chapter is judged
-LEAD_OUT = 80  # above all chapters
-
 
 def whole_number(text, most):
     if not re.fullmatch("[0-9]{1,9}", text) or int(text) > most:
@@ -37,27 +34,6 @@ def pictures_of(text, rate):
     return ((hours * 60 + minutes) * 60 + seconds) * rate + picture
 
 
-def chapter_of(side, place):
-    """The last chapter that is believed up to a field; -1 before all of them."""
-    begin = max(0, place - REACH)
-    readings = side[begin:place + REACH + 1]
-    told = list(zip(ldvbi.judge_chapters(readings), ldvbi.judge_ends(readings)))
-    for chapter, end in reversed(told[:place - begin + 1]):
-        if end == ldvbi.End.lead_out:
-            return LEAD_OUT
-        if chapter.state == ldvbi.State.believed:
-            return chapter.number
-    return -1
-
-
-def seek_chapter(side, number):
-    low, high = 0, len(side)
-    while low < high:
-        middle = (low + high) // 2
-        low, high = (middle + 1, high) if chapter_of(side, middle) < number else (low, middle)
-    return low if low < len(side) and chapter_of(side, low) == number else None
-
-
 def main():
     is_chapter = sys.argv[5:6] == ["chapter"]
     if len(sys.argv) != 6 + is_chapter:
@@ -65,7 +41,7 @@ def main():
     path, system, *levels, wanted = *sys.argv[1:5], sys.argv[-1]
     with ldvbi.Stream(path, system, *(whole_number(level, 65535) for level in levels), recover=True) as side:
         if is_chapter:
-            place = seek_chapter(side, whole_number(wanted, 79))
+            place = ldvbi.seek_chapter(side, whole_number(wanted, 79))
         else:
             is_time = ":" in wanted
             number = (pictures_of(wanted, 30 if side.system == ldvbi.System.NTSC else 25) if is_time

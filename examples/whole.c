@@ -15,11 +15,12 @@
 #include <sys/mman.h>
 #include <unistd.h>
 
-enum { ROOM = 10, REASONS = 13, KINDS = 9, BLOCK = 64 }; /* a block is of fields */
+enum { ROOM = 10, REASONS = 15, KINDS = 9, BLOCK = 64 }; /* a block is of fields */
 static const char *const reasons[REASONS] = {
     "fields are lost", "too many fields", "numbers go back", "another side begins", "it begins late",
     "fields are swapped", "first and last number don't fit", "no numbers", "no lead-out", "its beginning isn't seen",
-    "many numbers are in doubt", "fields may be lost", "fields don't belong there"};
+    "many numbers are in doubt", "fields may be lost", "fields don't belong there", "fields are padding",
+    "over 100 fields without a number"};
 static const char *const kinds[KINDS] = {
     "unknown", "lost", "held", "back", "still", "joined", "open", "inserted", "replaced"};
 

@@ -20,7 +20,8 @@ REASONS = {
     Reason.is_swapped: "fields are swapped", Reason.is_off: "first and last number don't fit",
     Reason.no_numbers: "no numbers", Reason.end_unseen: "no lead-out", Reason.begin_unseen: "its beginning isn't seen",
     Reason.many_doubtful: "many numbers are in doubt", Reason.is_open: "fields may be lost",
-    Reason.is_inserted: "fields don't belong there"}
+    Reason.is_inserted: "fields don't belong there", Reason.is_padded: "fields are padding",
+    Reason.is_blank: "over 100 fields without a number"}
 VERDICTS = {Verdict.whole: ("yes", 0), Verdict.not_whole: ("no", 1), Verdict.cannot_tell: ("can't tell", 4)}
 
 

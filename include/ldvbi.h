@@ -9,13 +9,9 @@
  *     LdvbiSought at;
  *     if (ldvbi_seek(LDVBI_NTSC, 16384, 51200, LDVBI_PICTURES, LDVBI_FIND_PACE, side, length, 12345, &at)) return 2;
  *     printf("picture 12345 is in field %zu of %zu\n", at.field + 1, count);
- *     LdvbiFieldReadings read;
- *     uint32_t stop = LDVBI_NOTHING;
- *     for (size_t i = at.field; i < count && stop != LDVBI_BELIEVED; i++) {
- *         if (ldvbi_recover_fields(LDVBI_NTSC, 16384, 51200, side + i * bytes, bytes, &read, 1)) return 2;
- *         if (ldvbi_judge_stops(&read, 1, &stop, 1)) return 2;
- *         if (stop == LDVBI_BELIEVED) printf("the player stops in field %zu\n", i + 1);
- *     }
+ *     LdvbiPlace stop;
+ *     if (ldvbi_next_stop(LDVBI_NTSC, 16384, 51200, side, length, at.field, count, &stop)) return 2;
+ *     if (stop.field < count) printf("the player stops in field %zu\n", stop.field + 1);
  *
  * If it isn't found, `at.field` is `count`. Seeking fetches about 2 MB of 50 GB. Without the call of madvise the system
  * reads ahead, ten pages or more for each one that is wanted. The programs in examples/ also test what the system
@@ -77,11 +73,11 @@ size_t ldvbi_field_bytes(uint32_t system);
 #define LDVBI_VERSION_TEXT "0.2.0"
 
 /* The interface that this header declares. If something is added, such as a call, a status or a kind, this number and
- * the library's name libldvbi.so.1 stay. If something is changed or removed, both are raised. So a program that was
+ * the library's name libldvbi.so.2 stay. If something is changed or removed, both are raised. So a program that was
  * built with this header runs with each library that has this interface and the same version or a later one. It has to
  * expect statuses, causes, kinds and formats that it doesn't know. To check the library that is linked: if (ldvbi_abi()
  * != LDVBI_ABI || ldvbi_version() < LDVBI_VERSION) .. */
-#define LDVBI_ABI 1
+#define LDVBI_ABI 2
 
 uint32_t ldvbi_abi(void);     /* the interface of the library that is linked */
 uint32_t ldvbi_version(void); /* its version, as a number */
@@ -411,11 +407,17 @@ LDVBI_RESULT LDVBI_POINTER(7) uint32_t ldvbi_judge_field(uint32_t system, uint32
     const LdvbiFieldReadings *readings, size_t count, size_t field, LdvbiNumber *number);
 
 /* ---- Seeking a number, and where it was found */
+typedef struct LdvbiNeighbour {
+    size_t field;       /* counted from 0; the count of the side's fields if there is no such neighbour */
+    LdvbiNumber number; /* the answer for this field: the number, and LDVBI_BELIEVED; else 0 */
+} LdvbiNeighbour;
 typedef struct LdvbiSought {
-    size_t field;       /* counted from 0; the count of the side's fields if none was found */
-    LdvbiNumber number; /* the answer for this field: the number, and LDVBI_BELIEVED or LDVBI_DUE; else 0 */
-    uint32_t pace;      /* the pace of this answer, LDVBI_VIDEO or LDVBI_FILM; else 0 */
-    uint32_t looked;    /* how many fields were read, at most LDVBI_LOOKED */
+    size_t field;          /* counted from 0; the count of the side's fields if none was found */
+    LdvbiNumber number;    /* the answer for this field: the number, and LDVBI_BELIEVED or LDVBI_DUE; else 0 */
+    uint32_t pace;         /* the pace of this answer, LDVBI_VIDEO or LDVBI_FILM; else 0 */
+    uint32_t looked;       /* how many fields were read, at most LDVBI_LOOKED */
+    LdvbiNeighbour before; /* the nearest lower number of the fields looked at, in the last of them with it */
+    LdvbiNeighbour after;  /* the nearest higher one, in the first of them with it */
 } LdvbiSought;
 enum { LDVBI_LOOKED = 1000 };
 
@@ -431,7 +433,13 @@ enum { LDVBI_LOOKED = 1000 };
  * run of a disc of video is like this if it has three fields more than a sixteenth of the side, and each number was
  * read on both lines in pass 1: that is proved, too. Of other sides it isn't. Those that were tried are like this if
  * the player runs on, with any lead-in and lead-out, and each line is read. Otherwise a number may be missed: to be
- * sure that it isn't there, judge the whole side. */
+ * sure that it isn't there, judge the whole side.
+ *
+ * This is proved of `before` and `after`, found or not: ldvbi_judge believes each, as above, and none of the fields
+ * looked at is believed to have a nearer number on its side. These are at least 24 fields in a row, or all; if numbers
+ * lead to a field, all from 24 before it to 24 after it. The two are the nearest of the whole side if its believed
+ * numbers never fall, and either both are told, or numbers lead to a field with the lower ones up to it and the higher
+ * ones from it on, one of each within 24 fields, if there are any. */
 LDVBI_RESULT LDVBI_POINTER(9) uint32_t ldvbi_seek(uint32_t system, uint32_t black, uint32_t white, uint32_t counted,
     uint32_t pace, const void *bytes, size_t length, uint32_t number, LdvbiSought *sought);
 
@@ -456,6 +464,22 @@ LDVBI_RESULT LDVBI_POINTER(9) uint32_t ldvbi_seek(uint32_t system, uint32_t blac
 LDVBI_RESULT uint32_t ldvbi_judge_chapters(const LdvbiFieldReadings *readings, size_t count, LdvbiSightings *seen,
     size_t seen_count, LdvbiNumber *chapters, size_t chapter_count);
 
+/* Where a chapter or a stop was found */
+typedef struct LdvbiPlace {
+    size_t field;  /* counted from 0; the count of the side's fields if none was found */
+    size_t looked; /* how many fields were read */
+} LdvbiPlace;
+
+/* Finds the field in which a chapter begins in the `length` bytes of a side, by halving: at most LDVBI_LOOKED fields
+ * are read. A cut last field is left out.
+ *
+ * This is proved: ldvbi_judge_chapters believes the chapter of the field that is answered, and of none of the 72 fields
+ * before it, by what ldvbi_recover_fields reads of all fields. If none is answered, no field is like this where halving
+ * led: 24 fields in a row or more, or all. That the chapter begins elsewhere then isn't excluded: it may be missed on a
+ * worn side, or if the player went back. */
+LDVBI_RESULT LDVBI_POINTER(7) uint32_t ldvbi_seek_chapter(uint32_t system, uint32_t black, uint32_t white,
+    const void *bytes, size_t length, uint32_t chapter, LdvbiPlace *place);
+
 /* Returns the first field, counted from 0, for which this number or chapter is believed or due; else `count`. */
 size_t ldvbi_first_of(const LdvbiNumber *numbers, size_t count, uint32_t number);
 
@@ -473,6 +497,13 @@ size_t ldvbi_first_of(const LdvbiNumber *numbers, size_t count, uint32_t number)
  * stops at the first field after its own that has LDVBI_BELIEVED. All fields of a picture may have its stop. */
 LDVBI_RESULT uint32_t ldvbi_judge_stops(const LdvbiFieldReadings *readings, size_t count, uint32_t *stops,
     size_t stop_count);
+
+/* Finds the next stop in the `length` bytes of a side: the first field from `field` on for which ldvbi_judge_stops
+ * believes one, by what ldvbi_recover_fields reads of it. This is proved. Fields are read one after the other up to
+ * that one, at most `most` of them: none if that is 0, or if `field` isn't below the count. If none has a stop, the
+ * next call goes on at `field` + `looked`. A cut last field is left out. */
+LDVBI_RESULT LDVBI_POINTER(8) uint32_t ldvbi_next_stop(uint32_t system, uint32_t black, uint32_t white,
+    const void *bytes, size_t length, size_t field, size_t most, LdvbiPlace *stop);
 
 /* ---- Judging a whole side
  *
@@ -514,9 +545,9 @@ LDVBI_RESULT uint32_t ldvbi_judge_stops(const LdvbiFieldReadings *readings, size
  * fields of each end of a gap of video weigh less than 10, the capture isn't one run of the disc from LDVBI_REACH
  * fields before the gap to as many after it.
  *
- * Some faults go unseen. Lost fields and as many doubled ones leave no gap if no number between is believed. Swapped
- * fields go unseen if their numbers weren't read, on film, and with numbers on both fields. And a disc whose own
- * numbers leave some out looks as if fields were lost, except by the clock that says which (below). */
+ * Some faults go unseen. Up to 100 lost fields and as many doubled ones leave no gap if no number between is believed.
+ * Swapped fields go unseen if their numbers weren't read, on film, and with numbers on both fields. And a disc whose
+ * own numbers leave some out looks as if fields were lost, except by the clock that says which (below). */
 enum LdvbiGapKind {
     LDVBI_LOST = 1,   /* fields of the disc are lost */
     LDVBI_HELD = 2,   /* there are more fields than the numbers count to */
@@ -551,6 +582,7 @@ typedef struct LdvbiTally { /* a count that is too large becomes the greatest on
     uint64_t undecided;      /* skipped numbers that may be there: in gaps with lost fields as many as the fields
                                 between show, or half as many as these fields, if that is more; in open gaps all */
     uint64_t unread;         /* numbers that are skipped between two that go on: their fields are there */
+    uint64_t inserted;       /* at least how many fields don't belong there, by LDVBI_INSERTED gaps */
 } LdvbiTally;
 
 enum LdvbiBoth { /* whether a disc of video has its numbers on both fields of a picture */
@@ -562,8 +594,8 @@ enum LdvbiBoth { /* whether a disc of video has its numbers on both fields of a 
 
 enum LdvbiVerdict { LDVBI_CANNOT_TELL = 0, LDVBI_WHOLE = 1, LDVBI_NOT_WHOLE = 2 };
 
-enum LdvbiReason { /* any of the first six, or the last one, makes the side LDVBI_NOT_WHOLE, else any other one
-                      LDVBI_CANNOT_TELL */
+enum LdvbiReason { /* any of the first six, LDVBI_IS_INSERTED and LDVBI_IS_PADDED make the side LDVBI_NOT_WHOLE, else
+                      any other one LDVBI_CANNOT_TELL */
     LDVBI_IS_LOST = 1,
     LDVBI_IS_HELD = 2,
     LDVBI_GOES_BACK = 4,
@@ -573,20 +605,24 @@ enum LdvbiReason { /* any of the first six, or the last one, makes the side LDVB
     LDVBI_IS_SWAPPED = 32,      /* on video with numbers on one field of a picture: between two numbers that go on, a
                                    field shows one that belongs in a field beside it and isn't there */
     LDVBI_IS_OFF = 64,          /* numbers go on one by one, each to within a field, but not all from each other; or
-                                   `open_gaps` is 0, and the last one, less the stills and the fields of
-                                   LDVBI_INSERTED gaps, doesn't go on from the first */
+                                   `open_gaps` is 0, and the last one, less the fields `stood` and `inserted`,
+                                   doesn't go on from the first */
     LDVBI_NO_NUMBERS = 128,     /* none is believed; then this is the only reason */
     LDVBI_END_UNSEEN = 256,     /* no lead-out is believed after the last number, and `may_end` is 0 */
     LDVBI_BEGIN_UNSEEN = 512,   /* the first number is above 1, and over 100 fields are before it, counted as above */
     LDVBI_MANY_DOUBTFUL = 1024, /* a tenth or more of the numbers that were read are LDVBI_DOUBTFUL */
     LDVBI_IS_OPEN = 2048,       /* a gap is LDVBI_OPEN or LDVBI_REPLACED */
-    LDVBI_IS_INSERTED = 4096    /* a gap is LDVBI_INSERTED */
+    LDVBI_IS_INSERTED = 4096,   /* a gap is LDVBI_INSERTED */
+    LDVBI_IS_PADDED = 8192,     /* a field is LDVBI_IS_PADDING */
+    LDVBI_IS_BLANK = 16384      /* between two believed numbers that go on are over 100 fields without one */
 };
 
 typedef struct LdvbiSide {
     LdvbiTally tally;
     size_t first, last; /* the first and the last field with a believed number, counted from 0; 0 if there is none */
     size_t swap;        /* the first field of LDVBI_IS_SWAPPED, counted from 0; else 0 */
+    size_t padded;      /* how many fields are LDVBI_IS_PADDING */
+    size_t blank;       /* the first field of LDVBI_IS_BLANK, counted from 0; else 0 */
     uint32_t verdict;   /* of enum LdvbiVerdict */
     uint32_t reasons;   /* the sum of the reasons; 0 only if it is LDVBI_WHOLE */
 } LdvbiSide;
@@ -595,7 +631,9 @@ enum LdvbiEnd { /* whether a field belongs to an end of the side */
     LDVBI_NO_END = 0,
     LDVBI_IS_LEAD_OUT = 1,
     LDVBI_DOUBTFUL_END = 2,
-    LDVBI_IS_LEAD_IN = 3
+    LDVBI_IS_LEAD_IN = 3,
+    LDVBI_IS_PADDING = 4 /* it stands for a field that the capture lacks. No call answers this: write it yourself, after
+                            ldvbi_judge_ends, for each field that the metadata calls `pad` */
 };
 
 /* Judges which fields show lead-in or lead-out, each by its own lines 17 and 18. For each field `ends` gets

@@ -18,7 +18,7 @@ program=$(cd "$(dirname "$1")" && pwd)/$(basename "$1")
 script=$(basename "$0" .sh)
 # The folder of the library: beside the program, where it is there, else the top
 built=$(dirname "$program")
-[ -e "$built/libldvbi.so.1" ] || built=$top
+[ -e "$built/libldvbi.so.2" ] || built=$top
 seconds=${RUN_SECONDS:-300}
 judged=0
 failed=

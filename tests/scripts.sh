@@ -45,8 +45,8 @@ shift
 library=
 proved=
 on=
-[ ! -e "$(dirname "$program")/libldvbi.so.1" ] || library=library
-[ ! -e "$top/libldvbi.so.1" ] || library=library proved=proved
+[ ! -e "$(dirname "$program")/libldvbi.so.2" ] || library=library
+[ ! -e "$top/libldvbi.so.2" ] || library=library proved=proved
 if [ "$(dirname "$program")" = "$top/rust" ] || [ "${1:-}" = --rust ]; then
     DIFFERENCES=$top/rust/differences.txt
     export DIFFERENCES

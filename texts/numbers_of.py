@@ -127,7 +127,7 @@ def package() -> Dict[str, Any]:
         "order.apart": believed.APART, "order.turn": order.TURN, "order.signs": order.SIGNS,
         "order.turned": order.TURNED, "sparse.least": places.LEAST, "lines.few": lines.FEW,
         "levels.fields": levels.FIELDS, "levels.step": levels.STEP,
-        "ends.longest": ends.LONGEST, "begins": len(ends.FIRST["time"]),
+        "ends.longest": ends.LONGEST, "begins": ends.FIRST["time"] + 1,
         "doubtful.share": whole.SHARE, "pile.lines": near.MOST_LINES,
         "format.even": readings.codes_of(even).format.upper(),
     }

@@ -11,7 +11,7 @@
     numbers = ldvbi.judge(side, "NTSC")
     print(numbers[7].number, numbers[7].state, ldvbi.first_of(numbers, 12345))
     print(ldvbi.first_of(ldvbi.judge_chapters(side), 3))
-    print(ldvbi.seek(side, 12345))
+    print(ldvbi.seek(side, 12345), ldvbi.seek_chapter(side, 3), ldvbi.next_stop(side, 100))
     print(ldvbi.judge_side(side, "NTSC").verdict)
     print(ldvbi.judge_side(side, "NTSC", "times", clock="find").verdict)
 
@@ -22,7 +22,7 @@ right. Nothing is read then. `system` is a `System` or its name; `black` and `wh
 white16bIre of the capture's .tbc.json. The library gets them as they are, and refuses those that are wrong.
 
 The library is loaded when samples are first read. These places are tried in turn: the file that the environment
-variable LDVBI_LIBRARY names; libldvbi.so.1 in this package (a wheel has it there), in the folder of the package, in the
+variable LDVBI_LIBRARY names; libldvbi.so.2 in this package (a wheel has it there), in the folder of the package, in the
 one above that, or in lib/ of the folder to which `make install` installed both; what the system's loader finds.
 `classify` and `format_of` need no library. Nothing else is needed but CPython and its standard library.
 
@@ -42,15 +42,16 @@ from .near import Near, nearest, recover_pile
 from .plans import Fault, Rule, Spacing, Stretch, check_plan
 from .readings import (PACKED_FIELD, Cause, FieldReadings, Reading, draw_line, field_bytes, line_bytes, read_field,
                        read_line, read_rows)
-from .seeking import Sought, seek
+from .seeking import Neighbour, Neighbours, Sought, neighbours, next_stop, seek, seek_chapter
 from .sides import Clock, ClockKind, Gap, GapKind, JudgedSide, Reason, Tally, Verdict, find_clock, judge_side
 from .stream import BLOCK, Stream, fields
 
 __all__ = ["System", "Cause", "Kind", "Format", "Counted", "Pace", "Both", "State", "End", "Reading", "FieldReadings",
-           "Code", "Number", "Near", "Sought", "Verdict", "Reason", "GapKind", "Gap", "Tally", "ClockKind", "Clock",
-           "JudgedSide", "Spacing", "Rule", "Stretch", "Fault", "Stream", "line_bytes", "field_bytes", "read_line",
-           "read_rows", "read_field", "fields", "classify", "format_of", "judge", "judge_field", "complete_times",
-           "find_pace", "judge_chapters", "judge_stops", "judge_ends", "find_clock", "judge_side", "check_plan",
-           "first_of", "seek", "nearest", "recover_pile", "draw_line"]
+           "Code", "Number", "Near", "Sought", "Neighbour", "Neighbours", "Verdict", "Reason", "GapKind", "Gap",
+           "Tally", "ClockKind", "Clock", "JudgedSide", "Spacing", "Rule", "Stretch", "Fault", "Stream", "line_bytes",
+           "field_bytes", "read_line", "read_rows", "read_field", "fields", "classify", "format_of", "judge",
+           "judge_field", "complete_times", "find_pace", "judge_chapters", "judge_stops", "judge_ends", "find_clock",
+           "judge_side", "check_plan", "first_of", "seek", "seek_chapter", "next_stop", "neighbours", "nearest",
+           "recover_pile", "draw_line"]
 
 __version__ = "0.2.0"

@@ -24,11 +24,12 @@ class State(enum.IntEnum):
 
 
 class End(enum.IntEnum):
-    """Whether a field is of a side's lead-in or lead-out, in doubt, or of neither."""
+    """Whether a field is of a side's lead-in or lead-out, in doubt, or of neither. `padding` no line says."""
     none = 0
     lead_out = 1
     doubtful = 2
     lead_in = 3
+    padding = 4
 
 
 class Number(NamedTuple):

@@ -6,11 +6,12 @@ import ctypes
 import enum
 import functools
 import os
+import sys
 from typing import Any, Dict, List, NamedTuple, Tuple
 
 from .classes import whole_number
 
-ABI = 1
+ABI = 2
 # statuses
 (BAD_SYSTEM, BAD_LEVELS, BAD_LENGTH, BAD_WORD, BAD_COUNTED, BAD_PACE, BAD_ERASED, BAD_LINE,
  BAD_KNOWN, BAD_CLOCK) = range(1, 11)
@@ -92,7 +93,9 @@ _LATER: Dict[str, Tuple[str, List[Any]]] = {
     "ldvbi_find_pace": ("find paces", [_NUMBER] * 2 + [_MEMORY, _SIZE] * 2 + [_MEMORY]),
     "ldvbi_complete_times": ("complete times", [_NUMBER] + [_MEMORY, _SIZE] * 3),
     "ldvbi_judge_chapters": ("judge chapters", [_MEMORY, _SIZE] * 3),
+    "ldvbi_seek_chapter": ("seek chapters", _SETUP + [_MEMORY, _SIZE, _NUMBER, _MEMORY]),
     "ldvbi_judge_stops": ("judge stops", [_MEMORY, _SIZE] * 2),
+    "ldvbi_next_stop": ("seek stops", _SETUP + [_MEMORY] + [_SIZE] * 3 + [_MEMORY]),
     "ldvbi_judge_ends": ("judge whole sides", [_MEMORY, _SIZE] * 2),
     "ldvbi_find_both": ("judge whole sides", [_MEMORY, _SIZE]),
     "ldvbi_judge_side": ("judge whole sides", [_NUMBER] * 5 + [_MEMORY, _SIZE] * 4 + [_MEMORY]),
@@ -178,6 +181,14 @@ def number_of(name: str, value: Any) -> int:
     """A whole number as the library takes it. A number outside 32 bits becomes 2^32 - 1, which is refused as well."""
     number = whole_number(name, value)
     return number if 0 <= number <= MOST else MOST
+
+
+def count_of(name: str, value: Any) -> int:
+    """A count as the library takes it."""
+    number = whole_number(name, value)
+    if number < 0:
+        raise ValueError("%s is %d" % (name, number))
+    return min(number, sys.maxsize)
 
 
 def _member_number(enumeration, value, refusal):

@@ -33,6 +33,10 @@ class Metadata(NamedTuple):
     dropouts: List[Dropout]
     pad: Optional[List[bool]] = None
 
+    def sequential(self) -> Optional[int]:
+        """How many fields there are by the videoParameters alone, or None."""
+        return _count(self.parameters or {})
+
 
 class Settings(NamedTuple):
     """The settings with which a TBC file is read, and what was rounded, as sentences."""

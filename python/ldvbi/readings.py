@@ -198,6 +198,10 @@ class PackedFields(Fields):
         halves = array.array("I", self.data)  # of each line its first four bytes and its word
         return list(zip(halves[1::6], halves[3::6], halves[5::6]))
 
+    def words_on(self, line: int) -> "array.array[int]":
+        """The words of line 16, 17 or 18 of each field."""
+        return array.array("I", self.data)[2 * (line - 16) + 1::6]
+
     def passes(self) -> List[Tuple[int, int, int]]:
         """The passes of the three lines of each field."""
         return list(zip(self.data[1::24], self.data[9::24], self.data[17::24]))

@@ -4,9 +4,9 @@ numbers keep, and whether the capture is whole."""
 import ctypes
 import enum
 import struct
-from typing import Any, List, NamedTuple, Optional, Tuple, Union
+from typing import Any, List, NamedTuple, Optional, Sequence, Tuple, Union
 
-from .judging import PACKED_NUMBER, PACKED_STATE, SIGHTINGS_BYTES, Number, find_pace, numbers_of, packed_of
+from .judging import PACKED_NUMBER, PACKED_STATE, SIGHTINGS_BYTES, End, Number, find_pace, numbers_of, packed_of
 from .library import (Both, Counted, Pace, System, both_of, check, counted_number, later_call, number_of, pace_number,
                       system_number)
 from .readings import AnySystem
@@ -20,8 +20,8 @@ class Verdict(enum.IntEnum):
 
 
 class Reason(enum.IntFlag):
-    """Why a capture isn't whole (the first six, and the last one), or why that can't be told (if there are only
-    others). One that a later library may have keeps its number."""
+    """Why a capture isn't whole (the first six, `is_inserted` and `is_padded`), or why that can't be told (if there are
+    only others). One that a later library may have keeps its number."""
     is_lost = 1
     is_held = 2
     goes_back = 4
@@ -35,6 +35,8 @@ class Reason(enum.IntFlag):
     many_doubtful = 1024
     is_open = 2048
     is_inserted = 4096
+    is_padded = 8192
+    is_blank = 16384
 
 
 class GapKind(enum.IntEnum):
@@ -83,6 +85,7 @@ class Tally(NamedTuple):
     lost_numbers: int
     undecided: int
     unread: int
+    inserted: int
 
 
 class ClockKind(enum.IntEnum):
@@ -104,9 +107,10 @@ class Clock(NamedTuple):
 
 class JudgedSide(NamedTuple):
     """The library's answer for a whole side. `first` and `last` are the first and the last field with a believed
-    number, and `swap` is the first field of the reason `is_swapped`. Each is counted from 0, and None if there is none.
-    `pace` is the one that the side was judged by, `on_both` says whether numbers were taken to be on both fields of a
-    picture, and `numbers` is what `judge` answers at this pace. `clock` is the one that the side was judged by."""
+    number, `swap` is the first field of the reason `is_swapped`, and `blank` that of `is_blank`. Each is counted from 0,
+    and None if there is none. `padded` is how many fields are padding. `pace` is the one that the side was judged by,
+    `on_both` says whether numbers were taken to be on both fields of a picture, and `numbers` is what `judge` answers at
+    this pace. `clock` is the one that the side was judged by."""
     verdict: Verdict
     reasons: Reason
     first: Optional[int]
@@ -118,10 +122,12 @@ class JudgedSide(NamedTuple):
     on_both: bool
     numbers: List[Number]
     clock: Clock
+    padded: int
+    blank: Optional[int]
 
 
 _PACKED_GAP = struct.Struct("@NNQQIII0Q")  # LdvbiGap
-_PACKED_SIDE = struct.Struct("@N4QN6QNNNII")  # LdvbiSide, whose first members are LdvbiTally
+_PACKED_SIDE = struct.Struct("@N4QN7QNNNNNII")  # LdvbiSide, whose first members are LdvbiTally
 PACKED_CLOCK = struct.Struct("=III")  # LdvbiClock
 _ROOM = 64  # gaps, at first: few sides have more
 _KINDS = dict(enumerate(GapKind, 1))
@@ -142,13 +148,16 @@ class _Fields(NamedTuple):
 
 def judge_side(readings: Any, system: AnySystem, counted: Union[Counted, str] = Counted.pictures,
                pace: Union[Pace, str] = Pace.find, both: Union[Both, str] = Both.find,
-               may_end: bool = False, clock: Union[Clock, str, None] = None, completed: Any = None) -> JudgedSide:
+               may_end: bool = False, clock: Union[Clock, str, None] = None, completed: Any = None,
+               padding: Optional[Sequence[bool]] = None) -> JudgedSide:
     """Judges a whole side: which number each field shows, where numbers and fields don't go on together, and whether
     the capture is whole. `readings`, `system`, `counted` and `pace` are as for `judge`. `both` is a `Both` or its name,
     and `may_end` says that the capture may end before the disc does. `clock` says which numbers the disc leaves out: a
     `Clock`, or "find" for the one that `find_clock` finds. None says that it leaves out none, or that it isn't known
     which; then an NTSC CLV disc has a gap at each of these places. `completed` is what `complete_times` makes of the
-    readings: numbers are judged by it then, lead-in and lead-out by the readings themselves.
+    readings: numbers are judged by it then, lead-in and lead-out by the readings themselves. `padding` says of each
+    field whether it stands for one that the capture lacks, as `Metadata.pad` does; with such a field the capture isn't
+    `whole`.
 
     If a capture of video is `whole`, its fields stand in the disc's order, the disc counts on (by the clock), the words
     misread around the first number and around the last weigh less than 10, and the clock leaves out no number within 12
@@ -156,6 +165,7 @@ def judge_side(readings: Any, system: AnySystem, counted: Union[Counted, str] = 
     unseen: ldvbi.h says which."""
     call, packed = _judge_by(clock)
     fields = _fields_of(readings, system, counted, pace, both, completed)
+    _pad(fields, padding)
     if clock == "find":
         packed = [_found_clock(fields)]
     asked = [*fields.asked, fields.pace, fields.on_both, bool(may_end), *packed]
@@ -215,6 +225,15 @@ def _fields_of(readings, system, counted, pace, both, completed=None):
     return _Fields(asked, count, found, on_both, seen, numbers, ends)
 
 
+def _pad(fields: _Fields, padding: Optional[Sequence[bool]]) -> None:
+    """Says of these fields that they are padding, in the place of what their lines say of an end of the side."""
+    if padding is not None and len(padding) != fields.length:
+        raise ValueError("of %d fields there are %d marks of padding" % (fields.length, len(padding)))
+    for place, is_padding in enumerate(padding or ()):
+        if is_padding:
+            PACKED_STATE.pack_into(fields.ends, PACKED_STATE.size * place, End.padding)
+
+
 def _found_clock(fields: _Fields) -> bytes:
     """The clock that the judged numbers tell, as the library wrote it."""
     found = ctypes.create_string_buffer(PACKED_CLOCK.size)
@@ -236,9 +255,9 @@ def _gaps_of(packed, count):
 
 def _side_of(told, gaps, fields, clock):
     """The answer, of the members of an LdvbiSide, what was found besides, and the clock."""
-    *tally, first, last, swap, verdict, bits = told
+    *tally, first, last, swap, padded, blank, verdict, bits = told
     reasons = Reason(bits)
     is_empty = bool(reasons & Reason.no_numbers)
     return JudgedSide(Verdict(verdict), reasons, None if is_empty else first, None if is_empty else last,
                       swap if reasons & Reason.is_swapped else None, Tally(*tally), gaps, fields.pace, fields.on_both,
-                      numbers_of(fields.numbers), clock)
+                      numbers_of(fields.numbers), clock, padded, blank or None)

@@ -99,10 +99,11 @@ def why_not(answer: Answer, wanted: Wanted) -> str:
     whys = [_why_missing(answer, one) for one in stretches
             if _part(one.first, wanted) <= wanted.numbers <= _part(one.last, wanted)]
     if whys:
-        return ", ".join(dict.fromkeys(whys))
+        text = ", ".join(dict.fromkeys(whys))
+        return text if "between" in text or "beside" in text else text + _beside(answer, wanted)
     least, greatest = (_part(end, wanted) for end in answer.numbers[1:])
     if least <= wanted.numbers <= greatest:
-        return _NOWHERE
+        return _NOWHERE + _beside(answer, wanted)
     text = _beyond("numbers", wanted.numbers < least, [(number, field) for number, field, _ in answer.showings],
                    answer.numbers.least if wanted.numbers < least else answer.numbers.greatest)
     pad = next((one for one in answer.padding if one.first == 1 and wanted.numbers < least), None)
@@ -136,9 +137,24 @@ def _why_missing(answer, one):
     return "%s %s" % (_WHYS.get(one.why, undecided), place)
 
 
+def _beside(answer, wanted):
+    """The nearest lower and higher number of the side and their first fields, as the end of a sentence."""
+    places = [(_parts(number), field, number) for number, field, _ in answer.showings]
+    size, some = len(wanted.numbers), wanted.numbers
+    before = max((one for one in places if one[0][:size] < some), key=lambda one: (one[0], -one[1]), default=None)
+    after = min((one for one in places if one[0][:size] > some), default=None)
+    names = ["%s %s in field %d" % (answer.unit, number, field) for _, field, number in filter(None, (before, after))]
+    return "; " + ", ".join(names).replace(" in field", " is in field", 1)
+
+
+def _parts(number):
+    """The hours, minutes, seconds and pictures of a time, or a picture's number alone."""
+    return tuple(int(one) for one in re.findall("[0-9]+", str(number)))
+
+
 def _part(number, wanted):
     """As much of a number as is wanted: of a time its hours and minutes alone, perhaps."""
-    return tuple(int(one) for one in re.findall("[0-9]+", str(number)))[:len(wanted.numbers)]
+    return _parts(number)[:len(wanted.numbers)]
 
 
 def _beyond(what, is_before, places, end):

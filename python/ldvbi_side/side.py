@@ -25,9 +25,10 @@ class Side:
     """The whole fields of a side in order, and the field in which it was cut. `readings` are kept as the library writes
     them, and those of each field are made when they are asked for. `first` says of each field whether it is the first
     one of its frame, or is None if that isn't known. `pad` says of each whether it is padding, or is None if none is.
-    `expected` is the number of fields that the metadata has, or None. With `is_strict`, a side without lead-in or
-    lead-out, or with an unread number, isn't whole. With `may_end`, a side without lead-out may be. `samples` is the
-    stream from which words were recovered, or None.
+    `expected` is the number of fields that the metadata has, `sequential` that of its videoParameters, or None. With `is_strict`, a side without lead-in or
+    lead-out, or with an unread number, isn't whole. With `may_end`, a side without lead-out may be. `given_last` is the
+    number, or the part of a time, with which the disc is said to end, as text, or None. `samples` is the stream from
+    which words were recovered, or None.
 
     `answer` says what the words mean, as docs/ANSWER.md describes it; `pictures`, `times`, `chapters`, `stops` and
     `format` are parts of it. `analysis` has the same as an `Answer` of answer/entries.py. `codes` is what each field
@@ -44,8 +45,10 @@ class Side:
         self.samples = samples
         self.pad: Optional[List[bool]] = None
         self.expected: Optional[int] = None
+        self.sequential: Optional[int] = None
         self.is_strict = False
         self.may_end = False
+        self.given_last: Optional[str] = None
 
     def numbered(self) -> Iterable[Tuple[int, FieldReadings]]:
         """Each field's number and readings."""
@@ -57,7 +60,8 @@ class Side:
         try_levels = functools.partial(tried_on, self.samples) if self.samples else None
         fields = self.readings
         return Fields(self.system.name, fields.words(), fields.passes(), fields.causes(), fields.data, self.cut,
-                      self.first, self.expected, self.is_strict, self.may_end, nearest_word, try_levels, self.pad)
+                      self.first, self.expected, self.is_strict, self.may_end, nearest_word, try_levels, self.pad,
+                      self.given_last, self.sequential)
 
     @functools.cached_property
     def analysis(self) -> Analysis:

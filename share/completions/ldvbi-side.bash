@@ -15,41 +15,41 @@ _ldvbi_side() {
 
     case $command in
         join)
-            options='--help --meta --system --black --white --no-recover --strict --open-end --csv --ranges --json'
-            options="$options "'--html'
+            options='--help --meta --system --black --white --no-recover --strict --open-end --last --csv --ranges'
+            options="$options "'--json --html --map --chapters'
             case $before in
                 --system) answers='NTSC PAL' ;;
-                --meta | --html) compopt -o default; return ;;
-                --black | --white) return ;;
+                --meta | --html | --map | --chapters) compopt -o default; return ;;
+                --black | --white | --last) return ;;
             esac
             ;;
         scan)
-            options='--help --jobs --meta --system --black --white --no-recover --strict --open-end --csv --json'
-            options="$options "'--html --into --as-read --again'
+            options='--help --jobs --meta --system --black --white --no-recover --strict --open-end --last --csv'
+            options="$options "'--json --html --into --as-read --map --chapters --sides --write --again'
             case $before in
                 --system) answers='NTSC PAL' ;;
-                --meta) compopt -o default; return ;;
-                --html | --into) compopt -o dirnames; return ;;
-                -j | --jobs | --black | --white) return ;;
+                --meta | --sides) compopt -o default; return ;;
+                --html | --into | --map | --chapters | --write) compopt -o dirnames; return ;;
+                -j | --jobs | --black | --white | --last) return ;;
             esac
             ;;
         write)
             options='--help --change --from --ends --sure --one-side --most-padding --plan --recovered --meta'
-            options="$options "'--system --black --white --no-recover --strict --open-end'
+            options="$options "'--system --black --white --no-recover --strict --open-end --last'
             case $before in
                 --system) answers='NTSC PAL' ;;
                 --meta) compopt -o default; return ;;
-                --change | --from | --most-padding | --black | --white) return ;;
+                --change | --from | --most-padding | --black | --white | --last) return ;;
             esac
             ;;
         *)
-            options='--help --version --meta --system --black --white --no-recover --strict --open-end --csv --json'
-            options="$options "'--bad-lines --seek --summary --document --plot-line --recovered --output --svg --html --map'
-            options="$options "'--chapters --into --as-read'
+            options='--help --version --meta --system --black --white --no-recover --strict --open-end --last --csv'
+            options="$options "'--json --bad-lines --seek --summary --document --plot-line --recovered --output --svg --html'
+            options="$options "'--map --chapters --into --as-read'
             case $before in
                 --system) answers='NTSC PAL' ;;
                 --meta | -o | --output | --svg | --html | --map | --chapters | --into) compopt -o default; return ;;
-                --black | --white | --seek | --plot-line) return ;;
+                --black | --white | --last | --seek | --plot-line) return ;;
             esac
             ;;
     esac

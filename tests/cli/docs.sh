@@ -18,7 +18,7 @@ ln -s "$top/python/ldvbi-side" bin/ldvbi-side
 PATH=$work/bin:$PATH
 PYTHONDONTWRITEBYTECODE=1 LDVBI_LIBRARY=
 export PATH PYTHONDONTWRITEBYTECODE LDVBI_LIBRARY
-library=$([ ! -e "$built/libldvbi.so.1" ] || echo libldvbi.so.1)
+library=$([ ! -e "$built/libldvbi.so.2" ] || echo libldvbi.so.2)
 
 # Cuts a document into files: commands into NAME.NUMBER.sh, .bash or .python, which it prints with their marks, and what
 # they print into NAME.NUMBER.text. What it says on standard error is a fault of the document.

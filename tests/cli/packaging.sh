@@ -48,7 +48,7 @@ has() {
         git ls-files 'python/*.py' | sed 's,^,share/ldvbi/,')
 } > files
 printf '%s\n' include/ldvbi.h lib/cmake/ldvbi/ldvbi-config-version.cmake lib/cmake/ldvbi/ldvbi-config.cmake \
-    lib/libldvbi.a lib/libldvbi.so lib/libldvbi.so.1 lib/pkgconfig/ldvbi.pc | cat files - > files_of_both
+    lib/libldvbi.a lib/libldvbi.so lib/libldvbi.so.2 lib/pkgconfig/ldvbi.pc | cat files - > files_of_both
 # by_python FILES PREFIX: these files, and what says to the system's Python where the module is
 by_python() {
     cat "$1"
@@ -77,7 +77,7 @@ installs() {
     check "$name: the program is copied as it is" cmp "$folder/bin/ldvbi" "$program"
     # All can read it, and run what is to be run.
     find "$folder" ! -type l -printf '%m %y %p\n' |
-        awk '$1 != ($2 == "d" || $3 ~ /\/bin\/ldvbi(-side)?$|\/libldvbi\.so\.1$/ ? 755 : 644)' > err
+        awk '$1 != ($2 == "d" || $3 ~ /\/bin\/ldvbi(-side)?$|\/libldvbi\.so\.2$/ ? 755 : 644)' > err
     check "$name: it is for all" [ ! -s err ]
     grep -r -e '<!--' "$folder/share/doc/ldvbi" > err
     check "$name: documents are without marks" [ ! -s err ]
@@ -101,7 +101,7 @@ install-lib 'LIBDIR=/c d'|PREFIX, LIBDIR and DESTDIR can't have a space
 uninstall 'DESTDIR=/e f'|PREFIX, LIBDIR and DESTDIR can't have a space
 install FROM=here|FROM is 'proved' or 'rust'
 install FROM=rust|rust/.* isn't there: make rust builds it
-wheel FROM=rust|rust/libldvbi.so.1 isn't there
+wheel FROM=rust|rust/libldvbi.so.2 isn't there
 END
 check 'nothing is installed then' [ ! -e stage ]
 
@@ -163,7 +163,7 @@ check 'nothing of it is packed that is older than its source' [ "$(wc -l < tree/
 
 # With the library: by its side, below its architecture, and as `make rust` leaves it; and packed with a wheel
 if [ -e "$built/libldvbi.a" ]; then
-    cp "$built/libldvbi.a" "$built/libldvbi.so.1" tree && ln -s libldvbi.so.1 tree/libldvbi.so
+    cp "$built/libldvbi.a" "$built/libldvbi.so.2" tree && ln -s libldvbi.so.2 tree/libldvbi.so
     installs 'both' files_of_both both/usr PREFIX="$work/both/usr"
     in_debian="DESTDIR=$work/debian PREFIX=/usr LIBDIR=/usr/lib/x86_64-linux-gnu"
     made install $in_debian
@@ -237,7 +237,7 @@ proves libldvbi.a
 printf '%s proved, N s\n' $library_crates > wanted_text
 judge 'make lib says one line of a crate' 0 wanted_text ''
 # An archive with a call that nobody has is linked to no library.
-rm -f tree/libldvbi.so.1 tree/libldvbi.a
+rm -f tree/libldvbi.so.2 tree/libldvbi.a
 echo 'int ldvbi_absent(void); int ldvbi_call(void); int ldvbi_call(void) { return ldvbi_absent(); }' > call.c
 bounded "${CC:-cc}" -fPIC -c -o call.o call.c && ar rc tree/libldvbi.a call.o
 made lib
@@ -256,8 +256,8 @@ check 'the status is that of the toolchain' [ "$(sed -n '22s/.*\(Error [0-9]*\)$
 path=$work/tools
 find tree -exec touch -h -d @1000000000 {} +
 touch -d @1100000000 tree/libldvbi.a
-touch -d @1200000000 tree/ldvbi tree/libldvbi.so.1
-ln -sf libldvbi.so.1 tree/libldvbi.so
+touch -d @1200000000 tree/ldvbi tree/libldvbi.so.2
+ln -sf libldvbi.so.2 tree/libldvbi.so
 # is_due TARGET FILE: whether this has to be built after a change of that file
 is_due() {
     made -q -W "$2" "$1"

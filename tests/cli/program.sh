@@ -117,6 +117,8 @@ END
 # Metadata that is named, or beside the input: INPUT.json is read unless other metadata or all three settings are given.
 # The words, and what `line` prints of the stored line, 82CFFF by its metadata's levels, or what is said
 mkdir folder.raw.json
+# Nobody waits for a pipe that nobody named.
+mkfifo pipe.raw.json
 for name in beside absent; do
     cp line.raw $name.raw
     echo '{"videoParameters":{"system":"NTSC","black16bIre":8224,"white16bIre":16448}}' > $name.raw.json
@@ -124,6 +126,7 @@ done
 rm absent.raw
 cp line.raw wrong.json.raw
 cp line.raw folder.raw
+cp line.raw pipe.raw
 cp nan.json wrong.json.raw.json
 echo '{"videoParameters":{"system":"NTSC","black16bIre":8224,"white16bIre":65535,"fieldWidth":910}}' > far.json
 # As many bytes as are allowed, which take no room on a disk, and one more
@@ -138,8 +141,10 @@ done << END
 --system NTSC --white 65535 beside.raw|blank
 --meta far.json beside.raw|blank
 $levels wrong.json.raw|82CFFF
-wrong.json.raw|metadata is not JSON
-folder.raw|cannot read metadata
+wrong.json.raw|wrong.json.raw.json: metadata is not JSON
+folder.raw|folder.raw.json: cannot read metadata
+pipe.raw|pipe.raw.json: cannot read metadata
+--max-fields 0 beside.raw|max fields is not from 1 to 1000000
 absent.raw|cannot open input
 line.raw|no system given
 line.raw/line.raw|cannot open input

@@ -299,18 +299,21 @@ def random_clock():
 
 
 def compare_seek(call):
-    """A number sought in the bytes of a few fields, not all of which show theirs."""
+    """A number, a chapter and a stop sought in the bytes of a few fields, not all of which show theirs."""
     setup = Setup(random.choice([NTSC, PAL]), 16384, 51200)
     begin, side = random.randrange(79000), b""
     for field in range(random.randrange(14)):
-        line = []
-        if field % 2 == 0 and random.random() < 0.9:
+        line, word = [], random.choice([0x801DDD, 0x801DDD, 0x82CFFF])
+        if field % 2 == 0:
             word = 0xF00000 | int(str(begin + field // 2), 16)
+        if random.random() < 0.9:
             line = drawn_line(word, setup, setup.system.first, setup.system.half, 0)
         side += field_of(setup.system, 3 * packed(setup.system, line))
-    yield call("ldvbi_seek", {"system": setup.system.number, "black": setup.black, "white": setup.white},
-               bytes=side, counted=1, pace=random.choice([1, 2, 3]),
+    given = {"system": setup.system.number, "black": setup.black, "white": setup.white}
+    yield call("ldvbi_seek", given, bytes=side, counted=1, pace=random.choice([1, 2, 3]),
                number=begin + random.randrange(8))
+    yield call("ldvbi_seek_chapter", given, bytes=side, chapter=random.randrange(3))
+    yield call("ldvbi_next_stop", given, bytes=side, field=random.randrange(14), most=random.choice([0, 1, 5, 2 ** 40]))
 
 
 def random_erased(fields):

@@ -150,7 +150,7 @@ does env ADVISED=advice LD_PRELOAD="$work/advised.so" "$player" side.tbc search 
 check 'the player: nothing is read ahead' [ "$(head -n 1 advice)" = "random 0 $(wc -c < side.tbc)" ]
 # A pipe that nobody named stands in the place of the metadata: nobody waits for it.
 mkfifo absent.tbc.json
-said_line 'ldvbi: cannot read metadata'
+said_line 'ldvbi: absent.tbc.json: cannot read metadata'
 does "$program" extract absent.tbc
 judge 'extract beside a pipe' 1 empty "$(cat wanted)"
 # The pipe is closed before the player writes.

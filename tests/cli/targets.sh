@@ -16,7 +16,7 @@ for script_path in tests/tools.sh tests/gate.sh tests/scripts.sh bench/all.sh be
     bench/peers/compare.sh rust/build.sh; do
     stub tree/$script_path "echo $script_path \"\$@\"; [ \"\${FAULT:-}\" != $script_path ]"
 done
-touch tree/libldvbi.a tree/libldvbi.so.1 tree/ldvbi
+touch tree/libldvbi.a tree/libldvbi.so.2 tree/ldvbi
 stub bin/rt 'echo rt'
 
 # ran FOLDER COMMAND..: runs a command there, with the stubs on the PATH
@@ -48,8 +48,8 @@ rust-compare|tests/scripts.sh rust/ldvbi rust_compare
 rust-compare TARGET=x-windows-y|tests/scripts.sh rust/x-windows-y/ldvbi.exe rust_compare
 bench|rust/build.sh,bench/all.sh ./ldvbi
 peers|bench/peers/compare.sh ./ldvbi 200 docs/measured/peers.txt
-channel|bench/channel/tables.sh ./libldvbi.so.1 docs/measured/channel
-channel PROGRAM=/a/ldvbi|bench/channel/tables.sh libldvbi.so.1 docs/measured/channel
+channel|bench/channel/tables.sh ./libldvbi.so.2 docs/measured/channel
+channel PROGRAM=/a/ldvbi|bench/channel/tables.sh libldvbi.so.2 docs/measured/channel
 END
 stub tree/tests/scripts.sh 'echo "$COMPARE_RUNS, $COMPARE_SEED, <$COMPARE_RUNNER>"'
 ran tree make -s rust-compare N=3 SEED=7 RUNNER='qemu -L /usr'
@@ -79,7 +79,7 @@ for pair in own:bin/cargo none:debian/cargo; do
 done
 check 'with its own compiler' grep -qx "$work/debian/cargo $work/debian/rustc" out
 check 'what is built for another machine' [ "$(cd other/rust/mips && echo *)" = \
-    'ldvbi ldvbi.dll ldvbi.exe libldvbi.a libldvbi.dll.a libldvbi.dylib libldvbi.so libldvbi.so.1' ]
+    'ldvbi ldvbi.dll ldvbi.exe libldvbi.a libldvbi.dll.a libldvbi.dylib libldvbi.so libldvbi.so.2' ]
 rm bin/python3
 
 # .ci/run runs a command at the top, which is README's

@@ -34,9 +34,11 @@ _MEMBERS = {
     "Clock": "kind period phase", "Capture": "first fields", "Stretch": "field fields capture number padding",
     "Checked": "stretch rule",
     "Sighting": "number weight", "Sightings": "line_17 line_18 instead", "Number": "number state",
-    "Sought": "field number pace looked", "Gap": "after before fields shown from to kind",
-    "Tally": "gaps lost held stood stills still_end back joined open_gaps lost_numbers undecided unread",
-    "Side": "tally first last swap verdict reasons"}
+    "Place": "field looked", "Neighbour": "field number", "Sought": "field number pace looked before after",
+    "Gap": "after before fields shown from to kind",
+    "Tally": "gaps lost held stood stills still_end back joined open_gaps lost_numbers undecided unread "
+             "inserted",
+    "Side": "tally first last swap padded blank verdict reasons"}
 _LETTERS = {"uint8_t": "B", "uint16_t": "H", "uint32_t": "I", "uint64_t": "Q", "size_t": "Q"}
 
 

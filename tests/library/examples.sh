@@ -2,7 +2,7 @@
 # Runs the examples in C, C++ and Python on drawn sides, beside what the table answers.txt asks of them: sides that few
 # numbers are judged of, stops, gaps, cut fields, worn lines, long sides and want of memory; what they refuse; those in
 # Python where nobody reads what they print; and pixels.c on lines of 8 bits at 13.5 MHz, as no TBC file has them.
-# Needs libldvbi.so.1 beside the program, or at the top of the repository (`make lib`).
+# Needs libldvbi.so.2 beside the program, or at the top of the repository (`make lib`).
 # usage: sh tests/library/examples.sh PROGRAM
 # runs: library rust
 # fails where: examples/seek.py|s/wanted, 79999/wanted, 80000/

@@ -194,14 +194,15 @@ def test_first(_, number, text, first):
 
 GAP, SIDE, CLOCK = layout("Gap"), layout("Side"), layout("Clock")
 VERDICTS = {"?": NUMBERS.CANNOT_TELL, "yes": NUMBERS.WHOLE, "no": NUMBERS.NOT_WHOLE}
-REASONS = dict(zip("lost held back joined late swapped off none end begin doubtful open inserted".split(), named(
+REASONS = dict(zip("lost held back joined late swapped off none end begin doubtful open inserted padded blank".split(), named(
     "is_lost", "is_held", "goes_back", "is_joined", "begins_late", "is_swapped", "is_off", "no_numbers", "end_unseen",
-    "begin_unseen", "many_doubtful", "is_open", "is_inserted")))
-NUMBERED = ("gaps lost held stood stills still_end back joined open_gaps lost_numbers undecided unread first last "
-            "swap").split()  # the members of LdvbiSide before its verdict
+    "begin_unseen", "many_doubtful", "is_open", "is_inserted", "is_padded", "is_blank")))
+NUMBERED = ("gaps lost held stood stills still_end back joined open_gaps lost_numbers undecided unread "
+            "inserted first last swap padded blank").split()  # the members of LdvbiSide before its verdict
 PARTS = [Guarded(size * 4000) for size in (SEEN.size, NUMBER.size, STATE.size)]  # so many fields at most
 GAPS, ANSWER, KEPT = Guarded(GAP.size * 8), Guarded(SIDE.size), Guarded(CLOCK.size)
-ENDS = {"e": NUMBERS.IS_LEAD_OUT, "i": NUMBERS.IS_LEAD_IN, "": NUMBERS.NO_END, "e?": NUMBERS.DOUBTFUL_END}
+ENDS = {"e": NUMBERS.IS_LEAD_OUT, "i": NUMBERS.IS_LEAD_IN, "": NUMBERS.NO_END, "e?": NUMBERS.DOUBTFUL_END,
+        "p": NUMBERS.IS_PADDING}
 
 
 def judged_field(items, marks):
@@ -277,7 +278,7 @@ def test_side(setting, text, gaps, wanted):
     calls = [{"clock": clock_of(clock)}, {}][:1 + clock.startswith("plain")]
     fields, gaps = spread(text, judged_field, NO_FIELD), [gap_of(gap) for gap in gaps.split(",") if gap]
     wanted = side_found(wanted, gaps)
-    for state in (4, 257, 258, 65537, 65538, 0x80000001, 2 ** 32 - 1):
+    for state in (5, 257, 258, 65537, 65538, 0x80000001, 2 ** 32 - 1):
         odd = spread(text, judged_field, (NO_FIELD[0], NUMBER.pack(700, state), STATE.pack(state)))
         for by in calls:
             expect(answer_of_side(asked, odd, 0, **by) == (wanted, []), setting, text, "with the state", state)
@@ -303,7 +304,7 @@ def test_clock(setting, text, wanted):
 def main():
     rows = [(kind, setting, row) for name in ("judged.txt", "whole.txt") for kind, settings, rows in tables(name)
             for setting in settings for row in rows]
-    expect(len(rows) == 623, "there are more rows, or fewer:", len(rows))
+    expect(len(rows) == 655, "there are more rows, or fewer:", len(rows))
     for kind, setting, row in rows:
         globals()["test_" + kind](setting, *row)
     finish()

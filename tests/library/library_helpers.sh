@@ -20,5 +20,5 @@ prints() {
 
 # with_python: has Python find the package, and the library that is tested
 with_python() {
-    export LDVBI_LIBRARY="$built/libldvbi.so.1" PYTHONPATH="$top/python" PYTHONDONTWRITEBYTECODE=1
+    export LDVBI_LIBRARY="$built/libldvbi.so.2" PYTHONPATH="$top/python" PYTHONDONTWRITEBYTECODE=1
 }

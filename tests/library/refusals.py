@@ -150,7 +150,12 @@ def test_judges():
             test_call("find_clock", {**right, "pace": min(pace, 2), "both": MOST, "number_count": count}, **no_found)
             expect(OPEN["clock"].get(12) == bytes(12), "the clock of a side without numbers")
         test_call("seek", {**right, "black": 5, "white": 6, "length": 0, "number": 7})
-        expect(OPEN["sought"].get(24) == bytes(24), "what was sought in a side without fields")
+        expect(OPEN["sought"].get(56) == bytes(56), "what was sought in a side without fields")
+    for system in LINES:
+        right = {"system": system, "black": 5, "white": 6, "length": 0}
+        test_call("seek_chapter", {**right, "chapter": 7})
+        test_call("next_stop", {**right, "field": MOST_BYTES, "most": MOST_BYTES})
+        expect(OPEN["place"].get(16) + OPEN["stop"].get(16) == bytes(32), "what is sought in a side without fields")
 
 
 def test_words():

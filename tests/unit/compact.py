@@ -151,6 +151,7 @@ ITEMS = {
     "conflicts": lambda one: "%s %s|%s %s" % (one["field"], one["line17"], one["line18"], one["taken"]),
     "chapters": lambda one: "%s@%s" % (one["chapter"], span(one, "field")),
     "stops": lambda one: "%s@%s" % (one["number"], one["field"]),
+    "unsureStops": lambda one: "%s@%s" % (one["number"], one["field"]),
     "leadIn": lambda one: "%s %s" % (span(one), one["count"]),
     "swapped": lambda one: "%s@%s" % (one["number"], one["field"]),
     "speeds": lambda one: "%s %s" % (one["numbers"], span(one)),

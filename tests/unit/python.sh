@@ -1,7 +1,7 @@
 #!/bin/sh
 # Runs the tests of the Python package by Debian's pytest, side by side. Each test that passes is a check, so that none
 # gets lost; one that is skipped is a failure. Each line of the package has to run, in the tests or in a process that
-# they start. Needs libldvbi.so.1 beside the program, or at the top of the repository (`make lib`).
+# they start. Needs libldvbi.so.2 beside the program, or at the top of the repository (`make lib`).
 # usage: sh tests/unit/python.sh PROGRAM
 # runs: library
 # fails where: python/ldvbi_side/answer/analysis.py|s/^def analyse(/def analyze(/
@@ -9,7 +9,7 @@
 # shellcheck source=tests/helpers.sh
 . "$(dirname "$0")/../helpers.sh"
 
-export LDVBI_LIBRARY="$built/libldvbi.so.1" LDVBI_PROGRAM="$program" COVERAGE_PROCESS_START="$work/coveragerc"
+export LDVBI_LIBRARY="$built/libldvbi.so.2" LDVBI_PROGRAM="$program" COVERAGE_PROCESS_START="$work/coveragerc"
 # Python reads sitecustomize in as it starts: in pytest's processes, and in those that tests start.
 export PYTHONPATH="$top/python:$top/simulated:$work/site"
 # What is compiled once serves all processes, and nothing is written beside the package.

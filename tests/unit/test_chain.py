@@ -1,6 +1,6 @@
 """What breaks cost, how far apart numbers stand, which are believed, and what becomes of those passed over."""
 
-from ldvbi_side.answer.missing import Passed, PassedOver
+from ldvbi_side.answer.missing import fates, PassedOver
 from ldvbi_side.judge.chain import chosen
 from ldvbi_side.judge.paces import ChapterPace, MinutePace, Pace, price
 from ldvbi_side.judge.readings import Reading
@@ -118,18 +118,18 @@ def test_a_chain_that_went_astray():
 
 # The first and the last number that were passed over, for how many of them there are fields, and whether fields are
 # lost; and why each is missing. Between two sides (50 to 200 in the last row) a number is of neither.
-@pytest.mark.parametrize("passed, fates", (
+@pytest.mark.parametrize("passed, expected", (
     ([(1, 100, 5, True)], "1-5 undecided, 6-95 lost, 96-100 undecided"), ([(1, 100, 0, True)], "1-100 lost"),
     ([(1, 100, 10, True)], "1-10 undecided, 11-90 lost, 91-100 undecided"), ([(1, 100, 11, True)], "1-100 undecided"),
     ([(1, 100, 1, True)], "1-1 undecided, 2-99 lost"), ([(1, 100, 100, False)], "1-100 unread"),
     ([(1, 100, 100, None)], "1-100 undecided"),
     ([(1, 100, 0, True), (40, 60, 0, False), (55, 80, 0, None)],
      "1-39 lost, 40-60 unread, 61-80 undecided, 81-100 lost, 101-200 unshown, 201-201 undecided")))
-def test_fates(passed, fates):
+def test_fates(passed, expected):
     spans = {"unread": [], "undecided": [], "lost": [], "unshown": [(50, 200)] if len(passed) > 1 else []}
     for one in passed:
-        for why, *span in Passed(*one).parts():
+        for why, *span in fates(*one):
             spans[why].append(tuple(span))
     found = PassedOver(list(spans.items()))
-    for first, last, why in (fate.replace("-", " ").split() for fate in fates.split(", ")):
+    for first, last, why in (fate.replace("-", " ").split() for fate in expected.split(", ")):
         assert {one for *_, one in found.parts(int(first), int(last))} == {why}

@@ -7,20 +7,24 @@ from unittest import mock
 
 from compact import cells_of, made
 from discs import side, typed
-from ldvbi import Kind
+import ldvbi
+from ldvbi import Kind, Reading
 from ldvbi.readings import Cut
 from ldvbi_side.answer.entries import Doubt, Extent, Lost, Missing, Neighbour, Repeated, Speed, Swapped
-from ldvbi_side.draw import bands, bars, curve, drawing, folds
-from ldvbi_side.draw.axis import Axis
+from ldvbi_side.draw import bands, bars, colours, curve, drawing, folds, sorting
+from ldvbi_side.draw.axis import Axis, BROAD, NARROW
 from ldvbi_side.draw.curve import Scale, ticks
 from ldvbi_side.draw.drawing import drawing_of
+from ldvbi_side.draw.line import line_of, plot_of, Row
 from ldvbi_side.draw.marks import Mark, marks_of
+from ldvbi_side.draw.style import STYLE
 from ldvbi_side.draw.svg import shortened, Svg
 from ldvbi_side.join.captures import capture_of
 from ldvbi_side.judge.places import Break, Showing
 from ldvbi_side.judge.readings import Stray
 from ldvbi_side.write.joined import join
 import pytest
+from streams import NTSC
 
 SPACE = "{http://www.w3.org/2000/svg}"
 # Entries of an answer's lists, of which each row below changes a part
@@ -40,14 +44,15 @@ MARKS = (
     ("missing", {"after": 0}, "lost 13: lost: 5, before field 13: no field is there for it"),
     ("missing", {"last": 7, "count_": 3}, "lost 13: lost: 5 to 7" + PLACE + "no field is there for it"),
     ("lost", {"after": 0}, "lost fields 10: lost: 1 field before field 10, by the numbers"),
+    ("lost", {"fields": 3, "or_more": True}, "lost fields 10: lost: at least 3 fields" + LOST + "by the numbers"),
     ("lost", {"by": "both", "fields": 3},
      "lost fields 10: lost: 3 fields" + LOST + "by the numbers and by isFirstField"),
-    ("lost", {"by": "parity", "fields": None}, "lost fields 10: lost: one or more fields" + LOST + "by isFirstField"),
+    ("lost", {"by": "parity", "fields": None}, "lost fields 10: lost: 1 or more fields" + LOST + "by isFirstField"),
     ("lost", {"by": "undecided", "fields": None},
      "lost fields 10: lost or shown again: a field" + LOST + "by isFirstField"),
     ("lost", {"by": "undecided", "fields": 2},
      "lost fields 10: lost: 2 fields" + LOST + "or a number was skipped by the disc itself"),
-    ("lost", {"unit": "minute", "after": 3610, "before": 7111, "fields": 90},
+    ("lost", {"unit": "minute", "after": 3610, "before": 7111, "fields": 90, "or_more": True},
      "lost fields 3611-7110: lost: at least 90 fields between fields 3611 and 7110, by the minute's length"),
     ("breaks", {}, "jumps 12: 4 fields too many, from 5 in field 9 to 6 in field 12"),
     ("breaks", {"kind": "back", "to": 2}, "jumps 12: back from 5 in field 9 to 2 in field 12"),
@@ -85,10 +90,14 @@ def test_each():
 
 def test_texts_and_ticks_that_fit():
     """Characters are 6.5 pixels wide at a font size of 10."""
-    for width, wanted in ((46, "012\u2026789"), (65.1, "0123456789"), (64.9, "0123\u20266789")):
-        assert shortened("0123456789", width, 10) == wanted
-    svg = Svg(20, 10)
+    for width, text, wanted in (
+            (46, "0123456789", "012\u2026789"), (65.1, "0123456789", "0123456789"),
+            (64.9, "0123456789", "0123\u20266789"), (58.6, "ab/cd_ef.tbc", "ab/\u2026tbc"),
+            (65.1, "ab/cd_ef.tbc", "ab/cd_\u2026tbc"), (65, "abc-defghijklmno", "abc-\u2026")):
+        assert shortened(text, width, 10) == wanted
+    svg = Svg(20, 10, "<a>")
     svg.text(1, 2.5, "a < b", "\"&\"", font_size=None, class_="x")
+    assert 'role="img" aria-label="&lt;a&gt;">' in svg.render()
     assert '<text x="1" y="2.5" class="x"><title>"&amp;"</title>a &lt; b</text>' in svg.render()
     for least, greatest, steps, wanted in (
             (1, 52, [1, 2, 5, 10, 20], [1, 20, 40]), (1, 0, [1], []),
@@ -256,6 +265,96 @@ def test_texts_are_apart():
     for (left, top, right, bottom), *others in (boxes[place:] for place in range(len(boxes))):
         assert 0 <= left and right <= (850 if 50 < top < 86 else 1140) and top >= 0
         assert all(right <= other[0] or other[2] <= left or bottom <= other[1] or other[3] <= top for other in others)
+
+
+NARROW_SIDE = "NTSC Lx9 1..600 700..900 1501=?/!/~ 851..900 Ox9 9=-/#79999^/- 31=S/S/#12 60:80=B"
+
+
+def luminance(colour):
+    """The relative luminance of a colour of sRGB, as WCAG has it."""
+    parts = [int(colour[place:place + 2], 16) / 255 for place in (1, 3, 5)]
+    return sum(share * (part / 12.92 if part <= 0.04045 else ((part + 0.055) / 1.055) ** 2.4)
+               for share, part in zip((0.2126, 0.7152, 0.0722), parts))
+
+
+def contrast(colour, other):
+    low, high = sorted(map(luminance, (colour, other)))
+    return (high + 0.05) / (low + 0.05)
+
+
+def pairs_of(text):
+    """Each colour of a drawing that is no ground, and each of a text, with that of the last box below it."""
+    boxes = []
+    for part in list(xml.fromstring(text).iter())[1:]:
+        known, tag = part.attrib, part.tag[len(SPACE):]
+        if tag == "title":
+            continue
+        place = re.findall(r"-?[0-9.]+", known.get("d", ""))[:2] or [
+            known.get(name, known.get(name + "1", known.get("c" + name, "0"))) for name in "xy"]
+        x, y = map(float, place)
+        width, height = (float(known[name]) if tag == "rect" and known["width"] != "100%" else 0
+                         for name in ("width", "height"))
+        middle, level = x + width / 2, y + height / 2
+        below = [fill for left, top, right, bottom, fill in boxes if left <= middle < right and top <= level < bottom]
+        for colour in {known.get(name, colours.TEXT if (tag, name) == ("text", "fill") else "none")
+                       for name in ("fill", "stroke")} - {"none"}:
+            if tag == "text" or colour not in colours.GROUNDS:
+                yield colour, below[-1] if below else colours.PAPER
+            else:
+                assert colour in colours.DARK
+        if width and "opacity" not in known:
+            boxes.append((x, y, x + width, y + height, known["fill"]))
+
+
+def test_contrast():
+    """What there is to see in drawings, also beside words, and in the style of a page has 4.5 to 1 at least, on light
+    and on dark pages."""
+    sides = [made(text, side) for text in (
+        "NTSC Lx2 1..6 9..10 11x3 12..13 B C 15..16 79999 18..19 0 21..22 5 24..26 24..27 Ox2 28:62/2=-/c1/c1 7=S/S/#3 "
+        "10=-/S/c0 12=-/M/c0", "1..8 5=-/#3^/#3^", "1..9 ?x4 14..30", "S/S*/- ~/?/!")]
+    numbered = [made(one, side) for one in ("1..9 12..30", "1..20 24..40 50=?")]
+    drawn = [drawing_of(one, "side", form) for one in sides for form in (BROAD, NARROW)]
+    drawn += [bars.bars_of(join([capture_of(one, name) for name, one in zip("ab", numbered)]), form)
+              for form in (BROAD, NARROW)]
+    line = bytes(ldvbi.draw_line(0x82CFFF, *NTSC))
+    for name, reading in (("word", ldvbi.read_line(line, *NTSC)), ("change", Reading(ldvbi.Cause.change, 0, 170, 0))):
+        shown = line_of(line, ldvbi.System.NTSC, *NTSC[1:], reading)
+        drawn += [plot_of(shown, name, row) for row in (None, Row(0x82CFFE, 140))]
+    pairs = {pair for text in drawn for pair in pairs_of(text)}
+    pairs |= {(shown, colours.WORD) for name, shown in bands.SHOWN.items() if name not in ("word", "blank")}
+    style = STYLE + sorting.STYLE
+    assert set(re.findall(r"var\(--(\w+)\)", style)) <= set(colours.NAMED)
+    pairs |= {(colours.NAMED[name], ground) for name in re.findall(r"[^-]color:var\(--(\w+)\)", style)
+              if name != "paper" for ground in (colours.PAPER, colours.LANE)}
+    pairs.add((colours.PAPER, colours.TEXT))  # of a button that is pressed
+    assert len(pairs) > 40
+    assert "button[aria-pressed=true]{color:var(--paper);background:var(--text)}" in style
+    for colour, ground in pairs:
+        for scheme in ({one: one for one in colours.DARK}, colours.DARK):
+            assert contrast(scheme[colour], scheme[ground]) >= 4.5, (colour, ground)
+    rules = colours.dark_drawings()
+    assert {(name, light, dark) for name, light, same, dark in re.findall(r'\[(\w+)="(.*?)"\]{(\w+):(.*?)}', rules)
+            if name == same} == {(name, *pair) for pair in colours.DARK.items() for name in ("fill", "stroke")}
+    assert abs(contrast("#000000", "#ffffff") - 21) < 1e-9
+    assert abs(contrast("#767676", "#ffffff") - 4.54) < 0.01  # the lightest grey that is enough on white
+
+
+def test_the_narrow_form():
+    """It has the whole side, and all of its marks, on a page that is 420 wide, and each text has room. It has no title
+    of its own."""
+    one = made(NARROW_SIDE, side)
+    parts = {form: list(xml.fromstring(drawing_of(one, "side.tbc", form)).iter()) for form in (BROAD, NARROW)}
+    named = {form: [part.get("class") for part in found] for form, found in parts.items()}
+    assert set(named[BROAD]) - set(named[NARROW]) == {"title", "system"}
+    assert [int(parts[NARROW][0].get(name)) for name in ("width", "font-size")] == [388, 11]
+    for part in parts[NARROW][1:]:
+        x, width = (float(part.get(name, "0").replace("100%", "0")) for name in ("x", "width"))
+        if part.tag == SPACE + "text" and "transform" not in part.attrib:
+            width = 7 / 13 * float(part.get("font-size", "11")) * len(text_in(part))
+            x -= width * {"middle": 0.5, "end": 1}.get(part.get("text-anchor"), 0)
+        assert 0 <= x and x + width <= 388, part.attrib
+    shown = [part.get("data-fields") for part in parts[NARROW] if part.get("class") == "line-18"]
+    assert (shown[0].split("-")[0], shown[-1].split("-")[1]) == ("1", str(len(one.readings)))
 
 
 # Marks by their first and last field, of 960 that have a pixel each, of which a mark has two at least: what is drawn of

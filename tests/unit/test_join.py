@@ -3,12 +3,16 @@ better, and where they disagree about a number; the same of random sets of captu
 
 import functools
 import json
+import re
 import xml.etree.ElementTree as xml
 from collections import Counter
 
 from compact import cells_of, made, span, words_of
 from discs import side
+from ldvbi_side.command.chapters import chapters_text, joined_spans
 from ldvbi_side.command.join import joined_text, NOTHING_SHOWS
+from ldvbi_side.command.map import joined_rows
+from ldvbi_side.draw.axis import BROAD, NARROW
 from ldvbi_side.draw.bars import bars_of
 from ldvbi_side.draw.svg import escaped
 from ldvbi_side.draw.together import page_of_joined
@@ -187,12 +191,66 @@ def test_a_confirmed_number_is_between_those_that_are_read_and_due():
 
 def test_texts():
     assert list(joined_text(together("1..40 -41:46", "1..40 -61:62", "1..30 -9:10"))) == [
-        "together: pictures 1 to 40, none lost", NOTHING_SHOWS,
+        "together: whole: yes", "together: pictures 1 to 40, none lost", NOTHING_SHOWS,
         "a: has 37, 1 of them alone, lacks 3 (pictures 21 to 23 in b and c), whole: no", "better in a: none",
         "b: has 39, none of them alone, lacks 1 (picture 31 in a), whole: no", "better in b: none",
         "c: has 29, none of them alone, lacks 11 (picture 5 in a and b, picture 31 in a, pictures 32 to 40 in a "
         "and b), whole: no", "better in c: none", "alike: 39 (pictures 1 to 30, pictures 32 to 40)",
         "lacking in all: none", "disagreements: none", "as one file: yes"]
+
+
+# What is asked, captures, and whether they are whole together, whichever comes first: at an open end, if lead-out has
+# to be seen, by a strict judge, or with a given last number. Each may fill what the other lost. A picture of which both
+# lost another field isn't whole. One that is whole alone says it all. A time that the clock may have left out is so in
+# both.
+WHOLE = """
+    open | 1..40 -41:46 ; 1..40 -61:62 | yes || open | 1..40 -42 ; 1..40 -42 | no: 1 picture lacks fields (21)
+    open | 1..10 21..40 ; 1..10 21..40 | no: 10 pictures lost; .. || open | 1..40 ; 1..20 Lx5 1..20 | yes
+    open | 5..40 ; 7..44 | no: begins at picture 5 || open | 5..40 ; 1..9 | yes
+    open | 1..15 ; 1..20 Lx5 1..20 | no: b: lead-in again in field 41 (two sides joined)
+    open | 1..10 Bx20 ; 21..40 | can't tell: 10 pictures may have another's field (11 to 20)
+    open | NTSC t0..59!31 ; NTSC t0..59!31 | can't tell: in all of them fields may be lost at the same place
+    open | NTSC t0..59!31 ; NTSC t0..59!41 | yes || open | m0..1x3000 ; m0..1x3000 | can't tell: no minute is between ..
+    open | NTSC t3..39 ; NTSC t3..39 | can't tell: numbers before time 0:00:00.03 may be lost
+    open | 1..40 -41:46 Bx150 ; 1..40 -71:72 Bx150 | can't tell: numbers after picture 40 may be lost
+    end | 1..40 -41:46 O ; 1..40 -61:62 | yes || end | 1..40 -41:46 ; 1..40 -61:62 | can't tell: no lead-out after ..
+    strict | L 1..40 -42:47 ; 1..40 -61:62 O | yes || strict | L 1..40 42=? O ; 1..40 41=? | no: 1 picture unread
+    strict | L 1..40 42=? O ; 1..40 | yes || strict | 1..40 -41:46 ; 1..40 -61:62 | no: no lead-in; no lead-out after ..
+    42 | 1..40 ; 1..38 | no: 2 pictures lost || 42 | 1..40 Bx4 ; 1..38 | can't tell: 2 pictures undecided
+    40 | 1..40 -41:46 ; 1..40 -61:62 | yes || 38 | 1..40 ; 1..38 | can't tell: a: it ends at 40, after 38 that was ..
+    0:00:34 | NTSC t0..1019!31%100 ; NTSC t0..99 | no: 1 time lost; .. || 5 | t0..39 ; t0..9 | can't tell: no lead-..
+"""
+
+
+@pytest.mark.parametrize("asked, texts, wanted", cells_of(WHOLE))
+def test_whole_together(asked, texts, wanted):
+    ones = []
+    for text in texts.split(" ; "):
+        ones.append(made(text, side))
+        ones[-1].may_end, ones[-1].is_strict = asked == "open", asked == "strict"
+        ones[-1].given_last = asked if asked[0].isdigit() else None
+    captures_of = [capture_of(one, name) for one, name in zip(ones, "ab")]
+    for found in (join(captures_of), join(captures_of[::-1])):
+        said = next(joined_text(found))
+        head = "together: whole: " + wanted
+        assert said.startswith(head[:-2]) if wanted.endswith("..") else said == head
+        assert found.whole == wanted.split(":")[0]
+
+
+def test_chapters_and_stops_together():
+    """Picture 16 is in field 31 of either, and its chapter 2 begins in the field after it. A lost 3 pictures before it,
+    which move it, and has the chapter from its fifth picture on. Of two stops in the fields of 11 each has one."""
+    found = together("1..40 2:46/2=-/c1/c1 48:80/2=-/c2/c2 22=S/-/- -51:52 -3:8",
+                     "1..40 2:30/2=-/c1/c1 32:80/2=-/c2/c2 21=S/#11/#11")
+    assert found.chapters == [(1, 1, "b", 2, 1, 2), (2, 16, "b", 32, 16, 32)]
+    assert [one[:3] for one in found.stops] == [(11, "b", 21), (11, "b", 22)]
+    assert list(joined_rows(found, ()))[-4:] == [
+        ("chapter", 1, 2, 1, "read", "b"), ("chapter", 2, 32, 16, "read", "b"), ("stop", 11, 21, 11, "read", "b"),
+        ("stop", 11, 22, 11, "read", "b")]
+    assert chapters_text("PAL", joined_spans(found), "x.txt") == (
+        "0.020000\t0.620000\tChapter 1\n0.620000\t1.600000\tChapter 2\n")
+    assert together("1..9", "B 1..9 1:9=B").stops == []
+    assert not list(joined_spans(together("m0..1x3000", "m0..1x3000")))
 
 
 def boxes(found, name):
@@ -221,22 +279,31 @@ def test_bars_and_page():
         "151 to 170: in fields 101 to 140 of a, and b otherwise"]
     page = page_of_joined(found, joined_text(found))
     # each has lost what comes after the picture, and perhaps a field of that
-    for text in (*("<p>%s</p>" % escaped(text) for text in joined_text(found)), bars_of(found),
+    for text in (*("<p>%s</p>" % escaped(text) for text in list(joined_text(found))[1:]),
+                 '<div class="no">together: whole: no<ul><li>',
+                 "<tr><td>a</td><td>no</td><td>93</td><td>2</td><td>1</td></tr>\n"
+                 "<tr><td>b</td><td>no</td><td>94</td><td>1</td><td>2</td></tr>",
+                 bars_of(found, BROAD, "broad"), bars_of(found, NARROW, "narrow"),
                  '<details id="missing"><summary>numbers that no capture has: 1</summary>',
                  "<tr><td>22</td><td>22</td><td>1</td><td>lost</td></tr>",
                  "<tr><td>a</td><td>10</td><td>10</td><td>1</td></tr>\n<tr><td>b</td><td>20</td><td>20</td>",
-                 "<p>disagreements of two captures: 0</p>", '<head><meta charset="utf-8"><title>a, b</title>'):
+                 '<head><meta charset="utf-8"><title>a, b</title>'):
         assert text in page
+    assert not re.search("<a |disagreements of two captures", page)
     page = page_of_joined(join([capture_of(capture("1..40"), name) for name in ("<a>.tbc", "b & c.tbc")]), [])
-    assert "<h1>&lt;a&gt;.tbc, b &amp; c.tbc</h1>" in page
+    assert "<h1>&lt;a&gt;.tbc, b &amp; c.tbc</h1>" in page.replace("<wbr/>", "")
+    narrow = xml.fromstring(bars_of(found, NARROW))
+    assert [narrow.get(name) for name in ("width", "role", "aria-label")] == [
+        "388", "img", "2 captures together: a, b"]
 
 
 def test_what_is_printed_and_written(drawn):
     """Of pictures 0 to 11, and of 4 to 7 and 10 to 15. With one field each has its own stretch."""
     write_stream(drawn.named("other.tbc"), NTSC, pictures(16)[4:8] + pictures(16)[10:])
     drawn.metadata("other.tbc.json")
-    words, head = "join side.vbi.json other.tbc ", "together: pictures 0 to 15, none lost"
-    assert drawn.printed(words).decode().split("\n")[:2] == [head, NOTHING_SHOWS]
+    words, head = "join side.vbi.json other.tbc ", (
+        "together: whole: no: 16 pictures lack fields (0 to 15); too few numbers to judge by")
+    assert drawn.run_words(words)[1].split("\n")[:3] == [head, "together: pictures 0 to 15, none lost", NOTHING_SHOWS]
     for option, *wanted in (
             ("--csv", "number,source,field,frame,how", "0,side.vbi.json,1,1,read", "11,side.vbi.json,12,6,read",
              "12,other.tbc,7,4,read", "15,other.tbc,10,5,read", ""),
@@ -244,9 +311,36 @@ def test_what_is_printed_and_written(drawn):
              "11,11,side.vbi.json,12,12,whole", "12,12,other.tbc,7,7,whole", "15,15,other.tbc,10,10,whole", "")):
         rows = drawn.printed(words + option, said="ldvbi-side: %s\n" % NOTHING_SHOWS).decode().split("\n")
         assert [*rows[:2], *rows[12:14], *rows[16:]] == wanted
+    drawn.printed(words + "--map side.map --chapters side.txt", said="ldvbi-side: no chapter of the side is believed: "
+                  "side.txt isn't written\n")
+    head_rows = ["%s,%d,1,1,side,%s" % (kind, value, name)
+                 for name, fields in (("side.vbi.json", 12), ("other.tbc", 10))
+                 for kind, value in (("black", 16384), ("white", 51200), ("fields", fields))]
+    rows = drawn.text("side.map").split("\n")
+    assert [row for row in rows if row.split(",")[0] in ("black", "white", "fields")] == head_rows
+    assert [rows[0], rows[1], rows[9], rows[24], rows[25]] == [
+        "kind,number,field,frame,how,source", "system,NTSC,1,1,side,side.vbi.json", "picture,0,1,1,read,side.vbi.json",
+        "picture,15,10,5,read,other.tbc", ""]
     for option, printed in (("", b""), ("--json ", drawn.printed(words + "--json"))):
         assert drawn.printed(words + option + "--html page.html") == printed
-        assert "<h1>side.vbi.json, other.tbc</h1>\n<p>%s</p>" % head in drawn.text("page.html")
+        assert ('<h1>side.vbi.json, other.tbc</h1>\n<div class="no">together: whole: no<ul><li>16 pictures lack fields '
+                "(0 to 15)</li><li>too few") in drawn.text("page.html").replace("<wbr/>", "")
+    for option in ("--csv --map -", "--html - --map -"):
+        assert drawn.run_words(words + option)[2].endswith("error: standard output takes one thing\n")
+    assert drawn.printed(words + "--map -").decode() == drawn.text("side.map")
+
+
+def test_links_to_pages_of_the_same_folder(room):
+    """From a page beside those of a scan; a capture without a page has no link, nor has a page elsewhere."""
+    for name in ("a/1.tbc", "b/1.tbc", "c.tbc"):
+        room.add(name, "1..30 O")
+    room.scan("--html pages a b")
+    room.write("pages/other.html", "<p>")
+    for page, wanted in (("pages/both.html", ["index.html", "1.html", "1-2.html"]), ("both.html", [])):
+        room.printed("join --html %s a/1.tbc b/1.tbc c.tbc" % page)
+        assert re.findall('href="(.*?)"', room.text(page)) == wanted
+    assert '<td><a href="1-2.html">b/<wbr/>1.<wbr/>tbc</a></td>' in room.text("pages/both.html")
+    room.refused("absent/both.html: No such file or directory", "join --html absent/both.html a/1.tbc b/1.tbc")
 
 
 def test_sides_are_read_as_the_options_say(drawn):
@@ -294,6 +388,7 @@ def check_random_set(seed):
         assert len(numbers) == stretch["count"]
         assert all(numbers <= having[int(name)] for name in stretch["in"])
     assert joined["disagreements"] == []
+    assert joined["whole"] != "yes" or set(ones[0].on_disc) == taken
     rows = [row[0] for row in joined["taken"]]
     for stretch in joined["ranges"]:  # which have each number once
         numbers, rows = rows[:stretch["count"]], rows[stretch["count"]:]
@@ -302,7 +397,8 @@ def check_random_set(seed):
             order = ones[int(stretch["source"])].order[stretch["field"] - 1:stretch["lastField"]]
             assert order == list(range(order[0], order[-1] + 1))
     assert rows == []
-    return Counter(taken=len(taken), unsure=len(unsure), due=sum(row[4] == "neighbours" for row in joined["taken"]),
+    return Counter(whole=joined["whole"] == "yes", taken=len(taken), unsure=len(unsure),
+                   due=sum(row[4] == "neighbours" for row in joined["taken"]),
                    missing=sum(stretch["count"] for stretch in joined["missing"]),
                    lacking=sum(stretch["count"] for stretch in joined["lacks"]))
 
@@ -311,4 +407,4 @@ def check_random_set(seed):
 def test_random_sets():
     """Two to four captures of one drawn disc with losses, jumps and damage of their own, beside the truth."""
     counts = sum(map(check_random_set, range(100)), Counter())
-    assert counts > Counter(taken=25000, due=80, missing=80, lacking=2000)
+    assert counts > Counter(whole=50, taken=25000, due=80, missing=80, lacking=2000)

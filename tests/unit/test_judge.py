@@ -126,11 +126,29 @@ def test_what_stands_beside():
     found = asked(ldvbi.judge_side, "1..30 201..210 31..60 O")
     assert (found.verdict, found.reasons) == (Verdict.not_whole, Reason.is_inserted)
     assert found.gaps == (Gap(58, 60, 20, 0, 30, 201, GapKind.inserted), Gap(78, 80, 0, 0, 210, 31, GapKind.inserted))
+    assert found.tally.inserted == 20
     found = asked(ldvbi.judge_side, "1..30 201..210 41..60 O")
     assert (found.verdict, found.reasons) == (Verdict.cannot_tell, Reason.is_open)
     assert found.gaps == (Gap(58, 60, 0, 0, 30, 201, GapKind.replaced), Gap(78, 80, 0, 0, 210, 41, GapKind.replaced))
     found = asked(ldvbi.judge_side, "L Bx9 O")
     assert (found.first, found.last, found.swap, found.gaps, found.reasons) == (None, None, None, (), Reason.no_numbers)
+
+
+def test_many_fields_without_a_number():
+    found = asked(ldvbi.judge_side, "1..30 Bx120 91..110 O")
+    assert (found.verdict, found.reasons, found.blank) == (Verdict.cannot_tell, Reason.is_blank, 59)
+    assert asked(ldvbi.judge_side, "1..30 Bx80 71..110 O").blank is None
+
+
+def test_padding():
+    """Of padding without a number, in which number 5 is due, and of a field that shows one."""
+    one = made("1..4 Bx2 6..30 O", side)
+    judged = functools.partial(ldvbi.judge_side, one.readings, one.system)
+    padding = [place in (8, 9, 20) for place in range(61)]
+    found = judged(padding=padding)
+    assert (found.verdict, found.reasons, found.padded) == (Verdict.not_whole, Reason.is_padded, 3)
+    assert judged(padding=[False] * 61) == judged() == found._replace(verdict=Verdict.whole, reasons=0, padded=0)
+    assert reason(judged, padding=padding[1:]) == "of 61 fields there are 60 marks of padding"
 
 
 def test_what_is_asked():
@@ -179,6 +197,23 @@ def test_seeking():
     with side_of("5..7") as closed:
         assert ldvbi.seek(closed, 7)[0] == 4
     assert reason(ldvbi.seek, closed, 7) == "the stream is closed"
+
+
+def test_seek_chapter():
+    text = "Lx30 1..399 232:430/2=-/c1/c1 432:630/2=-/c3/c3 632:828/2=-/c4/c4 Ox300"
+    for more, found in (("", (31, 231, None, 431, 631, None)), ("400:433=B 634=-/c9/c9", (31, 231, None, 433, 631, None)),
+                        ("30:260/2=?", (None, 261, None, 431, 631, None))):
+        chapters = side_of(text + " " + more)
+        assert tuple(ldvbi.seek_chapter(chapters, chapter) for chapter in range(6)) == found
+        assert [ldvbi.seek_chapter(chapters, chapter) for chapter in (9, 79, 2 ** 32)] == [None] * 3
+    assert ldvbi.seek_chapter(side_of(""), 0) is None
+
+
+def test_next_stop():
+    stops = side_of("1..9 4=S/-/- 7=-/S/- 12=-/-/S 18=S/S/-")
+    assert [ldvbi.next_stop(stops, field) for field in (0, 3, 4, 6, 7, 17, 18, 2 ** 70)] == [3, 3, 6, 6, 17, 17, None, None]
+    assert [ldvbi.next_stop(stops, 4, most) for most in (0, 2, 3, 2 ** 70)] == [None, None, 6, 6]
+    assert ldvbi.next_stop(side_of("")) is None
 
 
 def test_numbers_of_a_damaged_side_are_found():

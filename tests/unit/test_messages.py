@@ -20,7 +20,7 @@ NOT_JSON = "not JSON: line 1 is wrong from column 1 on"
 USAGE = {
     "side.tbc LEVELS": "--document --csv | --document --json | --document --summary | --document --bad-lines | --seek x"
                        "| --csv --seek 1 | --seek -1 | --system SECAM | --black 1.0 | --recovered | --recovered --json"
-                       "| --recovered --document --no-recover | --as-read",
+                       "| --recovered --document --no-recover | --as-read | --last x | --last=-1 | --last 'chapter 3'",
     "join side.vbi.json": "| side.vbi.json --csv --ranges",
     "scan": "| -j 0 side.tbc | -j x side.tbc | --csv --json side.tbc | --again side.tbc | --as-read side.tbc"}
 UNNAMED = ("side.vbi.json --html", "side.vbi.json --svg", "side.vbi.json -o", "side.vbi.json --map", "side.tbc --into",
@@ -152,15 +152,16 @@ def test_a_name_stands_once():
 SIDES = ("whole.tbc", "lost.tbc", "dark.tbc", "cut.tbc")
 # Of each option, as it stands after the name of a side, its statuses for these sides. Picture 12 is lost in lost.tbc,
 # nothing is in dark.tbc, and after all pictures of cut.tbc a part of one more field.
-OPTIONS = {"": (0, 1, 4, 1), "--summary": (0, 1, 4, 1), "--seek 12": (0, 1, 1, 0), **dict.fromkeys((
+OPTIONS = {"": (0, 1, 4, 0), "--summary": (0, 1, 4, 0), "--seek 12": (0, 1, 1, 0), **dict.fromkeys((
     "--csv", "--json", "--bad-lines", "--document", "--svg side.svg", "--html side.html", "--map side.map",
     "--chapters side.txt", "--into copy.json", "--plot-line 1 17"), (0, 0, 0, 3))}
 # The same of commands, in front of the name of a side; a side without numbers can't be joined.
-COMMANDS = {"scan %s": (0, 1, 4, 1), "join whole.tbc %s": (0, 0, 2, 3), "write out.tbc %s": (0, 1, 2, 2)}
+COMMANDS = {"scan %s": (0, 1, 4, 0), "join whole.tbc %s": (0, 0, 2, 3), "join lost.tbc %s": (0, 1, 2, 3),
+            "join --json lost.tbc %s": (0, 0, 2, 3), "write out.tbc %s": (0, 1, 2, 2)}
 PRINTED = ("--help", "--version")
 # What goes with options, and has no status of its own
 WITH_OTHERS = {"--meta", "--system", "--black", "--white", "--no-recover", "--recovered", "--as-read", "--strict",
-               "--open-end", "--output"}
+               "--open-end", "--last", "--output"}
 
 
 @pytest.fixture
@@ -190,7 +191,7 @@ def test_what_is_printed_alone(statuses):
     """The version, and the summary of a side without an option."""
     status, text, said = statuses.run_words("--version")
     assert (status, said) == (0, "")
-    assert re.search(r"^ldvbi-side %s\nlibrary [0-9.]+ \([a-zR, ]+\): /.*libldvbi\.so\.1\n\Z" %
+    assert re.search(r"^ldvbi-side %s\nlibrary [0-9.]+ \([a-zR, ]+\): /.*libldvbi\.so\.2\n\Z" %
                      re.escape(ldvbi.__version__), text)
     for name in SIDES:
         assert statuses.run_words(name) == statuses.run_words(name, "--summary")
@@ -199,9 +200,9 @@ def test_what_is_printed_alone(statuses):
 def test_the_table():
     """It has each option and command once, with each status that some run ends with."""
     found = [(name, set(meanings)) for names, meanings in MEANINGS for name in names]
-    wanted = {(words.split() or ["no option"])[0]: set(statuses) - {2}
-              for words, statuses in [*OPTIONS.items(), *COMMANDS.items()]}
-    wanted["write"].add(4)  # of a still of film (test_write.py)
+    wanted = {"join": {4}, "write": {4}}  # of no lead-out (test_join.py), of a still of film (test_write.py)
+    for words, statuses in [*OPTIONS.items(), *COMMANDS.items()]:
+        wanted.setdefault((words.split() or ["no option"])[0], set()).update(set(statuses) - {2})
     assert sorted(found) == sorted({**wanted, **dict.fromkeys(PRINTED, {0})}.items())
     options = {name for action in parser_of_side("ldvbi-side")._actions for name in action.option_strings}
     assert {name for name in options if name.startswith("--")} - WITH_OTHERS == {
@@ -209,7 +210,7 @@ def test_the_table():
 
 
 # The statuses of each command, and of none, but for those of signals: yes or done, no, a fault, a cut field, can't tell
-STATUSES = {"": [0, 1, 2, 3, 4], "join": [0, 2, 3], "scan": [0, 1, 2, 4],
+STATUSES = {"": [0, 1, 2, 3, 4], "join": [0, 1, 2, 3, 4], "scan": [0, 1, 2, 4],
             "write": [0, 1, 2, 4]}
 
 

@@ -18,8 +18,8 @@ from compact import made
 from discs import side
 import ldvbi
 from ldvbi import (complete_times, draw_line, find_clock, find_pace, judge, judge_chapters, judge_ends, judge_field,
-                   judge_side, judge_stops, judging, library, near, nearest, read_field, read_line, read_rows,
-                   recover_pile, seek, seeking, sides, stream, Stream)
+                   judge_side, judge_stops, judging, library, near, nearest, next_stop, read_field, read_line,
+                   read_rows, recover_pile, seek, seek_chapter, seeking, sides, stream, Stream)
 from ldvbi.samples import Samples
 import pytest
 from room import reason
@@ -109,31 +109,31 @@ def other(room, interface, status, cause, more=""):
     (WORDS, None, "(12345, 'clv', 710510)"),
     (READ, None, "no library to read and judge with (FILE: cannot open shared object file: No such file or directory): "
      + MAKE + " it, " + NAMES),
-    (READ, (2, 0, 0), "FILE has the interface 2, not 1: " + MAKE + " the one that fits, " + NAMES),
+    (READ, (1, 0, 0), "FILE has the interface 1, not 2: " + MAKE + " the one that fits, " + NAMES),
     # causes and states that a later library adds stay numbers, and its statuses are refusals
-    (CAUSES, (1, 0, 5), "5 5"), (CAUSES, (1, 0, 255), "255 255"), (CAUSES, (1, 99, 0), REFUSED),
-    (STATE, (1, 0, 0, JUDGE % (4, 0)), "(5, 4)"), (STATE, (1, 0, 0, JUDGE % (2 ** 31 - 1, 0)), "(5, 2147483647)"),
-    (STATE, (1, 0, 0, JUDGE % (0, 99)), REFUSED),
+    (CAUSES, (2, 0, 5), "5 5"), (CAUSES, (2, 0, 255), "255 255"), (CAUSES, (2, 99, 0), REFUSED),
+    (STATE, (2, 0, 0, JUDGE % (4, 0)), "(5, 4)"), (STATE, (2, 0, 0, JUDGE % (2 ** 31 - 1, 0)), "(5, 2147483647)"),
+    (STATE, (2, 0, 0, JUDGE % (0, 99)), REFUSED),
     # the proved one is known by its version: from then on plain Rust says what it is
-    (LOADED, (1, 0, 0, VERSION % 1000), "library 0.1.0 (proved or plain Rust): FILE"),
-    (LOADED, (1, 0, 0, VERSION % 2000), "library 0.2.0 (proved): FILE"),
-    (LOADED, (1, 0, 0, VERSION % 12034056 + PLAIN), "library 12.34.56 (plain Rust, not proved): FILE"),
+    (LOADED, (2, 0, 0, VERSION % 1000), "library 0.1.0 (proved or plain Rust): FILE"),
+    (LOADED, (2, 0, 0, VERSION % 2000), "library 0.2.0 (proved): FILE"),
+    (LOADED, (2, 0, 0, VERSION % 12034056 + PLAIN), "library 12.34.56 (plain Rust, not proved): FILE"),
     # an older one reads samples, and says what it is too old for
-    (LOADED, (1, 0, 0), OLD % ("FILE", "say its version", "version")), (READ, (1, 0, 1), "1"),
-    ("ldvbi.judge([], 'NTSC')", (1, 0, 1), OLD % ("FILE", "judge numbers", "judge"))))
+    (LOADED, (2, 0, 0), OLD % ("FILE", "say its version", "version")), (READ, (2, 0, 1), "1"),
+    ("ldvbi.judge([], 'NTSC')", (2, 0, 1), OLD % ("FILE", "judge numbers", "judge"))))
 def test_what_is_loaded(room, asked, parts, wanted):
     file = other(room, *parts) if parts else "/absent"
     assert run(asked, LDVBI_LIBRARY=file) == wanted.replace("FILE", file) + "\n"
 
 
 def test_what_the_loader_finds(room):
-    other(room, 1, 0, 0, VERSION % 2000)
+    other(room, 2, 0, 0, VERSION % 2000)
     assert run(LOADED, LDVBI_LIBRARY="other.so", LD_LIBRARY_PATH=room.folder) == \
         "library 0.2.0 (proved): %s\n" % room.named("other.so")
     assert re.fullmatch(r"no library to read and judge with \(.*undefined symbol: ldvbi_abi\): %s it, %s\n" % (
         MAKE, NAMES), run(READ, LDVBI_LIBRARY="libc.so.6"))
     with mock.patch("builtins.open", side_effect=OSError):
-        assert library._path_of("libldvbi.so.1") == "libldvbi.so.1"
+        assert library._path_of("libldvbi.so.2") == "libldvbi.so.2"
 
 
 def test_places(room, monkeypatch):
@@ -141,10 +141,10 @@ def test_places(room, monkeypatch):
     os.makedirs(room.named("share/ldvbi/python/ldvbi"))
     monkeypatch.setattr(library, "__file__", room.named("share/ldvbi/python/ldvbi/library.py"))
     monkeypatch.setenv("LDVBI_LIBRARY", "")
-    assert library._library_file() == "libldvbi.so.1"
+    assert library._library_file() == "libldvbi.so.2"
     for place in ("lib", "share/ldvbi/rust", "share/ldvbi", "share/ldvbi/python", "share/ldvbi/python/ldvbi"):
         os.makedirs(room.named(place), exist_ok=True)
-        path = room.write(place + "/libldvbi.so.1", "")
+        path = room.write(place + "/libldvbi.so.2", "")
         assert os.path.realpath(library._library_file()) == path
     monkeypatch.delenv("LDVBI_LIBRARY")
     assert os.path.realpath(library._library_file()) == path
@@ -171,6 +171,7 @@ ROWS = (
     (NOT_BELOW, (nearest, b"", "NTSC", 2, 2), (recover_pile, LINE, "NTSC", 2, 2, 17), (Stream, b"", "NTSC", 2, 2, 1)),
     ("black is not a whole number", (read_line, LINE, "NTSC", 1.0, 2)),
     ("white is not a whole number", (read_line, LINE, "NTSC", 1, "2")),
+    ("field is -1", (next_stop, Stream(b"", *NTSC), -1)), ("most is -1", (next_stop, Stream(b"", *NTSC), 0, -1)),
     ("word is not a whole number", (draw_line, "F12345", *NTSC)),
     ("number is no code word", (ldvbi.classify, 0x7FFFFF)),
     ("a line has 1820 bytes, not 1819", (read_line, LINE[1:], *NTSC)),
@@ -254,6 +255,7 @@ def test_each_call(monkeypatch):
             ("find_clock", functools.partial(judge_side, clock="find"), packed, "PAL"),
             ("judge_side_by_clock", functools.partial(judge_side, clock=(1, 0, 0)), packed, "PAL"),
             ("nearest", nearest, LINE, *NTSC), ("seek", lambda: seek(fields(), 1)),
+            ("seek_chapter", lambda: seek_chapter(fields(), 1)), ("next_stop", lambda: next_stop(fields())),
             ("recover_fields", lambda: list(fields())), ("recovered_record", lambda: list(fields().records())),
             ("recover_fields_without", lambda: list(fields(dropouts=[(0, 17, 3, 4)])))):
         for module in (judging, near, seeking, sides, stream):

@@ -128,12 +128,19 @@ def test_a_second_one(signals):
     assert end.mock_calls == [mock.call(143), mock.call(129)]
 
 
+MARKS = {"pace": "video", "said": {"chapter": [], "programme status": []}, "lasting": [[1, 9, 1]], "users": [],
+         "begins": None, "ends": [8, 9]}
 # What a page of others says, by member
 WRONG = {
     "whole": ("perhaps", None, ["yes"]), "fields": (None, True, 1.5), "reasons": (None, ["lost"], [{"text": 1}], 5),
     "numbers": (None, [], {"count": 1, "least": 1}, {"count": "1", "least": 1, "greatest": 1}), "lost": (None,),
     "format": (1,), "counts": ([], {"lost": 1}), "leadIn": (None, True), "leadOut": ("1",), "try": (1, []),
-    "side": (1,), "options": (None, 1, [1])}
+    "side": (1,), "options": (None, 1, [1]), "system": (None,), "unit": (1,),
+    "marks": (1, [], {}, *({**MARKS, **one} for one in (
+        {"said": 1}, {"said": {"chapter": []}}, {"lasting": [[1, 2, 0]]}, {"lasting": [[1, 1 << 40, 1]]},
+        {"lasting": [["1", 2, 1]]}, {"users": [[1]]}, {"users": [[[1], "000"]]}, {"users": [[1, 0]]}, {"begins": [1]},
+        {"ends": [1, None]}, {"said": {"chapter": [[1, 2, "1"]], "programme status": []}},
+        {"said": {"chapter": [], "programme status": [[1, 2, 1]]}})))}
 META = '<meta name="%s" content="%%s">' % MARK
 NO_PAGES = ("", "<", "<![", "<![if x", "<![[foo]]><body>", "<!doctype [<!", "<" * 100000, "\0" * 100000,
             '<meta name="ldvbi-side">', "<meta name=x>", b"<title>\xff\xfe</title>", *(META % one for one in (
@@ -156,11 +163,13 @@ def refused(room, page, why="no page that --html wrote"):
 
 def test_what_pages_of_others_say(room, said):
     """However long their head is, of which a part is read at once."""
-    assert head_of(page_saying(room, said)) == ("side", said)
+    for marks in (None, MARKS):
+        said["marks"] = marks
+        assert head_of(page_saying(room, said)) == ("side", said)
     for name, values in WRONG.items():
         for value in values:
             refused(room, page_saying(room, {**said, name: value}))
-    for name in said.keys() - {"version", "system", "unit"}:
+    for name in said.keys() - {"version"}:
         refused(room, page_saying(room, {one: value for one, value in said.items() if one != name}))
     said["reasons"] = [{"why": "x", "whole": "no", "text": "a reason" * 20000}]
     assert len(json.dumps(said)) > 2 * PART

@@ -142,7 +142,9 @@ def test_what_is_printed(drawn):
         capture(drawn, str(cell), NTSC, {number: [half_worn(number, NTSC, cell), 0] for number in (5, 12)})
         drawn.metadata("%d.tbc.json" % cell)
     words = "join 5.tbc 6.tbc"
-    assert b"\nread together: 2 (picture 5, picture 12)\n" in drawn.printed(words)
+    status, text, _ = drawn.run_words(words)
+    assert "\nread together: 2 (picture 5, picture 12)\n" in text
+    assert (status, text.split("\n")[0]) == (4, "together: whole: can't tell: no lead-out after picture 20")
     rows = drawn.printed(words + " --csv", said="ldvbi-side: %s\n" % NOTHING_SHOWS).decode().split("\n")
     assert [row for row in rows if not row.endswith(",read")][1:-1] == [
         "5,5.tbc,9,5,together", "12,5.tbc,23,12,together"]

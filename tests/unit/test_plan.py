@@ -35,6 +35,7 @@ PLANS = """
     minutes | m59x3000 ; m58..59x3000 | 0:58-0:59 b1 || one in part | m58x3000 m59x10 ; m59x3000 | 0:58 a1, 0:59 b1
     minutes that none has | m57x3000 ; m59x3000 | 0:57 a1, 0:58 x3000, 0:59 b1
     film, cut | CUT ; NTSC f1..120 | 1-120 b1 || a chapter's field | 1..40 41=-/c0/c0 ; 1..3 | 1-40 a1
+    set aside, below all others | 30..60 21=-/#7/#7 | 30-38 a1, 39-40 a19, 41-60 a23
     lead-in and lead-out | SIDE | 1-20 a2 || the first one unread | L 1..20 O 2=B | 1-20 a2
 """
 REFUSED = """

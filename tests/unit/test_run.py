@@ -170,7 +170,7 @@ CLOSED = (
     ((0, 1, 2), "side.tbc --csv --map side.map", 2, b"", ""),
     ((2,), "side.tbc --seek 3 --map side.map", 0, b"field 4, frame 2\n", ""), ((2,), "absent", 2, b"", ""),
     ((2,), "side.vbi.json --\udcff", 2, b"", ""), ((2,), "ü\udcff", 2, b"", ""),
-    ((0, 2), "scan --csv absent", 2, b"SIDES\nabsent,fault,,,,,,,,,,,No such file or directory\n", ""),
+    ((0, 2), "scan --csv absent", 2, b"SIDES\nabsent,fault,,,,,,,,,,,No such file or directory,,\n", ""),
     ((0,), "-", 2, b"", "ldvbi-side: standard input: Bad file descriptor\n"),
     ((0,), "side.vbi.json --seek 3", 0, b"field 4, frame 2\n", ""))
 
@@ -285,7 +285,7 @@ def test_names(drawn, encoding, shown):
     drawn.refused("\\x1b[31m\\n\\udcff: No such file or directory", os.fsdecode(b"\x1b[31m\n\xff"))
     drawn.refused("a file without a name: No such file or directory", "")
     drawn.write("-x", drawn.document)
-    for status, words in ((1, "-- -x"), (0, "join -- -x -x"), (1, "scan -- -x")):
+    for status, words in ((1, "-- -x"), (1, "join -- -x -x"), (1, "scan -- -x")):
         assert drawn.run_command(words)[::2] == (status, "")
 
 

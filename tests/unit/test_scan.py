@@ -16,29 +16,34 @@ from compact import cells_of
 from ldvbi.packed import packed_as
 from ldvbi_side.command.folders import files_of, Found, name_below, page_names, sides_in
 from ldvbi_side.command.into import copies_in
-from ldvbi_side.command.main import answer_of
+from ldvbi_side.command.main import scanned
 from ldvbi_side.command.outputs import locked
 from ldvbi_side.command.scan import _Folder, scan
 import pytest
 from room import buffered, COMMAND, DEADLINE, in_database, IN_PLACE
 from streams import TOP
 
-HEAD = "side whole lost unread format from to last lead-in lead-out fields try why".split()
+HEAD = "side whole lost unread format from to last lead-in lead-out fields try why system with".split()
+# The columns of the text after the side, and of the rows below
+TEXT = "whole lost unread system format from to last lead-in lead-out fields try why".split()
 # A side of every kind, in the order of the table: its name, its fields, and its row after the name, of which the last
 # cell begins so; - is nothing. The metadata has NTSC and white 51200.
 SIDES = """
-    a/cut.tbc | 1..30 O | no | 0 | 0 | cav | 1 | 30 | 30 | 0 | 1 | 61 | - | field 62 is cut
-    a/database.tbc | 1..30 O | yes | 0 | 0 | cav | 1 | 30 | 30 | 0 | 1 | 61 | - | -
-    a/joined.tbc | Lx2 1..30 Ox2 Lx2 1..25 Ox2 | no | 0 | 0 | cav | 1 | 30 | 25 | 4 | 4 | 118 | - | lead-in again in
-    a/levels.tbc | 1..30 | can't tell | 0 | 0 | neither | - | - | - | 0 | 0 | 60 | --white 30000
+    a/cut.tbc | 1..30 | no | 0 | 0 | NTSC | cav | 1 | 30 | 30 | 0 | 0 | 60 | - | field 61 is cut
+    a/database.tbc | 1..30 O | yes | 0 | 0 | NTSC | cav | 1 | 30 | 30 | 0 | 1 | 61 | - | -
+    a/joined.tbc | Lx2 1..30 Ox2 Lx2 1..25 Ox2 | no | 0 | 0 | NTSC | cav | 1 | 30 | 25 | 4 | 4 | 118 | -
+        | lead-in again in
+    a/levels.tbc | 1..30 | can't tell | 0 | 0 | NTSC | neither | - | - | - | 0 | 0 | 60 | --white 30000
         | no picture number and no time
-    a/lost.tbc | 1..11 14..30 O | no | 2 | 0 | cav | 1 | 30 | 30 | 0 | 1 | 57 | - | 4 fields lost; 2 pictures lost
-    b/packed.tbc | - | fault | - | - | - | - | - | - | - | - | - | - | it is compressed (gzip): unpack it first
-    b/times.tbc | t0..20 O | yes | 0 | 0 | clv | 0:00:00.00 | 0:00:00.20 | 0:00:00.20 | 0 | 1 | 43 | - | -
-    b/unread.tbc | 1..30 23=B O | yes | 0 | 1 | cav | 1 | 30 | 30 | 0 | 1 | 61 | - | -
+    a/lost.tbc | 1..11 14..30 O | no | 2 | 0 | NTSC | cav | 1 | 30 | 30 | 0 | 1 | 57 | -
+        | 4 fields lost; 2 pictures lost
+    b/packed.tbc | - | fault | - | - | - | - | - | - | - | - | - | - | - | it is compressed (gzip): zcat b/packed.tbc
+    b/times.tbc | t0..20 O | yes | 0 | 0 | NTSC | clv | 0:00:00.00 | 0:00:00.20 | 0:00:00.20 | 0 | 1 | 43 | - | -
+    b/unread.tbc | 1..30 23=B O | yes | 0 | 1 | NTSC | cav | 1 | 30 | 30 | 0 | 1 | 61 | - | -
 """
 DARK = ("NTSC", 16384, 30000)  # white is less than the middle of the metadata's levels
-YES, NO = "side.tbc,yes,0,0,cav,1,30,30,0,1,61,,", "side.tbc,no,2,0,cav,1,8,8,0,1,13,,4 fields lost; 2 pictures lost"
+YES = "side.tbc,yes,0,0,cav,1,30,30,0,1,61,,,NTSC,"
+NO = "side.tbc,no,2,0,cav,1,8,8,0,1,13,,4 fields lost; 2 pictures lost,NTSC,"
 
 
 def test_each_kind(room):
@@ -55,15 +60,18 @@ def test_each_kind(room):
     assert [(status, said) for status, _, said in found] == [(2, "")] * 3
     head, *rows = csv.reader(found[0][1].splitlines())
     assert (head, len(rows)) == (HEAD, len(cells_of(SIDES)))
-    for (name, *cells, why), (wanted_name, _, *wanted) in zip(rows, cells_of(SIDES)):
-        *wanted, begin = ["" if cell == "-" else cell for cell in wanted]
-        assert (name, cells, why[:len(begin) or None]) == (wanted_name, wanted, begin)
+    for row, (name, _, *cells) in zip(rows, cells_of(SIDES)):
+        *wanted, begin = ["" if cell == "-" else cell for cell in cells]
+        found_cells = dict(zip(HEAD, row))
+        why = found_cells.pop("why")
+        assert (found_cells, why[:len(begin) or None]) == ({"side": name, **dict(zip(TEXT, wanted)), "with": ""}, begin)
     known = json.loads(found[1][1])["sides"]
     assert [(one["side"], one["fields"] or "", "; ".join(one["reasons"]) or one["fault"] or "") for one in known] == [
         (row[0], row[10] and int(row[10]), row[12]) for row in rows]
-    form = "%-14s  %-10s  %6s  %6s  %7s  %10s  %10s  %10s  %7s  %8s  %7s  %13s  "
+    form = "%-14s  %-10s  %6s  %6s  %6s  %7s  %10s  %10s  %10s  %7s  %8s  %7s  %13s  "
     assert found[2][1].splitlines() == [
-        (form % tuple(cell or "-" for cell in cells) + why).rstrip() for *cells, why in [HEAD, *rows]]
+        (form % ("side" if row is HEAD else row[0], *(dict(zip(HEAD, row))[column] or "-" for column in TEXT[:-1]))
+         + row[12]).rstrip() for row in [HEAD, *rows]]
     names = [os.path.basename(one["page"]) for one in known if one["page"]] + ["index.html"]
     assert len(names) == len(rows)  # one has a fault; and the index
     assert room.names("one") == room.names("four") == sorted(names)
@@ -72,9 +80,10 @@ def test_each_kind(room):
 
 
 def listed(room):
-    """The names of an index, each with its link, how whole its side is, and the end of its row."""
-    found = re.findall('<tr><td>(.*?)</td><td class="[a-z]*" data-key="[0-4]">(.*?)</td>.*<td>(.*)</td></tr>',
-                       room.text("pages/index.html").replace(room.folder, ".."))
+    """The names of an index, each with its link, how whole its side is, and why."""
+    found = re.findall('<tr role="row"><td role="cell">(.*?)</td><td role="cell" class="[a-z]*" data-key="[0-4]">'
+                       '(.*?)</td><td role="cell">(.*?)</td>',
+                       room.text("pages/index.html").replace("<wbr/>", "").replace(room.folder, ".."))
     return [(re.sub('<a href="(.*)">(.*)</a>', r"\2@\1", name), whole, why) for name, whole, why in found]
 
 
@@ -86,18 +95,19 @@ def test_sides_of_two_scans(room):
     room.write("more/odd.vbi.json", "[")
     room.scan("--html pages nas")
     assert [one[:2] for one in listed(room)] == [
-        ("odd.vbi.json", "fault"), ("cav/1.tbc@cav-1.html", "yes"), ("clv/1.tbc@clv-1.html", "yes")]
+        ("odd.vbi.json", "not read"), ("cav/1.tbc@cav-1.html", "yes"), ("clv/1.tbc@clv-1.html", "yes")]
     os.unlink(room.named("nas/clv/1.tbc"))
     os.unlink(room.named("more/odd.vbi.json"))
     index = room.text("pages/index.html")
     room.write("pages/index.html", index.replace('ldvbi-faults" content="[', 'ldvbi-faults" content="[1, [1, 2, 3], '))
     room.scan("--html pages more")
     assert [one[:2] for one in listed(room)] == [
-        ("lost.tbc@lost.html", "no"), ("odd.vbi.json", "fault"), ("../more/cav/1.tbc@cav-1-2.html", "yes"),
+        ("lost.tbc@lost.html", "no"), ("odd.vbi.json", "not read"), ("../more/cav/1.tbc@cav-1-2.html", "yes"),
         ("../nas/cav/1.tbc@cav-1.html", "yes"), ("clv/1.tbc@clv-1.html", "gone")]
     assert listed(room)[-1][-1] == "../nas/clv/1.tbc isn&#x27;t there any longer; whole: yes"
-    assert "<h1>5 sides, whole: 2 yes, 1 no, 0 can&#x27;t tell, 1 fault, 1 gone</h1>" in room.text("pages/index.html")
-    assert "<h1>cav/1.tbc</h1>" in room.text("pages/cav-1-2.html")
+    assert "<h1>5 sides, whole: 2 yes, 1 no, 0 can&#x27;t tell, 1 not read, 1 gone</h1>" in room.text(
+        "pages/index.html")
+    assert "<h1>cav/<wbr/>1.<wbr/>tbc</h1>" in room.text("pages/cav-1-2.html")
     os.unlink(room.named("nas/odd.vbi.json"))  # which has no page
     # a page of another version isn't listed, nor is an index, or what says the same elsewhere
     text = room.text("pages/cav-1.html").replace("nas/cav", "nas/x")
@@ -116,7 +126,7 @@ def page_of(room):
 
 def grows(task):
     """Reads a side, of which something is written meanwhile."""
-    answer = answer_of(task)
+    answer = scanned(task)
     os.utime(task.path + ".json")
     return answer
 
@@ -142,7 +152,7 @@ def test_a_page_that_is_newer(room):
     for words, wanted in (("", YES), ("--again", NO), ("", NO)):
         assert room.row("--html pages side.tbc " + words) == wanted
     assert "from 1 to 8" in room.text(page)
-    assert re.search('<a href="side.html">side.tbc</a></td><td class="no" [^<]*>no</td>', room.text("pages/index.html"))
+    assert [one[:2] for one in listed(room)] == [("side.tbc@side.html", "no")]
 
 
 def test_options(drawn):
@@ -167,7 +177,7 @@ def test_copies(drawn):
     drawn.scan("--html pages a c.tbc")
     status, text, said = drawn.scan("--csv --html pages --into one a c.tbc")
     assert (status, said, text.split("\n")[2]) == (
-        2, "", 'a/2.tbc,fault,,,,,,,,,,,"has 61 whole fields, and a/2.tbc.json has 60"')
+        2, "", 'a/2.tbc,fault,,,,,,,,,,,"has 61 whole fields, and a/2.tbc.json has 60",,')
     assert [drawn.names("one"), drawn.names("one/a")] == [["a", "c.tbc.json"], ["1.tbc.json"]]
     for path, words, said, wanted in (
             ("one/a/1.tbc.json", "--into one a", "believed", [0, 0xF00005, 0]),
@@ -267,9 +277,9 @@ def test_refused(drawn):
                         ("side.vbi.json: a document has its system and levels; they are options for a TBC file",
                          "side.vbi.json LEVELS")):
         drawn.refused(text, "scan " + words)
-    assert drawn.row("--into copies side.tbc").split(",")[-1] == "copies/side.tbc.json is no file"
+    assert drawn.row("--into copies side.tbc").split(",")[-3] == "copies/side.tbc.json is no file"
     status, text, said = drawn.scan("--csv sides")
-    assert (status, said, [row.split(",")[-1] for row in text.split("\n")[1:-1]]) == (
+    assert (status, said, [row.split(",")[-3] for row in text.split("\n")[1:-1]]) == (
         2, "", ["is no file", "is no file", "sides/3.tbc.json is no file"])
     drawn.refused("sides/3.tbc.json is no file", "sides/3.tbc")
     assert page_of(drawn) == "pages/side-2.html"
@@ -293,7 +303,7 @@ def test_two_scans_at_once(room):
         write(folder, *rows)
 
     with contextlib.chdir(room.folder), mock.patch.object(_Folder, "write_index", later):
-        scan(["--html", "pages", "a"], answer_of)
+        scan(["--html", "pages", "a"], scanned)
     assert re.findall(r'href="([^"]*)"', room.text("pages/index.html")) == ["1.html", "2.html"]
 
 

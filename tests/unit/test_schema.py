@@ -34,7 +34,7 @@ SIDES = """
 """
 # Captures that have each form of a member together
 TOGETHER = (("1..50 151..170 71..100", "1..98"), ("1..3 6..8", "6..9", "1..3"), ("m58..59x3000", "m58..59x3000"),
-            ("NTSC t0..4499!7%1000", "NTSC t0..4499!7%1000 -1:200 401=-/-/-"))
+            ("NTSC t0..4499!7%1000", "NTSC t0..4499!7%1000 -1:200 401=-/-/-"), ("1..9 5=S/#3/#3", "2..9"))
 # White, the width of a line, and the first column before which no level is held too long; and fields with each cause,
 # with the least and the greatest columns, and with each pass, as described.py makes them
 SYSTEMS = {
@@ -129,7 +129,8 @@ def answers():
     yield made(" ".join("-/#%d/#%d B" % (number, number + 1000) for number in range(60)))  # a second row
     yield analyse(made("1..2 ? B 4..6", plain)._replace(nearest_word=lambda *_: 0xF00003))  # a confirmed number
     yield made("1..30 11..20 31..60")  # a detour
-    yield analyse(made("1..8", plain)._replace(may_end=False))
+    yield made("1..9 5=S^/#3/#3")  # a worn stop
+    yield analyse(made("1..8", plain)._replace(may_end=False, given_last="9", sequential=9))
     yield analyse(made("1..3 Bx2 5..8", plain)._replace(pad=[field in (6, 7) for field in range(16)]))
     yield analyse(made("Bx3", plain)._replace(
         try_levels=lambda: Tried(6, 0, 16384, 51200, Best("NTSC", None, 30000, 6))))
@@ -152,7 +153,7 @@ def test_answers(kind, make):
 def test_scans(room):
     """Of sides of which some weren't read."""
     for name in ("side.tbc", "worn.tbc", "absent.tbc"):
-        room.add(name, "1..2")
+        room.add(name, "83D0A1/-/- 1..2")
     os.unlink(room.named("absent.tbc"))
     for kind, words in (("read", "--html pages side.tbc worn.tbc"), ("failed", "absent.tbc no")):
         each_place(schema_of("-scan"), read_table("version 2", kind), [json.loads(room.scan("--json " + words)[1])])

@@ -23,7 +23,8 @@ SOUGHT = """
         | 0:00:00.00: the side counts pictures, not times | 0:00: the side counts pictures, not minutes
     t103450..103549 | 1:08:59.25: no clock shows it | 1:08:60: no clock shows it | 1:60: no clock shows it
         | 1:9:1.3: 157 79 | 1:10: the numbers end at 1:09:01.24, in field 199
-        | 69: the side counts times, not pictures | 0:01:09.00: lost before field 1
+        | 69: the side counts times, not pictures
+        | 0:01:09.00: lost before field 1; time 1:08:58.00 is in field 1
     t1500..1529 t1510..1539 31=?/?/? | 0:01:00.15: 71 36 | 0:01:00: 1 1
     t103450..103549 101=?/?/? | 1:09: 101 51, by the numbers around it: no number was read there
     m69..70x3000 | 1:10: 3001 1501 | 1:11: the numbers end at 1:10, in field 3001
@@ -37,11 +38,15 @@ SOUGHT = """
         | chapter 2: chapter 3 follows chapter 1 in field 22, and fields are lost before it
     Lx2 1..40 4:82/2=-/c5/c5 Ox2 Lx2 1..40 88:166/2=-/c3/c3 | chapter 4: no field shows it
     PAL/1 1..20 -1 | 2: 2 1 | chapter 0: 1 0
-    1..11 14..30 41=-/c0/c0 | 12: lost after field 21 | 23: unread after field 39
-    f1..30 24=-/c0/c0 | 10: lost or unread after field 21
-    NTSC t0..1 t3..4 | 0:00:00.02: lost, unread or skipped by the disc itself after field 3
-    NTSC t0..2409!400%1001 | 0:00:13.10: skipped by the disc itself after field 799
-    m0x3000 m5..6x3000 | 0:03: lost after field 1 || Lx2 1..20 Ox2 Lx2 41..60 | 30: no field shows it
+    1..11 14..30 41=-/c0/c0 | 12: lost after field 21; picture 11 is in field 21, picture 14 in field 23
+        | 23: unread after field 39; picture 22 is in field 39, picture 24 in field 43
+    f1..30 24=-/c0/c0 | 10: lost or unread after field 21; picture 9 is in field 21, picture 11 in field 26
+    NTSC t0..1 t3..4 | 0:00:00.02: lost, unread or skipped by the disc itself after field 3;
+        time 0:00:00.01 is in field 3, time 0:00:00.03 in field 5
+    NTSC t0..2409!400%1001 | 0:00:13.10: skipped by the disc itself after field 799;
+        time 0:00:13.09 is in field 799, time 0:00:13.11 in field 801
+    m0x3000 m5..6x3000 | 0:03: lost after field 1; minute 0:00 is in field 1, minute 0:05 in field 3001
+    Lx2 1..20 Ox2 Lx2 41..60 | 30: no field shows it; picture 20 is in field 41, picture 41 in field 47
     Bx10 | 3: no number of the side is believed | chapter 1: no chapter of the side is believed
 """
 
@@ -159,14 +164,20 @@ SUMMARIES = """
         picture 6 after field 9, picture 8 after field 13 and 1 more) | jumps: 1 (picture 30 to 21 in field 67)
         | stills: 1 (picture 10 in fields 19 to 25) | shown again: 2 (picture 10 in field 21, pictures 21 to 30 in field
         67)
-    n0..3x3000 -3501:4500 | lost fields: 1000 (at least 1000, between fields 3001 and 5000)
-    m9..11x3000 | lost: 9 (minutes 0:00 to 0:08 before field 1) | lost fields: 27000 (at least 27000 before field 1)
+    n0..3x3000 -3501:4500 | lost fields: at least 1000 (at least 1000, between fields 3001 and 5000)
+    m9..11x3000 | lost: 9 (minutes 0:00 to 0:08 before field 1) | lost fields: at least 27000 (at least 27000
+        before field 1)
+    NTSC f1..60 f66..120 | lost fields: at least 12 (at least 12 after field 149)
+    b1..60 b66..120 | whole: no: at least 10 fields lost; 5 pictures lost | lost fields: at least 10 (at least 10 after
+        field 120)
     PAL/1500 n0..2x3000 | lost fields: 1 (1 or more after field 1499)
     PAL/31,32 1..30 -41:44 | lost fields: 4 (4 after field 39), undecided: 2 (lost or shown again after field 30, lost
         or shown again after field 31)
     1..30 4:60/2.16=8DC0A1 2=8BA0A1/88FFFB/800DDD 6=83D00F/800DDD/F00E81*
         | unknown words: 2 (88FFFB in field 2 line 17, F00E81 in field 6 line 18)
         | programme status: 29 (CX off 0A1 in 1 field, CX on 0A1 in 28 fields), users' codes: 1 (3 00F in 1 field)
+    1..9 3=S/#2/#2 5=S^/#3/#3 | picture stops: 1 (picture 2 in field 3), unsure: 1 (picture 3 in field 5)
+        | codes out of place: none
     NTSC f1..30 | whole: yes | system: NTSC, CAV, film (2 and 3 fields a picture)
     NTSC t0..1 t3..4 | system: NTSC, CLV | unread: none, undecided: 1 (time 0:00:00.02 after field 3)
     NTSC t0..5999!400%1001 | skipped by the disc itself: 6
@@ -195,7 +206,7 @@ def test_levels():
     system = "--system PAL --black 16384 --white 51200, without --meta (200 lines read, now 10 of 200)"
     for text, best, shown, advice in (
             ("Bx4", None, blank, "lower black and white, if the side has codes at all"),
-            ("-/#3^/#3^x30", None, "0 words of their own, 60 are bad, 0 blank", noise),
+            ("-/?/!x30", None, "0 words, 60 are bad, 0 blank", noise),
             ("Bx4", (None, None, 30000, 98), blank, "--white 30000 (98 lines read, now 10 of 200)"),
             ("Bx4", ("PAL", None, None, 200), blank, system)):
         answer = made(text, typed)
@@ -209,11 +220,22 @@ def test_levels():
         assert (list(summary(one.analysis.answer))[7] == "try: another system, or this file's own metadata") == is_other
 
 
-def test_at_most_26_lines():
+def test_what_metadata_counts():
+    """A line, if numberOfSequentialFields isn't the count of its fields, or that of the file."""
+    for sequential, fields, text in ((8, 8, None), (None, 9, None), (9, 8, "9, and it has 8"),
+                                     (9, 9, "9, and it has 9"), (8, 9, "8, and it has 9")):
+        one = made("1..4", side)
+        one.sequential, one.expected = sequential, fields
+        assert [line for line in summary(one.analysis.answer) if line.startswith("metadata: ")] == (
+            ["metadata: numberOfSequentialFields says %s fields" % text] if text else [])
+
+
+def test_at_most_27_lines():
     known = made("NTSC t0..8999!400%1001 -101:110 1:17972/2.17=@2:20*", typed)  # a second row of numbers on line 17
-    known = known._replace(levels=FewWords("bad", 1, 9, 1, 1, 17, None), swapped=[Swapped(1, "2:20:00.00")])
+    known = known._replace(levels=FewWords("bad", 1, 9, 1, 1, 17, None), sequential_fields=1, metadata_fields=2,
+                            swapped=[Swapped(1, "2:20:00.00")])
     lines = list(summary(known))
-    assert (len(lines), MOST_LINES) == (26, 26)
+    assert (len(lines), MOST_LINES) == (27, 27)
     assert [line for line in lines if line.startswith("a second row of numbers, not taken: 2:20:")]
 
 

@@ -44,6 +44,8 @@ DETOURS = """
     inserted inserted | 1..200 41..60 201..220 381..400 221..500 | no lost breaks missing unread doubtful
         | said no: 2 detours (the first: fields 401 to 440 show pictures 41 to 60)
         | detours inserted 401-440 41-60, inserted 481-520 381-400
+    inserted | t0..999 t1500..1999 t1000..2499 | no lost breaks missing unread
+        | said no: 1 detour (fields 2001 to 3000 show times 0:01:00.00 to 0:01:19.24)
     inserted | NTSC f1..100 f41..60 f101..200 | said no: 1 detour (fields 251 to 300 show pictures 41 to 60) | no lost
     replaced | 1..60 40061..40070 71..140 | no lost breaks unread | missing 61-70 undecided | doubtful x20 | count 130
         | said can't tell: fields 121 to 140 show pictures 40061 to 40070, misread or played in the place of others; 1..
@@ -77,6 +79,40 @@ def test_detours(kinds, cells):
     check_row(kinds, *cells)
 
 
+# Sides whose last number is given: 90 of 100 pictures; one whose last picture lacks a field; greater ones; other
+# notations. Part of a time is any of its numbers: the least one is lost. Fields behind the last number may have others,
+# and lead-out may begin with its second field. Of two times less an unknown clock may leave out one. Minute 2 is lost
+# as a whole, and of minute 3 a field at least. A player that went back lost what comes after the greatest number.
+LASTS = """
+    100 | 1..90 | said no: 20 fields lost; 10 pictures lost | missing 91-100 lost | lost 180-181 20 number
+    100 | Lx4 1..90 Ox4 | said no: 20 fields lost; 10 pictures lost | lost 184-185 20 number
+    90 | 1..90 Bx300 | said yes || 90 | 1..90 | said yes | givenLast 90 || 90 | 1..89 90x10 Ox4 | said yes
+    90 | 1..90 -180 | said no: 1 field lost | lost 179-180 1 number | no missing || 90 | 1..90 180=O Ox3 | said yes
+    90 | 1..93 | said can't tell: it ends at 93, after 90 that was given as the last | no missing lost
+    0:03 | 1..93 | said can't tell: 0:03, given as the last, is none of its numbers || 93 | t0..59 | reasons last
+    0:75:00 | t0..59 | reasons last || 0:00:00.25 | t0..59 | reasons last || 7 | Bx9 | reasons numbers
+    0:00:02 | t0..59 | said yes || 0:00 | t0..59 | said yes || 0:00:01 | t0..59 | reasons last
+    0:00:03 | t0..59 | said no: at least 32 fields lost; 16 times lost | missing 0:00:02.10-0:00:03.00 lost
+    100 | 1..90 Bx20 | said can't tell: 10 pictures undecided | no lost || 100 | 1..90 ?x20 | said yes
+        | missing 91-100 unread || 100 | 1..90 Bx6 | said no: 14 fields lost; 10 pictures undecided
+    20 | NTSC f1..10 | said no: at least 25 fields lost; 10 pictures lost | lost 25-26 25 number
+    20 | b1..10 | lost 20-21 20 number || 20 | b1..20 | said yes || 20 | b1..20 -40 | said yes
+    0:01:00.02 | NTSC t1..1799 | lost 3598-3599 2 number | missing 0:01:00.00-0:01:00.02 undecided
+    0:00:02.02 | NTSC t0..59 | lost 120-121 4 number | missing 0:00:02.00-0:00:02.02 lost
+    0:03:00.02 | NTSC t2..5399!0,1%1800 | lost 0-1 2 number, 10788-10789 2 number | missing .., 0:03:00.02 lost
+    0:03 | m0..1x3000 | missing 0:02-0:03 lost | lost 6000-6001 3001 number || 0:01:30 | m0..1x3000 | no lost missing
+    100 | 1..90 51..60 | said no: 20 fields lost; 1 jump (back); 10 pictures lost | lost 180-181 20 number
+    100 | 1..97 | lost 194-195 6 number || 99 | Lx2 1..97 Ox2 | is_strict | said no: 4 fields lost; 2 pictures lost
+    97 | Lx2 1..97 | is_strict | said yes
+"""
+
+
+@pytest.mark.parametrize("last, row, cells", [(last, row, cells) for last, row, *cells in cells_of(LASTS)])
+def test_last(last, row, cells):
+    is_strict = cells[0] == "is_strict"
+    check_row(last, row, *cells[is_strict:], given_last=last, is_strict=is_strict)
+
+
 def test_seconds_alone():
     """Of a disc whose clock leaves out numbers just one time a second is read: too few for the library. So each place
     may be a loss, or the clock's."""
@@ -104,7 +140,8 @@ def test_what_stands_beside_entries():
     assert found["stops"] == [{"field": 4, "frame": 2, "number": 3, "lines": [16, 17]},
                               {"field": 15, "frame": 7, "number": 8, "lines": [16, 17, 18]},
                               {"field": 20, "frame": 10, "number": None, "lines": [16]}]
-    assert [one["pass"] for one in found["stray"]] == [2, 3]
+    assert [one["pass"] for one in found["stray"]] == [2]
+    assert found["unsureStops"] == [{"field": 3, "frame": 1, "number": 2, "lines": [17]}]
 
 
 def test_an_unknown_clock_of_numbers_on_both_fields():
@@ -119,7 +156,7 @@ def test_an_unknown_clock_of_numbers_on_both_fields():
                             ("NTSC t0..4500!400", (800, 801, 2), "number")):
         found = on_both(text)
         assert (found["pace"], found["whole"]) == ("both", "no" if why == "number" else "can't tell")
-        assert [tuple(one.values()) for one in found["lost"]] == [(*lost, why)]
+        assert [tuple(one.values()) for one in found["lost"]] == [(*lost, why, True)]
 
 
 def test_a_library_without_a_clock(monkeypatch):
@@ -238,11 +275,22 @@ def test_bad_lines():
 def test_what_else_is_known():
     for more, said in (({"expected": 68}, "yes"), ({"expected": 67}, "yes"),
                        ({"expected": 69}, "no: 68 fields of 69 that the metadata has"),
-                       ({"cut": Cut(69, 5)}, "no: field 69 is cut")):
+                       ({"cut": Cut(69, 5)}, "yes")):
         check_row("known", "Lx4 1..30 Ox4", "said " + said, **more)
+    for text, said in (("Lx4 1..30", "no: field 65 is cut"), ("1..9 Ox5 10..28", "no: lead-out in field 19, and ..")):
+        check_row("cut before lead-out", text, "said " + said, cut=Cut(65, 5))
+    check_row("worn, and whole", "<1..200 -/#N^/#N^ -/?/!>", "said yes", "levels")
     check_row("a cut field alone", "B", "said no: field 2 is cut; no picture number and no time", cut=Cut(2, 5))
     known = made("NTSC t0..20 t22..40", typed)
     assert [counted_by(known, why) for why in ("undecided", "lost")] == [1, 0]
+
+
+def test_stops_of_a_map():
+    """One that is worn may be one; what is no number's has none."""
+    known = made("1..9 5=S^/#3/#3 7=S/#4/#4", typed)
+    assert [row for row in map_rows(known) if row[0] == "stop"] == [
+        ("stop", 3, 5, 3, "unsure"), ("stop", 4, 7, 4, "read")]
+    assert (5, 16) in known.aside()
 
 
 def test_the_order_of_all_reasons():

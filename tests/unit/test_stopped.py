@@ -148,7 +148,7 @@ def test_faults_that_nobody_thought_of(room, capsys, name, sides, read, fault):
     room.add("1.tbc")
     with contextlib.chdir(room.folder), mock.patch("ldvbi_side.command.scan.sides_in", sides):
         assert scan(["--csv", "--into", "copies", "1.tbc"], read) == 2
-    assert capsys.readouterr().out.split("\n")[1:] == [name + ",fault" + "," * 11 + fault, ""]
+    assert capsys.readouterr().out.split("\n")[1:] == [name + ",fault" + "," * 11 + fault + ",,", ""]
     assert not [*pathlib.Path(room.folder).rglob("*.part")]
 
 
@@ -181,11 +181,11 @@ def test_one_side_fails_and_the_others_are_read(room):
         room.add(name)
     os.mkfifo(room.named("2.vbi.json"))
     process = scanning(room, "-j 1 --html pages . 2.vbi.json")
-    assert process.stdout.readline() == b"./1.tbc,yes,0,0,cav,1,30,30,0,1,61,,\n"
+    assert process.stdout.readline() == b"./1.tbc,yes,0,0,cav,1,30,30,0,1,61,,,NTSC,\n"
     with room.opened_by(process, "2.vbi.json"):
         os.kill(children(process.pid)[0], signal.SIGKILL)
-        room.ended(process, 2, b"./2.vbi.json,fault,,,,,,,,,,,its process was ended by SIGKILL\n"
-                               b"./3.tbc,yes,0,0,cav,1,30,30,0,1,61,,\n")
+        room.ended(process, 2, b"./2.vbi.json,fault,,,,,,,,,,,its process was ended by SIGKILL,,\n"
+                               b"./3.tbc,yes,0,0,cav,1,30,30,0,1,61,,,NTSC,\n")
     assert room.names("pages") == ["1.html", "3.html", "index.html"]
     process = scanning(room, "-j 2 . 2.vbi.json")
     process.stdout.close()  # there is no reader any longer
@@ -194,7 +194,7 @@ def test_one_side_fails_and_the_others_are_read(room):
 
 @pytest.mark.parametrize("number, to_all, status, row, left", (
     (signal.SIGINT, True, 130, b"", []), (signal.SIGHUP, False, 129, b"", []),
-    (signal.SIGKILL, False, 2, b"1.tbc,fault,,,,,,,,,,,its process was ended by SIGKILL\n", ["index.html"])))
+    (signal.SIGKILL, False, 2, b"1.tbc,fault,,,,,,,,,,,its process was ended by SIGKILL,,\n", ["index.html"])))
 def test_while_a_page_is_written(room, number, to_all, status, row, left):
     """By Ctrl-C, which all processes get, by a signal to the first one, or to the one that writes. None is left."""
     worn = line_with(0xF00001, NTSC, [(430, 441, False)])

@@ -111,6 +111,20 @@ def test_what_is_printed(room):
     assert "out.tbc" not in room.names()
 
 
+def test_the_last_number_is_given(room):
+    """The capture has 24 pictures with all their fields, and no lead-out."""
+    draw(room.named("a.tbc"), VIDEO, VIDEO.order[:-6])
+    lacks = "whole: no: 4 fields lost; 2 pictures lost"
+    for words, status, head in (
+            ("write out.tbc a.tbc --last 26", 1, lacks), ("write new.tbc a.tbc --last 24", 0, "whole: yes"),
+            ("a.tbc --last 24", 0, "whole: yes"), ("a.tbc --last 26", 1, lacks),
+            ("scan a.tbc --last 24", 0, "side "), ("scan a.tbc --last 26", 1, "side ")):
+        found, text, _ = room.run_words(words)
+        assert found == status and text.startswith(head) and "otherwise" not in text, words
+    assert "a.tbc: has 24, none of them alone, lacks none, whole: no" in room.run_words(
+        "join a.tbc new.tbc --last 25")[1]
+
+
 @pytest.mark.parametrize("form", ["json", "db"])
 def test_an_output_is_written_again(room, form):
     """Alone it stays the same, byte for byte; another capture fills its padding as if both had been there at first."""

@@ -6,7 +6,7 @@ use thiserror::Error;
 use vbi_meta::MetaFault;
 
 /// What fails in the program itself, outside a job.
-#[derive(Clone, Copy, Debug, Error)]
+#[derive(Clone, Copy, Debug, PartialEq, Eq, Error)]
 pub(crate) enum MainFault {
     /// A word of the command line isn't text.
     #[error("arguments are not UTF-8")]

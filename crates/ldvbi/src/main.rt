@@ -9,10 +9,10 @@ use std::fs::File;
 use std::io::{Read, Write};
 use std::process::ExitCode;
 use std::rt::{Env, Files};
-use std::{env, io};
-use vbi_cli::{Input, Job, Source, WordsFault, do_command, read_words, settle, status};
+use std::{env, fs, io};
+use vbi_cli::{AppFault, Input, Job, Source, WordsFault, do_command, read_words, settle, status};
 use vbi_field::Outlet;
-use vbi_meta::META_LIMIT;
+use vbi_meta::{META_LIMIT, MetaFault};
 
 fn main(rt: HostRuntime) -> ExitCode {
     ExitCode::from(run(&rt))
@@ -76,7 +76,13 @@ fn complain(rt: &impl Eprint, fault: MainFault) -> u8 {
 
 /// Opens what the job names, does the job, and answers the status.
 fn run_with_files(rt: &HostRuntime, job: &Job) -> Result<u8, MainFault> {
-    let meta = metadata_of(rt, job)?;
+    let beside = name_beside(rt, job)?;
+    let meta = match metadata_of(rt, job, beside.as_ref()) {
+        Ok(meta) => meta,
+        Err(fault) => return Ok(complain_of(rt, beside.as_ref(), fault)),
+    };
+    // A fault is the file's that nobody named only if there is one.
+    let beside = beside.filter(|_| meta.is_some());
     let mut input = match &job.input {
         None => Input::Standard(rt.stdin()),
         Some(path) => {
@@ -96,18 +102,60 @@ fn run_with_files(rt: &HostRuntime, job: &Job) -> Result<u8, MainFault> {
     };
     let flushed = output.flush();
     if let Err(fault) = &ended {
-        let _ = eprintln!(rt; "ldvbi: {fault}");
+        print_fault(rt, beside.as_ref(), fault);
     } else if flushed.is_err() {
         return Err(MainFault::FlushFailed);
     }
     Ok(status(&ended))
 }
 
+/// Prints the line of a job's fault. It names the metadata file that nobody named, if the fault is in that.
+fn print_fault(rt: &impl Eprint, beside: Option<&String>, fault: &AppFault) {
+    let _ = match (beside, fault) {
+        (Some(name), AppFault::Meta(fault)) if is_in_metadata(*fault) => {
+            eprintln!(rt; "ldvbi: {name}: {fault}")
+        }
+        _ => eprintln!(rt; "ldvbi: {fault}"),
+    };
+}
+
+/// Whether a fault may be one of the metadata: of the limit of fields it is one of the options, and memory is no fault
+/// of theirs.
+fn is_in_metadata(fault: MetaFault) -> bool {
+    !matches!(fault, MetaFault::BadMaxFields | MetaFault::OutOfMemory)
+}
+
+/// Prints that metadata can't be read, with the name of a file that nobody named, and answers the status.
+fn complain_of(rt: &impl Eprint, beside: Option<&String>, fault: MainFault) -> u8 {
+    match beside {
+        Some(name) if fault == MainFault::CannotReadMetadata => {
+            let _ = eprintln!(rt; "ldvbi: {name}: {fault}");
+            fault.status()
+        }
+        _ => complain(rt, fault),
+    }
+}
+
+/// The name of the metadata that may be beside the job's input, if the job looks there: that of the input, with
+/// `.json` after it.
+fn name_beside(rt: &impl AllocGlobal, job: &Job) -> Result<Option<String>, MainFault> {
+    match &job.input {
+        Some(input) if job.looks_beside() => format!(in rt.alloc(); "{input}.json")
+            .map(Some)
+            .map_err(|_| MainFault::OutOfMemory),
+        _ => Ok(None),
+    }
+}
+
 /// The bytes of the metadata file that the job names, or of the one beside its input, if there is one.
-fn metadata_of(rt: &HostRuntime, job: &Job) -> Result<Option<Vec<u8>>, MainFault> {
-    match (&job.meta, &job.input) {
+fn metadata_of(
+    rt: &HostRuntime,
+    job: &Job,
+    beside: Option<&String>,
+) -> Result<Option<Vec<u8>>, MainFault> {
+    match (&job.meta, beside) {
         (Some(path), _) => metadata(rt, path.as_str()).map(Some),
-        (None, Some(input)) if job.looks_beside() => metadata_beside(rt, input.as_str()),
+        (None, Some(path)) => metadata_beside(rt, path.as_str()),
         _ => Ok(None),
     }
 }
@@ -118,16 +166,16 @@ fn metadata(rt: &(impl Files + AllocGlobal), path: &str) -> Result<Vec<u8>, Main
     metadata_in(rt, file)
 }
 
-/// The bytes of the metadata of this input, which has its name and `.json` after it, if there is such a file.
+/// The bytes of a metadata file that nobody named, if there is such a file. A pipe or a device in its place might have
+/// the program wait for ever, so it isn't opened.
 fn metadata_beside(
     rt: &(impl Files + AllocGlobal),
-    input: &str,
+    path: &str,
 ) -> Result<Option<Vec<u8>>, MainFault> {
-    let path = format!(in rt.alloc(); "{input}.json").map_err(|_| MainFault::OutOfMemory)?;
-    match File::open(rt, path.as_str()) {
-        Ok(file) => metadata_in(rt, file).map(Some),
+    match fs::metadata(rt, path) {
+        Ok(found) if found.is_file() => metadata(rt, path).map(Some),
         Err(error) if is_absent(error.kind()) => Ok(None),
-        Err(_) => Err(MainFault::CannotReadMetadata),
+        _ => Err(MainFault::CannotReadMetadata),
     }
 }
 

@@ -61,5 +61,5 @@ module _ (number : ℕ → ℕ) (judging : Judging) (readings : List LdvbiFieldR
 
     pub clean_whole : side ≡ found_whole begin (begin + 2 * last)
     clean_whole = called_whole siding.numbering number seen begin last run.read.each run.read.others run.three
-        (λ p inside. (run.keeps p inside).0) numbers answers may_end ends is.clean.begun is.clean.ended side is.old
-        is.new found
+        (λ p inside. (run.keeps p inside).0) numbers answers may_end ends is.clean.begun is.clean.ended
+        is.clean.unpadded side is.old is.new found

@@ -6,6 +6,7 @@ mod OneRecovery
 pub mod RecordWords
 pub mod MarkedLines
 pub mod Sought
+pub mod Beside
 pub mod PartOfReadings
 mod Shown
 pub mod Leading
@@ -14,6 +15,7 @@ pub mod Seen
 pub mod Running
 pub mod CompletedTimes
 pub mod Placed
+pub mod ChapterPlaces
 mod NoneBeyond
 mod SidesCalled
 mod CleanJudged

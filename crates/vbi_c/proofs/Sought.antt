@@ -78,7 +78,7 @@ part_of search a i window after before = record {
     ]
 
 -- what is answered of field i of those in which the number is looked for is answered of it in the whole side
-judged_among : (search : Search) (a : Around) (pace : paces.Pace) (numbers : List Number) (i : ℕ) (n : Number)
+pub judged_among : (search : Search) (a : Around) (pace : paces.Pace) (numbers : List Number) (i : ℕ) (n : Number)
     → IsJudgedAround search a pace numbers → slice_get (among a numbers) i ≡ Some n
     → (a.from + i < a.to) × (slice_get numbers (a.from - a.first + i) ≡ Some n)
     × IsAnswer pace (all_shown search) (a.from + i) n
@@ -101,7 +101,7 @@ judged_among search a pace numbers i n judged is = (
         (omega (arith, long, judged.window.order)) is
 
 -- each of those is answered
-one_among : (search : Search) (a : Around) (pace : paces.Pace) (numbers : List Number) (i : ℕ) (none : Number)
+pub one_among : (search : Search) (a : Around) (pace : paces.Pace) (numbers : List Number) (i : ℕ) (none : Number)
     → IsJudgedAround search a pace numbers → a.from + i < a.to
     → slice_get (among a numbers) i ≡ Some (get_or (among a numbers) i none)
 one_among search a pace numbers i none judged inside = slice_get-get_or (among a numbers) i none (omega (
@@ -114,7 +114,7 @@ one_among search a pace numbers i none judged inside = slice_get-get_or (among a
 ))
 
 -- each of those is judged with all on which its answer depends
-judged_in : (search : Search) (a : Around) (pace : paces.Pace) (numbers : List Number) (t : ℕ)
+pub judged_in : (search : Search) (a : Around) (pace : paces.Pace) (numbers : List Number) (t : ℕ)
     → IsJudgedAround search a pace numbers → a.from ≤ t → t < a.to
     → IsJudgedIn search.seek search.bytes.now search.count t a.first (a.end - a.first) pace
 judged_in search a pace numbers t judged from to = record {

@@ -100,8 +100,6 @@ pub record AreJudged (judging : Judging) (readings : List LdvbiFieldReadings) (s
   pub answers : AreAnswers pace seen numbers
   pub read : (disc : ℕ → Words) (recorded : ℕ → Option ℕ) (i m n : ℕ) → slice_get numbers i ≡ Some (believed n)
       → IsRead judging.system judging.counted pace (map lines_in readings) disc recorded i m → n ≡ m
-  pub sound : (recorded : ℕ → Option ℕ) (i m n : ℕ) → slice_get numbers i ≡ Some (believed n)
-      → IsSound pace recorded seen i m → n ≡ m
   pub sound_still : (recorded : ℕ → Option ℕ) (i m n : ℕ) → slice_get numbers i ≡ Some (believed n) → pace ≡ Video
       → IsSoundStill recorded seen i m → n ≡ m
   pub due_sound : (recorded : ℕ → Option ℕ) (i n : ℕ) → slice_get numbers i ≡ Some (due n)

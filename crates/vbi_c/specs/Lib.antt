@@ -23,6 +23,9 @@ pub mod CleanSides
 pub mod DrawnSides
 pub mod Telling
 pub mod Leads
+pub mod Neighbours
 pub mod Completing
 pub mod Worked
 pub mod Plans
+pub mod StopSeeking
+pub mod ChapterSeeking

@@ -1,10 +1,10 @@
 -- The word that lines say together, as C sees it.
 use Rattle.std.specs.Prelude.{◌≡◌, ◌&&◌, ◌==◌, ℕ, ◌/◌, ◌*◌, Bool, nat_le, if◌then◌else◌, List, length, map, unwrap_or}
-use Rattle.std.specs.Prelude.{Result, Ok, Err, Option, ◌<◌, take, drop}
+use Rattle.std.specs.Prelude.{Result, Ok, Err, Option, ◌<◌}
 use Rattle.std.specs.List.{list_all, range_with_len}
-use Rattle.vbi_words.specs.Geometry.{line_bytes, line_at, width_of}
+use Rattle.vbi_words.specs.Geometry.{line_bytes, line_at}
 use Rattle.vbi_words.specs.declared.system.System as words
-use Rattle.vbi_near.specs.Candidates.{Row, row_of}
+use Rattle.vbi_near.specs.Candidates.{Row, row_of, marks_at}
 use Rattle.vbi_near.specs.Piled.{IsSaidTogether}
 use Rattle.vbi_c.specs.declared.erased.LdvbiErased.{LdvbiErased}
 use Rattle.vbi_c.specs.declared.setup.Setup.{Setup}
@@ -65,4 +65,4 @@ IsWordOf setup line known bytes list answer = (said : Option ℕ)
 -- the marks of the first lines lie one line after the other
 abbrev pub HasMarks : words.System → ℕ → List LdvbiErased → ℕ → List Bool → Type 0
 HasMarks system line list count marks = (place : ℕ) → place < count
-    → take (width_of system) (drop (width_of system * place) marks) ≡ line_marks list system place line
+    → marks_at system marks place ≡ line_marks list system place line

@@ -9,7 +9,7 @@ use crate::status::{DONE, Refusal};
 use vbi_side::{Number, Sightings, chapters_shown, judge_chapters};
 
 /// What a field's lines show of its chapter.
-fn chapters_in(readings: &LdvbiFieldReadings) -> Sightings
+pub(crate) fn chapters_in(readings: &LdvbiFieldReadings) -> Sightings
     ensures { result ≡ chapters_in readings.now }
 {
     let [_, line_17, line_18] = &readings.lines;

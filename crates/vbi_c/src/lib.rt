@@ -9,6 +9,8 @@
 //! between two calls, so calls from several threads don't meet.
 #![tactic(auto)]
 
+mod chapter_probing;
+mod chapter_seeking;
 mod chapters;
 mod clock;
 mod code;
@@ -24,6 +26,7 @@ pub mod laws;
 mod line;
 mod narrowing;
 mod nearest;
+mod neighbours;
 mod one_field;
 mod pace;
 mod piling;
@@ -36,14 +39,17 @@ pub mod refusal_laws;
 mod search;
 mod seeking;
 mod setup;
+mod side_bytes;
 mod sizes;
 mod status;
+mod stop_seeking;
 mod stops;
 mod version;
 pub mod whole_laws;
 mod whole_side;
 mod word;
 
+pub use chapter_seeking::ldvbi_seek_chapter;
 pub use chapters::ldvbi_judge_chapters;
 pub use clock::LdvbiClock;
 pub use code::{LdvbiCode, ldvbi_classify};
@@ -56,6 +62,7 @@ pub use format::ldvbi_format;
 pub use judging::{ldvbi_first_of, ldvbi_judge};
 pub use line::ldvbi_read_line;
 pub use nearest::{LdvbiNear, ldvbi_nearest};
+pub use neighbours::LdvbiNeighbour;
 pub use one_field::ldvbi_judge_field;
 pub use pace::ldvbi_find_pace;
 pub use piling::ldvbi_recover_pile;
@@ -68,6 +75,7 @@ pub use recovering::{
 };
 pub use seeking::{LdvbiSought, ldvbi_seek};
 pub use sizes::{ldvbi_field_bytes, ldvbi_line_bytes, ldvbi_line_samples, ldvbi_lines};
+pub use stop_seeking::{LdvbiPlace, ldvbi_next_stop};
 pub use stops::ldvbi_judge_stops;
 pub use version::{ldvbi_abi, ldvbi_version};
 pub use whole_side::{

@@ -11,7 +11,7 @@ ghost use Rattle.vbi_c.specs.Statuses.{status_of};
 use crate::erased::{FIRST_LINE, LAST_LINE, LdvbiErased, is_taken, mark_field};
 use crate::setup::{MOST_LINES, Setup, lines_setup};
 use crate::status::{DONE, Refusal};
-use vbi_near::recover_pile;
+use vbi_near::{marks_of_line, recover_pile};
 use vbi_words::System;
 
 /// The samples of the longest line, that of PAL.
@@ -119,18 +119,6 @@ fn put_marks(marks: &mut [bool], at: usize, line: &[bool])
     marks[at..at + line.len()].copy_from_slice(line);
 }
 
-/// The erased columns of one line of three.
-fn line_in(system: System, line: u32, all: &[bool]) -> &[bool]
-    requires long { length all.now ≡ 3 * width_of system }
-    requires line { IsTrue (is_code_line line) }
-    ensures marks { result.now ≡ take (width_of system) (drop (width_of system * (line - 16)) all.now) }
-    ensures long { length result.now ≡ width_of system }
-{
-    let width = system.width();
-    let row = width * (line - FIRST_LINE) as usize;
-    &all[row..row + width]
-}
-
 /// Marks the erased columns of this many lines of this number, one line after the other.
 fn mark_lines(system: System, line: u32, list: &[LdvbiErased], count: usize, marks: &mut [bool])
     requires few { count ≤ 28 }
@@ -146,7 +134,8 @@ fn mark_lines(system: System, line: u32, list: &[LdvbiErased], count: usize, mar
     let mut place = 0;
     for i in 0..count {
         place = mark_field(system, list, place, i, all);
-        put_marks(marks, width * i, line_in(system, line, all));
+        let place = (line - FIRST_LINE) as usize;
+        put_marks(marks, width * i, marks_of_line(system, all, place));
     }
 }
 

@@ -12,6 +12,7 @@ use crate::erased::{LdvbiErased, mark_field, with_erased};
 use crate::fields::{FIRST_ROW, LdvbiFieldReadings};
 use crate::reading::{LdvbiReading, outcome_for_c};
 use crate::setup::{Setup, fields_setup, rows_setup};
+use crate::side_bytes::SideBytes;
 use crate::status::DONE;
 use vbi_near::{Recovered, recover_rows};
 use vbi_words::System;
@@ -70,6 +71,15 @@ pub(crate) fn recover_whole(setup: &Setup, field: &[u8]) -> LdvbiFieldReadings
     ensures { result ≡ recovered_reading setup.now field.now }
 {
     recover_listed(setup, code_bytes(setup.system, field), &[])
+}
+
+/// What lines 16, 17 and 18 of a field of a side show, if no column is erased.
+pub(crate) fn recover_field(side: &SideBytes, i: usize) -> LdvbiFieldReadings
+    requires { i < side.now.count }
+    ensures { result ≡ recovered_reading side.now.setup (field_in side.now.setup.system side.now.bytes.now i) }
+{
+    let size = side.setup.system.field_bytes();
+    recover_whole(&side.setup, &side.bytes[size * i..size * i + size])
 }
 
 /// The bytes of a field of a stream, counted from 0.

@@ -15,12 +15,14 @@ ghost use Rattle.vbi_side.specs.declared.pace.Pace as paces;
 ghost use Rattle.vbi_side.specs.Numbers.{IsFirst};
 ghost use Rattle.vbi_c.specs.Leads.{IsFirstKnown, IsPlaced, IsComplete};
 ghost use Rattle.vbi_c.specs.Searches.{IsPart, IsWindow, IsJudgedAround, among};
-ghost use Rattle.vbi_c.specs.Seeking.{seek_of, probed_most, IsSought, IsSoughtIn};
+ghost use Rattle.vbi_c.specs.Neighbours.{IsBefore, IsAfter, IsLookedFor, AreAround, AreBeside};
+ghost use Rattle.vbi_c.specs.Seeking.{seek_of, shown_of, probed_most, IsSought, IsSoughtIn};
 ghost use Rattle.vbi_c.specs.Statuses.{status_of};
 
 use crate::halving::{LEFT, place_of};
 use crate::judging::{asked_of, pace_for, with_pace};
 use crate::narrowing::Between;
+use crate::neighbours::{LdvbiNeighbour, first_higher, last_lower, neighbour_at};
 use crate::pace::pace_for_c;
 use crate::probing::{NOTHING_SEEN, PROBE, see_from};
 use crate::search::{Looked, Search, Seek};
@@ -41,10 +43,14 @@ pub struct LdvbiSought {
     pub pace: u32,
     /// How many fields were read.
     pub looked: u32,
+    /// The nearest lower number that is believed of the fields in which the number was looked for.
+    pub before: LdvbiNeighbour,
+    /// The nearest higher one.
+    pub after: LdvbiNeighbour,
 }
 
 // As include/ldvbi.h has it.
-const _: () = prove!(size_of::<LdvbiSought>() == 24);
+const _: () = prove!(size_of::<LdvbiSought>() == 56);
 
 /// The number is looked for in this many fields more than it is sought between, before and after them.
 const BESIDE: usize = 24;
@@ -85,7 +91,8 @@ struct Around {
 fn fields_around(search: &Search, place: &Between) -> Around
     requires { IsPart search.now place.now }
     ensures window { IsWindow search.now.count result }
-    ensures reached { (t : ℕ) → IsPlaced t place.now → t < search.now.count → (result.from ≤ t) × (t < result.to) }
+    ensures reached { (t : ℕ) → IsPlaced t place.now → AreAround search.now.count t result.from result.to }
+    ensures wide { (result.from + 24 ≤ result.to) ⊎ ((result.from ≡ 0) × (result.to ≡ search.now.count)) }
     ensures early { (0 < result.from) → result.from < place.now.low }
 {
     let from = place.low.saturating_sub(BESIDE);
@@ -141,6 +148,32 @@ fn first_among(around: &Around, numbers: &[Number], number: u32) -> Option<usize
     Some(at)
 }
 
+/// The nearest lower number and the nearest higher one that are believed of the fields in which the number is looked
+/// for.
+fn neighbours_among(
+    search: &Search,
+    around: &Around,
+    numbers: &[Number],
+) -> (LdvbiNeighbour, LdvbiNeighbour)
+    requires window { IsWindow search.now.count around.now }
+    requires places { length numbers.now ≡ around.now.end - around.now.first }
+    ensures before { (pace : paces.Pace) → IsJudgedAround search.now around.now pace numbers.now
+        → IsBefore pace (shown_of search.now.seek search.now.bytes.now search.now.count) search.now.count
+        around.now.from around.now.to search.now.number result.0 }
+    ensures after { (pace : paces.Pace) → IsJudgedAround search.now around.now pace numbers.now
+        → IsAfter pace (shown_of search.now.seek search.now.bytes.now search.now.count) search.now.count
+        around.now.from around.now.to search.now.number result.1 }
+{
+    let (from, to) = (around.from - around.first, around.to - around.first);
+    let told = &numbers[from..to];
+    let before = last_lower(told, search.number);
+    let after = first_higher(told, search.number);
+    (
+        neighbour_at(told, around.from, search.count, before),
+        neighbour_at(told, around.from, search.count, after),
+    )
+}
+
 /// Looks for the number in the fields around its place.
 fn look_around(search: &Search, place: &Between, mut looked: Looked) -> LdvbiSought
     requires part { IsPart search.now place.now }
@@ -149,23 +182,31 @@ fn look_around(search: &Search, place: &Between, mut looked: Looked) -> LdvbiSou
     ensures complete { (t : ℕ) (pace : paces.Pace)
         → IsFirstKnown search.now.seek search.now.bytes.now search.now.count search.now.number t pace
         → IsPlaced t place.now → result.field ≡ t }
+    ensures beside { (pace : paces.Pace) × (from to : ℕ)
+        × IsLookedFor search.now.seek search.now.bytes.now search.now.count search.now.number result pace from to
+        × ((t : ℕ) → IsPlaced t place.now → AreAround search.now.count t from to) }
 {
     let around = fields_around(search, place);
     let mut all_numbers = [NO_NUMBER; AROUND];
     let numbers = &mut all_numbers[..around.end - around.first];
     let pace = judge_around(search, &around, numbers, &mut looked);
+    let (before, after) = neighbours_among(search, &around, numbers);
     match first_among(&around, numbers, search.number) {
         Some(at) => LdvbiSought {
             field: around.from + at,
             number: numbers[around.from - around.first + at],
             pace: pace_for_c(pace),
             looked: looked.fields,
+            before,
+            after,
         },
         None => LdvbiSought {
             field: search.count,
             number: NO_NUMBER,
             pace: 0,
             looked: looked.fields,
+            before,
+            after,
         },
     }
 }
@@ -190,6 +231,8 @@ pub extern "C" fn ldvbi_seek(
         IsSought seek bytes.now number sought.new) }
     ensures complete { IfOk (seek_of system black white counted pace) (λ seek.
         IsComplete seek bytes.now number sought.new) }
+    ensures neighbours { IfOk (seek_of system black white counted pace) (λ seek.
+        AreBeside seek bytes.now number sought.new) }
     ensures unwritten { result ≢ 0 → sought.new ≡ sought.old }
 {
     match seek_of(system, black, white, counted, pace) {

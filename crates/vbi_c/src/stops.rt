@@ -9,7 +9,7 @@ use crate::status::{DONE, Refusal};
 use vbi_side::judge_stop;
 
 /// Whether a field's lines 16 and 17 show a stop that is to be believed.
-fn stop_in(readings: &LdvbiFieldReadings) -> u32
+pub(crate) fn stop_in(readings: &LdvbiFieldReadings) -> u32
     ensures { IsStopOf readings.now.lines result }
 {
     let [line_16, line_17, _] = &readings.lines;

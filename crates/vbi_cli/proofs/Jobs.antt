@@ -2,13 +2,13 @@
 use Rattle.std.proofs.Common.{◌≡◌, subst, ℕ, Bool, List, Option, Result, Ok, Err, IfOk}
 use Rattle.vbi_field.specs.ConfigView.{ConfigView}
 use Rattle.vbi_field.specs.Extracts.{Extracts}
-use Rattle.vbi_field.specs.Texts.{document}
+use Rattle.vbi_field.specs.Texts.{Kind, document, recovered_document, whole_text}
 use Rattle.vbi_field.specs.Ran.{Counts, Ran}
 use Rattle.vbi_field.specs.declared.summary.RunFault.{RunFault}
 use Rattle.vbi_field.specs.declared.summary.Summary.{Summary}
-use Rattle.vbi_meta.proofs.DocumentReadings.{extracted}
-use Rattle.vbi_meta.specs.DocumentValue.{IsConfig}
-use Rattle.vbi_meta.specs.ReadBack.{ReadsBack}
+use Rattle.vbi_meta.proofs.DocumentReadings.{extracted, extracted_recovered}
+use Rattle.vbi_meta.specs.DocumentValue.{IsConfig, IsOfRun}
+use Rattle.vbi_meta.specs.ReadBack.{ReadsBack, RecoversBack}
 use Rattle.vbi_meta.specs.declared.choosing.Overrides.{Overrides}
 use Rattle.vbi_cli.specs.Jobs.{Counting, Did, ExtractsWords, Settles, Under, UnlessMeta, recovers}
 use Rattle.vbi_cli.specs.declared.command_line.Verb.{Verb}
@@ -17,28 +17,49 @@ use Rattle.vbi_cli.specs.declared.fault.AppFault.{AppFault}
 use Rattle.vbi_cli.specs.declared.fault.AppFault.TheVariants.{Meta}
 use Rattle.vbi_cli.specs.declared.job.Ended.{Ended}
 
+-- the whole text of a run is read back
+abbrev IsReadBack : Kind → (ConfigView → List ℕ → List ℕ → Type 0) → Type 0
+IsReadBack t Back =
+    (c : ConfigView) (z text : List ℕ) → IsOfRun c z → text ≡ whole_text t c z → Back c z text
+
 -- where a run of `extract` ended Ok, what a reader of JSON finds in its text are the words that the lines show
-read_back : (c : ConfigView) (input : Option (List ℕ)) (n : Counts) (result : Result Summary RunFault)
-    (z text : List ℕ) → IsConfig c → Extracts document c input n result z text
-    → IfOk result (λ summary. ReadsBack c z text)
-read_back c input n (Ok summary) z text numbers says =
-    let all = says.came in extracted c z text (record { config = numbers; within = all.within }) all.document
-read_back c input n (Err fault) z text numbers says = tt
+read_back : (t : Kind) (Back : ConfigView → List ℕ → List ℕ → Type 0) → IsReadBack t Back → (c : ConfigView)
+    (input : Option (List ℕ)) (n : Counts) (result : Result Summary RunFault) (z text : List ℕ) → IsConfig c
+    → Extracts t c input n result z text → IfOk result (λ summary. Back c z text)
+read_back t Back reads c input n (Ok summary) z text numbers says =
+    let all = says.came in reads c z text (record { config = numbers; within = all.within }) all.document
+read_back t Back reads c input n (Err fault) z text numbers says = tt
 
 -- what a run of `extract` did, with the words that a reader of JSON finds
-pub with_words : {c : ConfigView} {input0 input output0 output : Option (List ℕ)} {n : Counts}
+with_read : (t : Kind) (Back : ConfigView → List ℕ → List ℕ → Type 0) → IsReadBack t Back
+    → {c : ConfigView} {input0 input output0 output : Option (List ℕ)} {n : Counts}
     {result : Result Summary RunFault} → IsConfig c
-    → Ran input0 input output0 output n (Extracts document c input n result)
-    → Ran input0 input output0 output n (ExtractsWords c input n result)
-with_words {c = c} {input = input} {n = n} {result = result} numbers ran = record {
+    → Ran input0 input output0 output n (Extracts t c input n result)
+    → Ran input0 input output0 output n (ExtractsWords t Back c input n result)
+with_read t Back reads {c = c} {input = input} {n = n} {result = result} numbers ran = record {
   z = ran.z;
   text = ran.text;
   consumed = ran.consumed;
   appended = ran.appended;
   fetched = ran.fetched;
   written = ran.written;
-  says = record { says = ran.says; read_back = read_back c input n result ran.z ran.text numbers ran.says };
+  says = record {
+    says = ran.says;
+    read_back = read_back t Back reads c input n result ran.z ran.text numbers ran.says;
+  };
 }
+
+pub with_words : {c : ConfigView} {input0 input output0 output : Option (List ℕ)} {n : Counts}
+    {result : Result Summary RunFault} → IsConfig c
+    → Ran input0 input output0 output n (Extracts document c input n result)
+    → Ran input0 input output0 output n (ExtractsWords document ReadsBack c input n result)
+with_words numbers ran = with_read document ReadsBack extracted numbers ran
+
+pub with_recovered : {c : ConfigView} {input0 input output0 output : Option (List ℕ)} {n : Counts}
+    {result : Result Summary RunFault} → IsConfig c
+    → Ran input0 input output0 output n (Extracts recovered_document c input n result)
+    → Ran input0 input output0 output n (ExtractsWords recovered_document RecoversBack c input n result)
+with_recovered numbers ran = with_read recovered_document RecoversBack extracted_recovered numbers ran
 
 -- what a command did that recovers words if it can and is asked to
 does_verb : (c : ConfigView) (input0 input output0 output : Option (List ℕ)) (n : Counts) (verb : Verb) (asked : Bool)

@@ -4,7 +4,7 @@ use Rattle.std.specs.Prelude.{◌≡◌, ◌⊎◌, ℕ, List, Option, Some, Non
 use Rattle.std.specs.Prelude.{codes, Bool, true, false, not, ◌&&◌}
 use Rattle.vbi_field.specs.ConfigView.{line_bytes, System, ConfigView}
 use Rattle.vbi_words.specs.declared.outcome.Outcome.{Outcome}
-use Rattle.vbi_field.specs.Texts.{document, recovered_document, report, recovered_report}
+use Rattle.vbi_field.specs.Texts.{Kind, document, recovered_document, report, recovered_report}
 use Rattle.vbi_field.specs.Ran.{Counts, Ran}
 use Rattle.vbi_field.specs.declared.summary.Summary.{Summary}
 use Rattle.vbi_field.specs.declared.summary.RunFault.{RunFault}
@@ -12,7 +12,7 @@ use Rattle.vbi_field.specs.declared.summary.RunFault.TheVariants as run
 use Rattle.vbi_meta.specs.Settings.{IsMetadata, IsUnread, IsSettled, IsRefused, Data}
 use Rattle.vbi_meta.specs.declared.choosing.Overrides.{Overrides}
 use Rattle.vbi_meta.specs.declared.fault.MetaFault.{MetaFault}
-use Rattle.vbi_meta.specs.ReadBack.{ReadsBack}
+use Rattle.vbi_meta.specs.ReadBack.{ReadsBack, RecoversBack}
 use Rattle.vbi_cli.specs.OneLine as line
 use Rattle.vbi_cli.specs.declared.fault.AppFault.{AppFault}
 use Rattle.vbi_cli.specs.declared.fault.AppFault.TheVariants as app
@@ -96,20 +96,21 @@ pub record DidRun {A : Type 0} (input0 input output0 output : Option (List ℕ))
   pub ran : Ran input0 input output0 output n (Says n result)
   pub answered : IsFor result answer
 
--- what `extract` says of its result; and if that is Ok, what is found in the text by a reader of JSON are the words
--- that the lines in the bytes fetched show
-pub record ExtractsWords (c : ConfigView) (input : Option (List ℕ)) (n : Counts) (result : Result Summary RunFault)
-    (z text : List ℕ) : Type 0 where
-  pub says : extracts.Extracts document c input n result z text
-  pub read_back : IfOk result (λ summary. ReadsBack c z text)
+-- what `extract` says of its result, for one of its documents; and if that is Ok, what is found in the text by a reader
+-- of JSON are the words that the lines in the bytes fetched show
+pub record ExtractsWords (t : Kind) (Back : ConfigView → List ℕ → List ℕ → Type 0) (c : ConfigView)
+    (input : Option (List ℕ)) (n : Counts) (result : Result Summary RunFault) (z text : List ℕ) : Type 0 where
+  pub says : extracts.Extracts t c input n result z text
+  pub read_back : IfOk result (λ summary. Back c z text)
 
 module _ (c : ConfigView) (input0 input output0 output : Option (List ℕ)) (n : Counts) where
   -- what a command did that recovers words or doesn't, over devices that counted n since
   abbrev pub Did : Verb → Bool → Result Ended AppFault → Type 0
   Did Line recover answer = DidRun input0 input output0 output n (line.Answers c input) (IsAnsweredBy c.system) answer
-  Did Extract false answer = DidRun input0 input output0 output n (ExtractsWords c input) IsEndedBy answer
+  Did Extract false answer =
+      DidRun input0 input output0 output n (ExtractsWords document ReadsBack c input) IsEndedBy answer
   Did Extract true answer =
-      DidRun input0 input output0 output n (extracts.Extracts recovered_document c input) IsEndedBy answer
+      DidRun input0 input output0 output n (ExtractsWords recovered_document RecoversBack c input) IsEndedBy answer
   Did Show false answer = DidRun input0 input output0 output n (extracts.Extracts report c input) IsEndedBy answer
   Did Show true answer =
       DidRun input0 input output0 output n (extracts.Extracts recovered_report c input) IsEndedBy answer

@@ -188,7 +188,10 @@ fn text_job<R: Read, W: Write>(
             numbers(config);
             end_of(extract(config, intake, outlet))
         }
-        Text::RecoveredDocument => end_of(extract_recovered(config, intake, outlet)),
+        Text::RecoveredDocument => {
+            numbers(config);
+            end_of(extract_recovered(config, intake, outlet))
+        }
         Text::Report => end_of(show(config, intake, outlet)),
         Text::RecoveredReport => end_of(show_recovered(config, intake, outlet)),
     }
@@ -196,7 +199,7 @@ fn text_job<R: Read, W: Write>(
 
 /// What is known of a config's numbers: black and white have 16 bits, and the fields a greatest count. Their types say
 /// so, but a proof knows what a type says only of a value that the code has read. That is what the two reads are for,
-/// and nothing else: by `IsConfig` the law `extracted_words` of `vbi_meta` applies to the document.
+/// and nothing else: by `IsConfig` the laws `extracted_words` and `extracted_recovered` of `vbi_meta` apply.
 fn numbers(config: &Config)
     ensures { IsConfig config.now }
 {

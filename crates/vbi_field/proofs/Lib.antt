@@ -14,7 +14,7 @@ pub mod FeedTexts
 pub mod Growing
 mod HeldRows
 pub mod OneDocument
-mod OneRecoveredDocument
+pub mod OneRecoveredDocument
 pub mod OneShown
 pub mod Pieces
 pub mod Positions

@@ -8,7 +8,8 @@ use Rattle.vbi_near.specs.Candidates.{row_of}
 use Rattle.vbi_near.specs.Recovery.{none_erased}
 use Rattle.vbi_field.specs.ConfigView.{ConfigView, System}
 use Rattle.vbi_field.specs.Recovered.{FieldRecovered, RowsRecover, recovered_of, recovered_without}
-use Rattle.vbi_field.specs.Shown.{joined_rows, marks_at}
+use Rattle.vbi_near.specs.Candidates.{marks_at}
+use Rattle.vbi_field.specs.Shown.{joined_rows}
 use Rattle.vbi_field.specs.Stream.{fields_of, rest_of, rows_at, row_levels, FieldRows}
 use Rattle.vbi_field.specs.Texts.{IsRecoveredText, RecoveredKind, recovering, text_before_tail, whole_text}
 use Rattle.vbi_field.proofs.Entries.{entry_of, joined-same}

@@ -7,10 +7,10 @@ use Rattle.vbi_field.specs.CodeTexts.{cause_text_of}
 use Rattle.vbi_field.specs.Document.{value_of, lines_of, parameters_of}
 use Rattle.vbi_words.specs.Levels.{Slicing}
 use Rattle.vbi_words.specs.Readings.{IsReading}
-use Rattle.vbi_near.specs.Candidates.{row_of}
+use Rattle.vbi_near.specs.Candidates.{row_of, marks_at}
 use Rattle.vbi_near.specs.Recovery.{IsRecovered, none_erased}
 use Rattle.vbi_field.specs.Stream.{Reading, FieldReadings, FieldRows, row_readings, row_levels}
-use Rattle.vbi_field.specs.Shown.{IsNearRow, near_of, recovery_of, joined_rows, marks_at, as_readings}
+use Rattle.vbi_field.specs.Shown.{IsNearRow, near_of, recovery_of, joined_rows, as_readings}
 pub use Rattle.vbi_near.specs.declared.near.Near.{Near}
 pub use Rattle.vbi_near.specs.declared.recovery.Recovered.{Recovered}
 

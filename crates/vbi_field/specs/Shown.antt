@@ -1,9 +1,8 @@
 -- What the bytes of a field's three rows show with recovered words, and which word is nearest to a row: as relations,
 -- and as functions, which give the only answer there is.
-use Rattle.std.specs.Prelude.{ℕ, ◌*◌, Bool, List, [], ◌∷◌, ◌++◌, take, drop}
+use Rattle.std.specs.Prelude.{ℕ, Bool, List, [], ◌∷◌, ◌++◌}
 use Rattle.vbi_words.specs.declared.system.System.{System}
 use Rattle.vbi_words.specs.declared.outcome.Outcome.TheVariants.{Blank}
-use Rattle.vbi_words.specs.Geometry.{width_of}
 use Rattle.vbi_words.specs.Levels.{Slicing}
 use Rattle.vbi_near.specs.declared.near.Near.{Near}
 use Rattle.vbi_near.specs.declared.recovery.Recovered.{Recovered}
@@ -16,10 +15,6 @@ use Rattle.vbi_near.proofs.SomeRecovered.{some_recovered}
 use Rattle.vbi_field.specs.Stream.{Reading, FieldReadings, FieldRows}
 
 -- ---- the nearest word of a row
-
--- the marks of the erased columns of a row of three, counted from 0, of which the marks lie one row after the other
-abbrev pub marks_at : System → List Bool → ℕ → List Bool
-marks_at system marks i = take (width_of system) (drop (width_of system * i) marks)
 
 -- this word is the nearest one to a row as it is, without its erased columns, and the first of those that are as near;
 -- a row has one (`laws::one_near_row`)

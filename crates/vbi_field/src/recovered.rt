@@ -7,7 +7,7 @@ ghost use Rattle.vbi_words.specs.Geometry.{line_bytes, width_of};
 ghost use Rattle.vbi_near.specs.Candidates.{row_of};
 ghost use Rattle.vbi_field.specs.Recovered.{cause_line, cause_lines, hundredths, near_text_of, nears_text_of};
 ghost use Rattle.vbi_field.specs.Recovered.{recovered_record_of, recovered_without, record_with, word_or_zero};
-ghost use Rattle.vbi_field.specs.Shown.{marks_at, near_of};
+ghost use Rattle.vbi_field.specs.Shown.{near_of};
 ghost use Rattle.vbi_field.specs.Stream.{readings_of, rows_in};
 ghost use Rattle.vbi_field.specs.Texts.{recovered_document};
 
@@ -19,6 +19,7 @@ use crate::shown::{nearest_of_row, none_erased, shown_lines};
 use crate::texts::{Kind, TEXT_SIZE};
 use arrayvec::ArrayString;
 use vbi_line::read_bytes_twice;
+use vbi_near::marks_of_line;
 use vbi_words::{Levels, Reading, System, Word24};
 
 /// The document of `extract --recover`.
@@ -111,17 +112,6 @@ fn near_text(config: &Config, line: &Reading, row: &[u8], erased: &[bool]) -> Ar
     text
 }
 
-/// The marks of the erased columns of a row of three, counted from 0.
-fn marks_at<'a>(config: &Config, erased: &'a [bool], row: usize) -> &'a [bool]
-    requires whole { length erased.now ≡ 3 * width_of config.now.system }
-    requires row { row < 3 }
-    ensures marks { result.now ≡ marks_at config.now.system erased.now row }
-    ensures long { length result.now ≡ width_of config.now.system }
-{
-    let width = config.system().width();
-    &erased[width * row..width * row + width]
-}
-
 /// The three of a field, by the bytes of its rows and the marks of their erased columns.
 #[tactic(auto, unfolding(crate::specs::Recovered::nears_text_of))]
 fn nears_text(
@@ -136,11 +126,11 @@ fn nears_text(
         (recovered_without config.now.system config.now.levels (rows_in config.now.system rows.now) erased.now) }
 {
     let size = config.line_bytes();
-    let marks = marks_at(config, erased, 0);
+    let marks = marks_of_line(config.system(), erased, 0);
     let first = near_text(config, &lines.first, &rows[..size], marks);
-    let marks = marks_at(config, erased, 1);
+    let marks = marks_of_line(config.system(), erased, 1);
     let second = near_text(config, &lines.second, &rows[size..2 * size], marks);
-    let marks = marks_at(config, erased, 2);
+    let marks = marks_of_line(config.system(), erased, 2);
     let third = near_text(config, &lines.third, &rows[2 * size..3 * size], marks);
     let mut text = ArrayString::new();
     text.push_str(",\"vbiNear\":[");

@@ -1,25 +1,35 @@
--- What is found in the document of a stream is what its lines show.
-use Rattle.std.proofs.Common.{◌≡◌, ℕ, zero, suc, ◌+◌, ◌<◌, ◌≤◌, List, Bool, Option, Some, None, option_and_then}
-use Rattle.std.proofs.Common.{refl, sym, ap, ◌∙◌, subst, inl, inr, ◌⊎◌, map, arith}
+-- What is found in the documents of a stream is what its lines show.
+use Rattle.std.proofs.Common.{◌≡◌, ℕ, zero, suc, ◌+◌, ◌<◌, ◌≤◌, ◌==◌, cond, List, [], ◌∷◌, Bool}
+use Rattle.std.proofs.Common.{Option, Some, None, option_and_then, refl, sym, ap, ◌∙◌, subst, inl, inr, ◌⊎◌, map, arith}
+use Rattle.std.proofs.Common.{ne_eqb}
 use Rattle.std.proofs.lemmas.Bool.{cases_lt}
 use Rattle.std.specs.List.{range_with_len}
-use Rattle.std.specs.Prelude.{codes}
-use Rattle.serde_json.specs.Data.{Data}
-use Rattle.serde_json.specs.Find.{at, get_item}
+use Rattle.std.specs.Prelude.{codes, slice_get}
+use Rattle.serde_json.specs.Data.{Data, null, string}
+use Rattle.serde_json.specs.Find.{at, get_item, as_str}
 use Rattle.serde_json.specs.Read.{read}
 use Rattle.serde_json.specs.View.{items_of}
-use Rattle.vbi_field.specs.CodeTexts.{Outcome, Word, cause_text_of}
-use Rattle.vbi_field.specs.Stream.{Reading, fields_of, rest_of, reading_at, readings_at, row_levels, line_at}
+use Rattle.vbi_field.specs.CodeTexts.{Outcome, Word, Blank, Unfinished, Change, Hold, cause_text_of}
+use Rattle.vbi_field.specs.declared.readings.FieldReadings.{FieldReadings}
+use Rattle.vbi_field.specs.Stream.{Reading, fields_of, rest_of, reading_at, readings_at, rows_at}
+use Rattle.vbi_field.specs.Stream.{row_levels, line_at}
 use Rattle.vbi_field.specs.ConfigView.{System, ConfigView}
 use Rattle.vbi_words.specs.Readings.{Reads}
 use Rattle.vbi_line.proofs.OneReading.{is_reading, only_reading}
-use Rattle.vbi_field.specs.Texts.{RowReads, whole_text, document}
+use Rattle.vbi_near.specs.declared.recovery.Recovered.{Recovered}
+use Rattle.vbi_near.specs.Recovery.{IsRecovered, none_erased}
+use Rattle.vbi_field.proofs.OneRecoveredDocument.{is_one, only_one}
+use Rattle.vbi_field.specs.Texts.{RowReads, FieldRecovers, whole_text, document, recovered_document}
 use Rattle.vbi_field.specs.Document.{value_of}
-use Rattle.vbi_meta.specs.DocumentValue.{IsOfRun, document_value, field_value}
-use Rattle.vbi_meta.specs.ReadBack.{IsReadAs, field_in, number_of, word_of, cause_of, pass_of, HasReading, HasCut}
-use Rattle.vbi_meta.specs.ReadBack.{ReadsWord, HasReadings, ReadsBack}
-use Rattle.vbi_meta.specs.Settings.{member_of}
-use Rattle.vbi_meta.proofs.DocumentReads.{document_is_read}
+use Rattle.vbi_field.specs.Recovered.{Near, FieldRecovered, cause_lines, hundredths, word_or_zero, recovered_of}
+use Rattle.vbi_field.specs.Shown.{as_readings, joined_rows}
+use Rattle.vbi_meta.specs.DocumentValue.{IsOfRun, object_of, whole_of, lines_value, field_with, document_with}
+use Rattle.vbi_meta.specs.DocumentValue.{document_value, near_value, nears_value, recovered_value}
+use Rattle.vbi_meta.specs.ReadBack.{IsReadAs, field_in, number_of, word_of, cause_of, pass_of, HasLine, HasReading}
+use Rattle.vbi_meta.specs.ReadBack.{HasCut, HasFields, ReadsWord, HasReadings, ReadsBack, nearest_of, count_in, HasNearest}
+use Rattle.vbi_meta.specs.ReadBack.{HasField, ShowsWord, HasRecovered, RecoversBack}
+use Rattle.vbi_meta.specs.Settings.{whole, member_of}
+use Rattle.vbi_meta.proofs.DocumentReads.{document_is_read, recovered_is_read}
 
 -- ---- lists
 
@@ -38,105 +48,321 @@ no_item_at f a (suc n) (suc i) h = no_item_at f (a + 1) n i (omega arith)
 
 -- ---- a field
 
-module _ (c : ConfigView) (z : List ℕ) where
-  -- field i as a value
-  abbrev field : ℕ → Data
-  field i = field_value (i + 1) (readings_at c z i)
+-- line 16 + k of a field
+abbrev line_of : ℕ → FieldReadings → Reading
+line_of zero lines = lines.first
+line_of (suc zero) lines = lines.second
+line_of (suc (suc k)) lines = lines.third
 
-  abbrev of_line : ℕ → ℕ → Reading
-  of_line i k = reading_at c z i (15 + k)
+line_there : (said : Reading → Data) (lines : FieldReadings) (k : ℕ) → k < 3
+    → at k (lines_value said lines) ≡ Some (said (line_of k lines))
+line_there said lines zero h = refl
+line_there said lines (suc zero) h = refl
+line_there said lines (suc (suc zero)) h = refl
+line_there said lines (suc (suc (suc k))) h = absurd (omega arith)
 
-  word_there : (i k : ℕ) → k < 3 → word_of k (Some (field i)) ≡ Some (value_of (of_line i k).outcome)
-  word_there i zero h = refl
-  word_there i (suc zero) h = refl
-  word_there i (suc (suc zero)) h = refl
-  word_there i (suc (suc (suc k))) h = absurd (omega arith)
+no_line_there : (said : Reading → Data) (lines : FieldReadings) (k : ℕ) → 3 ≤ k → at k (lines_value said lines) ≡ None
+no_line_there said lines k h = grind arith
 
-  no_word_there : (i k : ℕ) → 3 ≤ k → word_of k (Some (field i)) ≡ None
-  no_word_there i k h = grind arith
+-- the members that a field of one version or the other has beside those of both
+abbrev more_of : Option Data → List (List ℕ × Data)
+more_of None = []
+more_of (Some near) = (codes "vbiNear", near) ∷ []
 
-  cause_there : (i k : ℕ) → k < 3 → cause_of k (Some (field i)) ≡ Some (cause_text_of (of_line i k).outcome)
-  cause_there i zero h = refl
-  cause_there i (suc zero) h = refl
-  cause_there i (suc (suc zero)) h = refl
-  cause_there i (suc (suc (suc k))) h = absurd (omega arith)
+module _ (n : ℕ) (lines causes : FieldReadings) where
+  -- such a field
+  abbrev field : Option Data → Data
+  field near = field_with n lines causes (more_of near)
 
-  pass_there : (i k : ℕ) → k < 3 → pass_of k (Some (field i)) ≡ Some (of_line i k).pass
-  pass_there i k h = grind arith
+  number_there : (near : Option Data) → number_of (Some (field near)) ≡ Some n
+  number_there None = refl
+  number_there (Some near) = refl
 
--- ---- a number other than 0 is a word
+  words_there : (near : Option Data)
+      → member_of (member_of (Some (field near)) (codes "vbi")) (codes "vbiData")
+      ≡ Some (lines_value (λ line. whole_of (value_of line.outcome)) lines)
+  words_there None = refl
+  words_there (Some near) = refl
+
+  causes_there : (near : Option Data)
+      → member_of (Some (field near)) (codes "vbiCause")
+      ≡ Some (lines_value (λ line. string (cause_text_of line.outcome)) causes)
+  causes_there None = refl
+  causes_there (Some near) = refl
+
+  passes_there : (near : Option Data)
+      → member_of (Some (field near)) (codes "vbiPass") ≡ Some (lines_value (λ line. whole_of line.pass) lines)
+  passes_there None = refl
+  passes_there (Some near) = refl
+
+  nearest_there : (k : ℕ) (near : Option Data) → nearest_of k (Some (field near)) ≡ option_and_then (at k) near
+  nearest_there k None = refl
+  nearest_there k (Some near) = refl
+
+  module _ (near : Option Data) (k : ℕ) where
+    word_there : k < 3 → word_of k (Some (field near)) ≡ Some (value_of (line_of k lines).outcome)
+    word_there h =
+        ap (λ found. option_and_then whole (option_and_then (at k) found)) (words_there near)
+        ∙ ap (option_and_then whole) (line_there (λ line. whole_of (value_of line.outcome)) lines k h)
+
+    no_word_there : 3 ≤ k → word_of k (Some (field near)) ≡ None
+    no_word_there h =
+        ap (λ found. option_and_then whole (option_and_then (at k) found)) (words_there near)
+        ∙ ap (option_and_then whole) (no_line_there (λ line. whole_of (value_of line.outcome)) lines k h)
+
+    cause_there : k < 3 → cause_of k (Some (field near)) ≡ Some (cause_text_of (line_of k causes).outcome)
+    cause_there h =
+        ap (λ found. option_and_then as_str (option_and_then (at k) found)) (causes_there near)
+        ∙ ap (option_and_then as_str) (line_there (λ line. string (cause_text_of line.outcome)) causes k h)
+
+    pass_there : k < 3 → pass_of k (Some (field near)) ≡ Some (line_of k lines).pass
+    pass_there h =
+        ap (λ found. option_and_then whole (option_and_then (at k) found)) (passes_there near)
+        ∙ ap (option_and_then whole) (line_there (λ line. whole_of line.pass) lines k h)
+
+-- ---- a text that is read as a document's value
+
+abbrev value_or : Option ℕ → ℕ
+value_or None = 0
+value_or (Some n) = n
+
+module _ (c : ConfigView) (z text : List ℕ) (version : ℕ) (lines causes : ℕ → FieldReadings) (near : ℕ → Option Data)
+  where
+    -- field i as a value
+    abbrev value : ℕ → Data
+    value i = field (i + 1) (lines i) (causes i) (near i)
+
+    module _ (is : read text ≡ Some (document_with version value c (fields_of c z) (rest_of c z))) where
+      -- field i of the text is the value's item i
+      field_is : (i : ℕ) → field_in text i ≡ get_item i (items_of (map value (range_with_len 0 (fields_of c z))))
+      field_is i = ap (λ d. option_and_then (at i) (member_of d (codes "fields"))) is
+
+      found : (i : ℕ) → i < fields_of c z → field_in text i ≡ Some (value i)
+      found i inside =
+          let e : 0 + i ≡ i = omega arith in
+          field_is i ∙ item_at value 0 (fields_of c z) i inside ∙ ap (λ k. Some (value k)) e
+
+      not_found : (i : ℕ) → fields_of c z ≤ i → field_in text i ≡ None
+      not_found i past = field_is i ∙ no_item_at value 0 (fields_of c z) i past
+
+      has_cut : HasCut text (fields_of c z) (rest_of c z)
+      has_cut = grind arith
+
+      has_fields : HasFields c z text
+      has_fields = record {
+        numbers = λ i inside. ap number_of (found i inside) ∙ number_there (i + 1) (lines i) (causes i) (near i);
+        nothing = not_found;
+        cut = has_cut;
+      }
+
+      has_line : (i k : ℕ) → i < fields_of c z → k < 3 → HasLine text i k (line_of k (lines i)) (line_of k (causes i))
+      has_line i k inside line = record {
+        word = ap (word_of k) (found i inside) ∙ word_there (i + 1) (lines i) (causes i) (near i) k line;
+        cause = ap (cause_of k) (found i inside) ∙ cause_there (i + 1) (lines i) (causes i) (near i) k line;
+        pass = ap (pass_of k) (found i inside) ∙ pass_there (i + 1) (lines i) (causes i) (near i) k line;
+      }
+
+      nearest_found : (i k : ℕ) → i < fields_of c z → nearest_of k (field_in text i) ≡ option_and_then (at k) (near i)
+      nearest_found i k inside =
+          ap (nearest_of k) (found i inside) ∙ nearest_there (i + 1) (lines i) (causes i) k (near i)
+
+      -- a number other than 0 is that of a line
+      record IsOfLine (i k word : ℕ) : Type 0 where
+        field : i < fields_of c z
+        line : k < 3
+        same : value_of (line_of k (lines i)).outcome ≡ word
+
+      is_of_line : (i k word : ℕ) → word_of k (field_in text i) ≡ Some word → 0 < word → IsOfLine i k word
+      is_of_line i k word e some = go (cases_lt i (fields_of c z)) (cases_lt k 3)
+        where
+          go : (i < fields_of c z) ⊎ (fields_of c z ≤ i) → (k < 3) ⊎ (3 ≤ k) → IsOfLine i k word
+          go (inr past) line =
+              let none : 0 ≡ word = ap value_or (sym (ap (word_of k) (not_found i past)) ∙ e) in absurd (omega arith)
+          go (inl inside) (inr past) =
+              let none : 0 ≡ word = ap value_or (sym (ap (word_of k) (found i inside)
+              ∙ no_word_there (i + 1) (lines i) (causes i) (near i) k past) ∙ e) in
+              absurd (omega arith)
+          go (inl inside) (inl line) = record {
+            field = inside;
+            line = line;
+            same = let there = has_line i k inside line in ap value_or (sym there.word ∙ e);
+          }
+
+-- ---- version 2
 
 word_of_value : (system : System) (levels : List Bool) (outcome : Outcome) (pass word : ℕ)
     → Reads system levels outcome pass
     → value_of outcome ≡ word → 0 < word → Reads system levels (Word word) pass
 word_of_value system levels outcome pass word reads e some = grind arith
 
-abbrev value_or : Option ℕ → ℕ
-value_or None = 0
-value_or (Some n) = n
-
--- ---- a text that is read as the document's value
+row_of : (c : ConfigView) (z : List ℕ) (i k : ℕ) → k < 3 → line_of k (readings_at c z i) ≡ reading_at c z i (15 + k)
+row_of c z i zero h = refl
+row_of c z i (suc zero) h = refl
+row_of c z i (suc (suc zero)) h = refl
+row_of c z i (suc (suc (suc k))) h = absurd (omega arith)
 
 module _ (c : ConfigView) (z text : List ℕ) (is : read text ≡ Some (document_value c z)) where
-  -- field i of the text is the value's item i
-  field_is : (i : ℕ) → field_in text i ≡ get_item i (items_of (map (field c z) (range_with_len 0 (fields_of c z))))
-  field_is i = ap (λ d. option_and_then (at i) (member_of d (codes "fields"))) is
+  abbrev none : ℕ → Option Data
+  none i = None
 
-  found : (i : ℕ) → i < fields_of c z → field_in text i ≡ Some (field c z i)
-  found i inside = grind (arith, field_is, item_at)
-
-  not_found : (i : ℕ) → fields_of c z ≤ i → field_in text i ≡ None
-  not_found i past = field_is i ∙ no_item_at (field c z) 0 (fields_of c z) i past
-
-  word_found : (i k : ℕ) → i < fields_of c z → k < 3
-      → word_of k (field_in text i) ≡ Some (value_of (of_line c z i k).outcome)
-  word_found i k inside line = ap (word_of k) (found i inside) ∙ word_there c z i k line
-
-  has_reading : (i k : ℕ) → i < fields_of c z → k < 3 → HasReading text i k (of_line c z i k)
-  has_reading i k inside line = record {
-    word = word_found i k inside line;
-    cause = ap (cause_of k) (found i inside) ∙ cause_there c z i k line;
-    pass = ap (pass_of k) (found i inside) ∙ pass_there c z i k line;
-  }
+  has_reading : (i k : ℕ) → i < fields_of c z → k < 3 → HasReading text i k (reading_at c z i (15 + k))
+  has_reading i k inside line =
+      subst (λ (reading : Reading). HasReading text i k reading) (row_of c z i k line)
+      (has_line c z text 2 (readings_at c z) (readings_at c z) none is i k inside line)
 
   has_same_reading : (i k : ℕ) (reading : Reading) → i < fields_of c z → k < 3 → RowReads c z i (15 + k) reading
       → HasReading text i k reading
   has_same_reading i k reading inside line reads = grind (arith, only_reading, has_reading)
 
   reads_word : (i k word : ℕ) → word_of k (field_in text i) ≡ Some word → 0 < word → ReadsWord c z text i k word
-  reads_word i k word e some = go (cases_lt i (fields_of c z)) (cases_lt k 3)
-    where
-      go : (i < fields_of c z) ⊎ (fields_of c z ≤ i) → (k < 3) ⊎ (3 ≤ k) → ReadsWord c z text i k word
-      go (inr past) line =
-          let none : 0 ≡ word = ap value_or (sym (ap (word_of k) (not_found i past)) ∙ e) in absurd (omega arith)
-      go (inl inside) (inr past) =
-          let none : 0 ≡ word = ap value_or (sym (ap (word_of k) (found i inside) ∙ no_word_there c z i k past)
-          ∙ e) in
-          absurd (omega arith)
-      go (inl inside) (inl line) =
-          let levels = row_levels c.levels (line_at c.system z i (15 + k)) in
-          let reading = of_line c z i k in
-          let same : value_of reading.outcome ≡ word = ap value_or (sym (word_found i k inside line) ∙ e) in
-          record {
-            field = inside;
-            line = line;
-            pass = reading.pass;
-            found = let there = has_reading i k inside line in there.pass;
-            reads = word_of_value c.system levels reading.outcome reading.pass word
-                (is_reading c.system levels) same some;
-          }
-
-  has_cut : HasCut text (fields_of c z) (rest_of c z)
-  has_cut = grind arith
+  reads_word i k word e some =
+      let of = is_of_line c z text 2 (readings_at c z) (readings_at c z) none is i k word e some in
+      let levels = row_levels c.levels (line_at c.system z i (15 + k)) in
+      let reading = reading_at c z i (15 + k) in
+      let same : value_of reading.outcome ≡ word
+      = ap (λ (r : Reading). value_of r.outcome) (sym (row_of c z i k of.line)) ∙ of.same in
+      record {
+        field = of.field;
+        line = of.line;
+        pass = reading.pass;
+        found = let there = has_reading i k of.field of.line in there.pass;
+        reads = word_of_value c.system levels reading.outcome reading.pass word (is_reading c.system levels) same some;
+      }
 
   pub has_readings : HasReadings c z text
   has_readings = record {
-    numbers = λ i inside. ap number_of (found i inside);
-    nothing = not_found;
-    each = λ i k inside line. (of_line c z i k, is_reading c.system _, has_reading i k inside line);
+    fields = has_fields c z text 2 (readings_at c z) (readings_at c z) none is;
+    each = λ i k inside line. (reading_at c z i (15 + k), is_reading c.system _, has_reading i k inside line);
     lines = has_same_reading;
     words = reads_word;
-    cut = has_cut;
+  }
+
+-- ---- version 3
+
+-- what is found of a nearest word
+abbrev near_object : ConfigView → Near → Data
+near_object c near = object_of (
+    (codes "word", whole_of (word_or_zero near.word))
+    ∷ (codes "distance", whole_of (hundredths c.levels near.distance))
+    ∷ (codes "rival", whole_of (hundredths c.levels near.rival))
+    ∷ [])
+
+object_there : (c : ConfigView) (value : Option Data) (shown : Reading) (near : Near)
+    → value ≡ Some (near_value c.levels shown near) → shown.pass ≡ 3 → value ≡ Some (near_object c near)
+object_there c value shown near e three =
+    e ∙ ap (λ (pass : ℕ). Some (cond (pass == 3) (near_object c near) null)) three
+
+near_has : (c : ConfigView) (value : Option Data) (shown : Reading) (near : Near)
+    → value ≡ Some (near_value c.levels shown near) → HasNearest c value shown near
+near_has c value shown near e =
+    let there = object_there c value shown near e in
+    record {
+      none = λ other. e ∙ ap (λ (b : Bool). Some (cond b (near_object c near) null)) (ne_eqb shown.pass 3 other);
+      word = λ three. ap (λ (o : Option Data). count_in o (codes "word")) (there three);
+      distance = λ three. ap (λ (o : Option Data). count_in o (codes "distance")) (there three);
+      rival = λ three. ap (λ (o : Option Data). count_in o (codes "rival")) (there three);
+    }
+
+-- a line with a number other than 0 shows a word
+shows-word : (line : Recovered) (word : ℕ) → value_of line.outcome ≡ word → 0 < word
+    → line ≡ record { outcome = Word word; pass = line.pass }
+shows-word line word e some = by line.outcome e
+  where
+    by : (o : Outcome) → value_of o ≡ word
+        → record line { outcome = o } ≡ record { outcome = Word word; pass = line.pass }
+    by (Word w) same = ap (λ (v : ℕ). record { outcome = Word v; pass = line.pass }) same
+    by Blank same = absurd (omega arith)
+    by Unfinished same = absurd (omega arith)
+    by (Change c) same = absurd (omega arith)
+    by (Hold c) same = absurd (omega arith)
+
+-- so does that of three
+shows-at : (shown : List Recovered) (a b d : Recovered) (k word : ℕ) → shown ≡ a ∷ b ∷ d ∷ [] → k < 3
+    → value_of (line_of k (as_readings shown)).outcome ≡ word → 0 < word
+    → slice_get shown k ≡ Some (record { outcome = Word word; pass = (line_of k (as_readings shown)).pass })
+shows-at shown a b d k word e line same some =
+    subst (λ (l : List Recovered). value_of (line_of k (as_readings l)).outcome ≡ word
+    → slice_get l k ≡ Some (record { outcome = Word word; pass = (line_of k (as_readings l)).pass })) (sym e)
+    (by k line) same
+  where
+    by : (k : ℕ) → k < 3 → value_of (line_of k (as_readings (a ∷ b ∷ d ∷ []))).outcome ≡ word
+        → slice_get (a ∷ b ∷ d ∷ []) k
+        ≡ Some (record { outcome = Word word; pass = (line_of k (as_readings (a ∷ b ∷ d ∷ []))).pass })
+    by zero l is = ap (λ (r : Recovered). Some r) (shows-word a word is some)
+    by (suc zero) l is = ap (λ (r : Recovered). Some r) (shows-word b word is some)
+    by (suc (suc zero)) l is = ap (λ (r : Recovered). Some r) (shows-word d word is some)
+    by (suc (suc (suc k))) l is = absurd (omega arith)
+
+module _ (c : ConfigView) (z text : List ℕ) (is : read text ≡ Some (recovered_value c z)) where
+  abbrev field_at : ℕ → FieldRecovered
+  field_at i = recovered_of c (rows_at c z i)
+
+  abbrev shown_at : ℕ → FieldReadings
+  shown_at i = let here = field_at i in as_readings here.shown
+
+  abbrev causes_at : ℕ → FieldReadings
+  causes_at i = let here = field_at i in cause_lines (shown_at i) here.readings
+
+  abbrev nears_at : ℕ → Option Data
+  nears_at i = Some (nears_value c.levels (shown_at i) (field_at i))
+
+  recovers : (i : ℕ) → FieldRecovers c z i (field_at i)
+  recovers i = is_one c.system c.levels (rows_at c z i) (none_erased c.system)
+
+  has_line_of : (i k : ℕ) → i < fields_of c z → k < 3
+      → HasLine text i k (line_of k (shown_at i)) (line_of k (causes_at i))
+  has_line_of = has_line c z text 3 shown_at causes_at nears_at is
+
+  nearest_of_line : (i k : ℕ) → i < fields_of c z
+      → nearest_of k (field_in text i) ≡ at k (nears_value c.levels (shown_at i) (field_at i))
+  nearest_of_line = nearest_found c z text 3 shown_at causes_at nears_at is
+
+  has_field : (i : ℕ) → i < fields_of c z → HasField c text i (field_at i)
+  has_field i inside =
+      let lines = shown_at i in
+      let here = field_at i in
+      record {
+        first = record {
+          line = has_line_of i 0 inside (omega arith);
+          nearest = near_has c _ lines.first here.first (nearest_of_line i 0 inside);
+        };
+        second = record {
+          line = has_line_of i 1 inside (omega arith);
+          nearest = near_has c _ lines.second here.second (nearest_of_line i 1 inside);
+        };
+        third = record {
+          line = has_line_of i 2 inside (omega arith);
+          nearest = near_has c _ lines.third here.third (nearest_of_line i 2 inside);
+        };
+      }
+
+  shows_word : (i k word : ℕ) → word_of k (field_in text i) ≡ Some word → 0 < word → ShowsWord c z text i k word
+  shows_word i k word e some =
+      let of = is_of_line c z text 3 shown_at causes_at nears_at is i k word e some in
+      let here = field_at i in
+      record {
+        field = of.field;
+        line = of.line;
+        pass = (line_of k (shown_at i)).pass;
+        found = let there = has_line_of i k of.field of.line in there.pass;
+        recovered = here;
+        recovers = recovers i;
+        shows = by here.shown (recovers i).shown of.line of.same;
+      }
+    where
+      by : (shown : List Recovered)
+          → IsRecovered c.system c.levels (joined_rows (rows_at c z i)) (none_erased c.system) shown → k < 3 → value_of (line_of k (as_readings shown)).outcome ≡ word
+          → slice_get shown k ≡ Some (record { outcome = Word word; pass = (line_of k (as_readings shown)).pass })
+      by shown (first, second, third, both, seen, three) line same =
+          shows-at shown _ _ _ k word three line same some
+
+  pub has_recovered : HasRecovered c z text
+  has_recovered = record {
+    fields = has_fields c z text 3 shown_at causes_at nears_at is;
+    each = λ i inside. (field_at i, recovers i, has_field i inside);
+    lines = λ i field inside are. subst (λ (f : FieldRecovered). HasField c text i f)
+        (sym (only_one c.system c.levels (rows_at c z i) (none_erased c.system) field are)) (has_field i inside);
+    words = shows_word;
   }
 
 -- ---- a text that is the document of a stream
@@ -148,4 +374,15 @@ extracted c z text run e =
     record {
       is_read = is;
       readings = has_readings c z text is.value_of_text;
+    }
+
+-- the same with recovered words
+pub extracted_recovered : (c : ConfigView) (z text : List ℕ) → IsOfRun c z → text ≡ whole_text recovered_document c z
+    → RecoversBack c z text
+extracted_recovered c z text run e =
+    let is : IsReadAs text (recovered_value c z) = subst (λ t. IsReadAs t (recovered_value c z)) (sym e)
+    (recovered_is_read c z run) in
+    record {
+      is_read = is;
+      shown = has_recovered c z text is.value_of_text;
     }

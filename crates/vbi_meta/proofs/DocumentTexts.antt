@@ -1,7 +1,8 @@
--- The text of a whole document as tokens, each with a gap before it.
+-- The text of a whole document, of either version, as tokens, each with a gap before it.
 use Rattle.std.proofs.Common.{arith}
 use Rattle.std.proofs.Common.{◌≡◌, ℕ, ◌+◌, ◌==◌, Bool, true, false, cond, List, [], ◌∷◌, ◌++◌, decimal, refl, sym, ap}
 use Rattle.std.proofs.Common.{◌∙◌, subst, append_assoc, append-nil, map, inr}
+use Rattle.std.specs.Fmt.{digits}
 use Rattle.std.specs.List.{join_by}
 use Rattle.std.specs.Prelude.{codes, flat_map}
 use Rattle.json.specs.Json as json
@@ -10,10 +11,9 @@ use Rattle.json.specs.Spaced.{IsGap, AreGaps, print_spaced}
 use Rattle.json.specs.Token.{Token, begin_object, begin_array, end_array, key, number}
 use Rattle.json.specs.Tree.{json_tokens, items_tokens, members_tokens}
 use Rattle.vbi_field.specs.ConfigView.{System, ConfigView, Ntsc, Pal, width_of, height_of, name_of}
-use Rattle.vbi_field.specs.Document.{head_of, parameters_of, record_of, tail_of}
-use Rattle.vbi_field.specs.declared.readings.FieldReadings.{FieldReadings}
-use Rattle.vbi_meta.proofs.RecordTexts.{Pieces, plain, gapped, count_json, record_json, quoted_then, record_prints}
-use Rattle.vbi_meta.proofs.ShownLines.{AreShown}
+use Rattle.vbi_field.specs.Document.{head_of, parameters_of, tail_of}
+use Rattle.vbi_field.specs.Recovered.{recovered_head_of}
+use Rattle.vbi_meta.proofs.RecordTexts.{Pieces, plain, gapped, count_json, quoted_then}
 
 -- ---- tokens under gaps
 
@@ -29,7 +29,8 @@ tokens_plain_then : (ts : List Token) (qs : Pieces) → tokens_of (plain ts ++ q
 tokens_plain_then [] qs = refl
 tokens_plain_then (t ∷ ts) qs = ap (λ l. t ∷ l) (tokens_plain_then ts qs)
 
-tokens_gapped_then : (g : List ℕ) (ts : List Token) (qs : Pieces) → tokens_of (gapped g ts ++ qs) ≡ ts ++ tokens_of qs
+pub tokens_gapped_then : (g : List ℕ) (ts : List Token) (qs : Pieces)
+    → tokens_of (gapped g ts ++ qs) ≡ ts ++ tokens_of qs
 tokens_gapped_then g [] qs = refl
 tokens_gapped_then g (t ∷ ts) qs = ap (λ l. t ∷ l) (tokens_plain_then ts qs)
 
@@ -37,7 +38,7 @@ gaps_plain_then : (ts : List Token) (qs : Pieces) → AreGaps qs → AreGaps (pl
 gaps_plain_then [] qs h = h
 gaps_plain_then (t ∷ ts) qs h = (tt, gaps_plain_then ts qs h)
 
-gaps_gapped_then : (g : List ℕ) (ts : List Token) (qs : Pieces) → IsGap g → AreGaps qs → AreGaps (gapped g ts ++ qs)
+pub gaps_gapped_then : (g : List ℕ) (ts : List Token) (qs : Pieces) → IsGap g → AreGaps qs → AreGaps (gapped g ts ++ qs)
 gaps_gapped_then g [] qs k h = h
 gaps_gapped_then g (t ∷ ts) qs k h = (k, gaps_plain_then ts qs h)
 
@@ -50,16 +51,23 @@ line_feed = (inr refl, tt)
 
 -- ---- the records
 
-module _ (readings : ℕ → FieldReadings) where
-  abbrev pub entry : ℕ → List ℕ
-  entry i = record_of (i + 1) (readings i)
+-- the records of a document of some version by its fields, counted from 0: their texts, and the trees that are printed
+-- so
+pub record Records : Type 0 where
+  pub version : ℕ
+  pub text : ℕ → List ℕ
+  pub tree : ℕ → json.Json
+  pub prints : (before : Bool) (i : ℕ) (qs : Pieces)
+      → print_spaced before (gapped (10 ∷ []) (json_tokens (tree i)) ++ qs)
+      ≡ cond before (44 ∷ []) [] ++ (10 ∷ (text i ++ print_spaced true qs))
 
+module _ (records : Records) where
   abbrev pub entries_json : List ℕ → json.Items
   entries_json [] = json.no_items
-  entries_json (i ∷ is) = json.item (record_json (i + 1) (readings i)) (entries_json is)
+  entries_json (i ∷ is) = json.item (records.tree i) (entries_json is)
 
   abbrev one_entry : ℕ → Pieces
-  one_entry i = gapped (10 ∷ []) (json_tokens (record_json (i + 1) (readings i)))
+  one_entry i = gapped (10 ∷ []) (json_tokens (records.tree i))
 
   abbrev entries : List ℕ → Pieces
   entries [] = []
@@ -69,7 +77,7 @@ module _ (readings : ℕ → FieldReadings) where
       → tokens_of (entries is ++ gapped g (end_array ∷ ts)) ≡ items_tokens (entries_json is) ++ ts
   entries_tokens [] g ts = ap (λ l. end_array ∷ l) (tokens_plain ts)
   entries_tokens (i ∷ is) g ts =
-      let x = json_tokens (record_json (i + 1) (readings i)) in
+      let x = json_tokens (records.tree i) in
       let more = gapped g (end_array ∷ ts) in
       ap (λ ps. tokens_of ps) (append_assoc (one_entry i) (entries is) more)
       ∙ tokens_gapped_then (10 ∷ []) x (entries is ++ more)
@@ -78,31 +86,33 @@ module _ (readings : ℕ → FieldReadings) where
   entries_gaps : (is : List ℕ) (qs : Pieces) → AreGaps qs → AreGaps (entries is ++ qs)
   entries_gaps [] qs h = h
   entries_gaps (i ∷ is) qs h =
-      let x = json_tokens (record_json (i + 1) (readings i)) in
+      let x = json_tokens (records.tree i) in
       subst AreGaps (sym (append_assoc (one_entry i) (entries is) qs))
       (gaps_gapped_then (10 ∷ []) x (entries is ++ qs) line_feed (entries_gaps is qs h))
 
-  module _ (shown : (i : ℕ) → AreShown (readings i)) where
-    one : (before : Bool) (i : ℕ) (is : List ℕ) (qs : Pieces)
-        → print_spaced before (entries (i ∷ is) ++ qs)
-        ≡ cond before (44 ∷ []) [] ++ (10 ∷ (entry i ++ print_spaced true (entries is ++ qs)))
-    one before i is qs = grind (arith, append_assoc, record_prints)
+  one : (before : Bool) (i : ℕ) (is : List ℕ) (qs : Pieces)
+      → print_spaced before (entries (i ∷ is) ++ qs)
+      ≡ cond before (44 ∷ []) [] ++ (10 ∷ (records.text i ++ print_spaced true (entries is ++ qs)))
+  one before i is qs =
+      ap (λ ps. print_spaced before ps) (append_assoc (one_entry i) (entries is) qs)
+      ∙ records.prints before i (entries is ++ qs)
 
-    later : (is : List ℕ) (qs : Pieces)
-        → print_spaced true (entries is ++ qs) ≡ flat_map (λ i. codes ",\n" ++ entry i) is ++ print_spaced true qs
-    later [] qs = refl
-    later (i ∷ is) qs =
-        one true i is qs ∙ ap (λ l. 44 ∷ 10 ∷ (entry i ++ l)) (later is qs)
-        ∙ ap (λ l. 44 ∷ 10 ∷ l) (sym (append_assoc (entry i) (flat_map (λ i. codes ",\n" ++ entry i) is)
-        (print_spaced true qs)))
+  later : (is : List ℕ) (qs : Pieces)
+      → print_spaced true (entries is ++ qs)
+      ≡ flat_map (λ i. codes ",\n" ++ records.text i) is ++ print_spaced true qs
+  later [] qs = refl
+  later (i ∷ is) qs =
+      one true i is qs ∙ ap (λ l. 44 ∷ 10 ∷ (records.text i ++ l)) (later is qs)
+      ∙ ap (λ l. 44 ∷ 10 ∷ l) (sym (append_assoc (records.text i) (flat_map (λ i. codes ",\n" ++ records.text i) is)
+      (print_spaced true qs)))
 
-    entries_print : (i : ℕ) (is : List ℕ) (qs : Pieces)
-        → print_spaced false (entries (i ∷ is) ++ qs)
-        ≡ 10 ∷ (join_by entry (codes ",\n") (i ∷ is) ++ print_spaced true qs)
-    entries_print i is qs =
-        one false i is qs ∙ ap (λ l. 10 ∷ (entry i ++ l)) (later is qs)
-        ∙ ap (λ l. 10 ∷ l) (sym (append_assoc (entry i) (flat_map (λ i. codes ",\n" ++ entry i) is)
-        (print_spaced true qs)))
+  entries_print : (i : ℕ) (is : List ℕ) (qs : Pieces)
+      → print_spaced false (entries (i ∷ is) ++ qs)
+      ≡ 10 ∷ (join_by records.text (codes ",\n") (i ∷ is) ++ print_spaced true qs)
+  entries_print i is qs =
+      one false i is qs ∙ ap (λ l. 10 ∷ (records.text i ++ l)) (later is qs)
+      ∙ ap (λ l. 10 ∷ l) (sym (append_assoc (records.text i) (flat_map (λ i. codes ",\n" ++ records.text i) is)
+      (print_spaced true qs)))
 
 -- ---- the head
 
@@ -114,10 +124,23 @@ parameters_json c =
     (json.member (codes "black16bIre") (count_json c.levels.black)
     (json.member (codes "white16bIre") (count_json c.levels.white) json.no_members)))))
 
+-- the head of a document of this version
+abbrev pub head_with : ℕ → ConfigView → List ℕ
+head_with version c = codes "{\"version\":" ++ (decimal version ++ parameters_of c)
+
+-- those of the documents that there are
+pub plain_head : (c : ConfigView) → head_with 2 c ≡ head_of c
+unfolding digits
+plain_head c = refl
+
+pub recovered_head : (c : ConfigView) → head_with 3 c ≡ recovered_head_of c
+unfolding digits
+recovered_head c = refl
+
 -- the tokens up to the opening bracket of the records
-abbrev head_tokens : ConfigView → List Token
-head_tokens c =
-    begin_object ∷ key (codes "version") ∷ number (codes "2") ∷ key (codes "videoParameters")
+abbrev head_tokens : ℕ → ConfigView → List Token
+head_tokens version c =
+    begin_object ∷ key (codes "version") ∷ number (decimal version) ∷ key (codes "videoParameters")
     ∷ (json_tokens (parameters_json c) ++ (key (codes "fields") ∷ begin_array ∷ []))
 
 escape_name : (system : System) → escape (name_of system) ≡ name_of system
@@ -137,18 +160,27 @@ sizes_then c r =
     ++ (codes ",\"black16bIre\":" ++ (decimal c.levels.black ++ (codes ",\"white16bIre\":" ++ (decimal c.levels.white
     ++ (codes "},\"fields\":[" ++ r))))))))
 
--- the head after its line feed
-head_prints : (c : ConfigView) (qs : Pieces) (r : List ℕ) → print_spaced false qs ≡ 10 ∷ r
-    → print_spaced false (plain (head_tokens c) ++ qs) ≡ head_of c ++ r
-unfolding print_spaced escape_byte parameters_of
-head_prints c qs r e =
-    let front = codes "{\"version\":2,\"videoParameters\":{\"system\":" in
-    ap (λ l. front ++ l) (quoted_then (name_of c.system) (sizes_then c (print_spaced false qs)) (escape_name c.system))
-    ∙ ap (λ l. front ++ (34 ∷ (name_of c.system ++ (34 ∷ sizes_then c l)))) e
-    ∙ sym (eleven (codes "{\"version\":2,\"videoParameters\":{\"system\":\"") (name_of c.system)
-    (codes "\",\"fieldWidth\":")
+parameters_then : (c : ConfigView) (r : List ℕ)
+    → codes ",\"videoParameters\":{\"system\":\"" ++ (name_of c.system ++ (34 ∷ sizes_then c (10 ∷ r)))
+    ≡ parameters_of c ++ r
+unfolding parameters_of
+parameters_then c r =
+    sym (eleven (codes ",\"videoParameters\":{\"system\":\"") (name_of c.system) (codes "\",\"fieldWidth\":")
     (decimal (width_of c.system)) (codes ",\"fieldHeight\":") (decimal (height_of c.system)) (codes ",\"black16bIre\":")
     (decimal c.levels.black) (codes ",\"white16bIre\":") (decimal c.levels.white) (codes "},\"fields\":[\n") r)
+
+-- the head after its line feed
+head_prints : (version : ℕ) (c : ConfigView) (qs : Pieces) (r : List ℕ) → print_spaced false qs ≡ 10 ∷ r
+    → print_spaced false (plain (head_tokens version c) ++ qs) ≡ head_with version c ++ r
+unfolding print_spaced escape_byte
+head_prints version c qs r e =
+    let front = codes "{\"version\":" in
+    let name = codes ",\"videoParameters\":{\"system\":" in
+    ap (λ l. front ++ (decimal version ++ (name ++ l)))
+    (quoted_then (name_of c.system) (sizes_then c (print_spaced false qs)) (escape_name c.system))
+    ∙ ap (λ l. front ++ (decimal version ++ (name ++ (34 ∷ (name_of c.system ++ (34 ∷ sizes_then c l)))))) e
+    ∙ ap (λ l. front ++ (decimal version ++ l)) (parameters_then c r)
+    ∙ ap (λ l. front ++ l) (sym (append_assoc (decimal version) (parameters_of c) r))
 
 -- ---- the tail
 
@@ -194,15 +226,15 @@ one_more ts = refl
 
 -- ---- the whole text
 
-module _ (c : ConfigView) (readings : ℕ → FieldReadings) (fields rest : ℕ) where
+module _ (c : ConfigView) (records : Records) (fields rest : ℕ) where
   abbrev cut : json.Members
   cut = cut_members (rest == 0) (fields + 1) rest
 
   abbrev pub document_json : List ℕ → json.Json
   document_json is =
-      json.object (json.member (codes "version") (json.number (codes "2"))
+      json.object (json.member (codes "version") (count_json records.version)
       (json.member (codes "videoParameters") (parameters_json c)
-      (json.member (codes "fields") (json.array (entries_json readings is)) cut)))
+      (json.member (codes "fields") (json.array (entries_json records is)) cut)))
 
   -- the bracket after the records, and the cut field: where there is no record, both line feeds are before it
   abbrev last_gap : List ℕ → List ℕ
@@ -217,33 +249,33 @@ module _ (c : ConfigView) (readings : ℕ → FieldReadings) (fields rest : ℕ)
   last is = gapped (last_gap is) (end_array ∷ members_tokens cut)
 
   abbrev pub pieces : List ℕ → Pieces
-  pieces is = plain (head_tokens c) ++ (entries readings is ++ last is)
+  pieces is = plain (head_tokens records.version c) ++ (entries records is ++ last is)
 
   pub pieces_tokens : (is : List ℕ) → tokens_of (pieces is) ≡ json_tokens (document_json is)
   pieces_tokens is =
-      tokens_plain_then (head_tokens c) (entries readings is ++ last is)
-      ∙ ap (λ l. head_tokens c ++ l) (entries_tokens readings is (last_gap is) (members_tokens cut))
+      tokens_plain_then (head_tokens records.version c) (entries records is ++ last is)
+      ∙ ap (λ l. head_tokens records.version c ++ l) (entries_tokens records is (last_gap is) (members_tokens cut))
 
   pub pieces_gaps : (is : List ℕ) → AreGaps (pieces is)
   pieces_gaps is = grind (arith, gaps_plain_then, entries_gaps, last_is_gap, gaps_plain)
 
-  pub pieces_print : ((i : ℕ) → AreShown (readings i)) → (is : List ℕ)
-      → print_spaced false (pieces is) ++ 10 ∷ [] ≡ (head_of c ++ join_by (entry readings) (codes ",\n") is)
-      ++ tail_of fields rest
+  pub pieces_print : (is : List ℕ)
+      → print_spaced false (pieces is) ++ 10 ∷ []
+      ≡ (head_with records.version c ++ join_by records.text (codes ",\n") is) ++ tail_of fields rest
   unfolding tail_of
-  pieces_print shown [] =
+  pieces_print [] =
       let short = print_spaced false (gapped (10 ∷ []) (end_array ∷ members_tokens cut)) in
-      ap (λ l. l ++ 10 ∷ []) (head_prints c (last []) short (one_more (members_tokens cut)))
-      ∙ append_assoc (head_of c) short (10 ∷ [])
-      ∙ ap (λ l. head_of c ++ l) (tail_prints false (rest == 0) (fields + 1) rest)
-      ∙ ap (λ l. l ++ tail_text (rest == 0) (fields + 1) rest) (sym (append-nil (head_of c)))
-  pieces_print shown (i ∷ is) =
-      let body = join_by (entry readings) (codes ",\n") (i ∷ is) in
+      ap (λ l. l ++ 10 ∷ []) (head_prints records.version c (last []) short (one_more (members_tokens cut)))
+      ∙ append_assoc (head_with records.version c) short (10 ∷ [])
+      ∙ ap (λ l. head_with records.version c ++ l) (tail_prints false (rest == 0) (fields + 1) rest)
+      ∙ ap (λ l. l ++ tail_text (rest == 0) (fields + 1) rest) (sym (append-nil (head_with records.version c)))
+  pieces_print (i ∷ is) =
+      let body = join_by records.text (codes ",\n") (i ∷ is) in
       let end = print_spaced true (last (i ∷ is)) in
       ap (λ l. l ++ 10 ∷ [])
-      (head_prints c (entries readings (i ∷ is) ++ last (i ∷ is)) (body ++ end)
-      (entries_print readings shown i is (last (i ∷ is))))
-      ∙ append_assoc (head_of c) (body ++ end) (10 ∷ [])
-      ∙ ap (λ l. head_of c ++ l)
+      (head_prints records.version c (entries records (i ∷ is) ++ last (i ∷ is)) (body ++ end)
+      (entries_print records i is (last (i ∷ is))))
+      ∙ append_assoc (head_with records.version c) (body ++ end) (10 ∷ [])
+      ∙ ap (λ l. head_with records.version c ++ l)
       (append_assoc body end (10 ∷ []) ∙ ap (λ l. body ++ l) (tail_prints true (rest == 0) (fields + 1) rest))
-      ∙ sym (append_assoc (head_of c) body (tail_text (rest == 0) (fields + 1) rest))
+      ∙ sym (append_assoc (head_with records.version c) body (tail_text (rest == 0) (fields + 1) rest))

@@ -1,11 +1,15 @@
 pub mod DocumentReadings
 pub mod DocumentReads
 pub mod DocumentTexts
+pub mod FieldWrites
 pub mod LineFeeds
+pub mod NearTexts
 pub mod PlainBytes
 pub mod PlainDocument
 pub mod PlainTokens
 pub mod RecordTexts
+pub mod RecoveredLines
 pub mod Refusals
 pub mod ShownLines
+pub mod StreamRecords
 pub mod ValueReads

@@ -1,8 +1,8 @@
 -- The document of a run is plain.
-use Rattle.std.proofs.Common.{◌≡◌, ℕ, ◌<◌, ◌^◌, ◌%◌, Bool, false, List, [], ◌∷◌, ◌++◌, length, refl}
+use Rattle.std.proofs.Common.{◌≡◌, ℕ, ◌+◌, ◌<◌, ◌^◌, ◌%◌, Bool, false, List, [], ◌∷◌, ◌++◌, length, refl}
 use Rattle.std.proofs.Common.{inl, inr, ◌∙◌, sym, subst, arith, lit<}
 use Rattle.std.proofs.lemmas.List.Elements.{All-from_recursion}
-use Rattle.std.specs.List.{AllByRecursion, range_with_len}
+use Rattle.std.specs.List.{AllByRecursion, join_by, range_with_len}
 use Rattle.std.specs.Prelude.{codes}
 use Rattle.json.proofs.Printed.Tokens.{tokens-print_spaced}
 use Rattle.json.proofs.Printed.Trees.{ArePrintable-json_tokens}
@@ -17,14 +17,18 @@ use Rattle.vbi_field.specs.Stream.{row_levels, line_at, fields_of, rest_of, read
 use Rattle.vbi_words.specs.Readings.{Reads}
 use Rattle.vbi_line.proofs.OneReading.{is_reading}
 use Rattle.vbi_field.specs.Texts.{document, text_before_tail, whole_text}
-use Rattle.vbi_meta.specs.DocumentValue.{IsOfRun}
+use Rattle.vbi_field.specs.Document.{tail_of}
+use Rattle.vbi_meta.specs.DocumentValue.{IsOfRun, field_value}
 use Rattle.vbi_meta.specs.ReadBack.{IsPlain, IsSmall, IsPlainText}
 use Rattle.vbi_meta.proofs.DocumentReads.{few_fields}
-use Rattle.vbi_meta.proofs.DocumentTexts.{tokens_of, document_json, pieces, pieces_tokens, pieces_gaps, pieces_print}
+use Rattle.vbi_meta.proofs.DocumentTexts.{tokens_of, head_with, plain_head, document_json, pieces, pieces_tokens}
+use Rattle.vbi_meta.proofs.DocumentTexts.{pieces_gaps, pieces_print}
 use Rattle.vbi_meta.proofs.LineFeeds.{tokens-line_feed}
 use Rattle.vbi_meta.proofs.PlainBytes.{Plain, then, known, count}
-use Rattle.vbi_meta.proofs.PlainTokens.{ArePlainTokens, IsPlainReading, ArePlainReadings, printed, document_tokens}
-use Rattle.vbi_meta.proofs.ShownLines.{IsShown, short_levels, field_shown}
+use Rattle.vbi_meta.proofs.PlainTokens.{ArePlainTokens, IsPlainReading, ArePlainReadings, printed, field_tree}
+use Rattle.vbi_meta.proofs.PlainTokens.{document_tokens}
+use Rattle.vbi_meta.proofs.ShownLines.{IsShown, short_row, short_levels, field_shown}
+use Rattle.vbi_meta.proofs.StreamRecords.{plain_records, plain_read}
 use Rattle.vbi_meta.proofs.ValueReads.{stream_reads}
 
 -- ---- the readings of a stream
@@ -48,7 +52,7 @@ plain_reading system levels short (Hold c) pass (p, is, none) shown = grind (ari
 
 row_plain : (c : ConfigView) (z : List ℕ) (i r : ℕ) → IsShown (reading_at c z i r) → IsPlainReading (reading_at c z i r)
 row_plain c z i r =
-    plain_reading c.system _ (short_levels c z i r) _ _
+    plain_reading c.system _ (short_levels c.levels (line_at c.system z i r) (short_row c.system z i r)) _ _
     (is_reading c.system (row_levels c.levels (line_at c.system z i r)))
 
 field_plain : (c : ConfigView) (z : List ℕ) (i : ℕ) → ArePlainReadings (readings_at c z i)
@@ -69,7 +73,7 @@ both (t ∷ ts) h = (h.0.1, both ts h.1)
 pub plain_document : (c : ConfigView) (z : List ℕ) → IsOfRun c z → IsPlainText (whole_text document c z)
 unfolding text_before_tail
 plain_document c z run =
-    let readings = readings_at c z in
+    let records = plain_records c z in
     let fields = fields_of c z in
     let rest = rest_of c z in
     let is = range_with_len 0 fields in
@@ -77,14 +81,15 @@ plain_document c z run =
     let white = run.config.white in
     let few = few_fields c z run in
     let small : rest < 2 ^ 24 = small_rest c.system (length z) in
-    let ps = pieces c readings fields rest is in
-    let gaps = pieces_gaps c readings fields rest is in
-    let tree = document_json c readings fields rest is in
-    let same : tokens_of ps ≡ json_tokens tree = pieces_tokens c readings fields rest is in
+    let ps = pieces c records fields rest is in
+    let gaps = pieces_gaps c records fields rest is in
+    let tree = document_json c records fields rest is in
+    let same : tokens_of ps ≡ json_tokens tree = pieces_tokens c records fields rest is in
     let plain : ArePlainTokens (json_tokens tree)
-    = document_tokens c readings fields rest (omega arith) (omega arith) (field_plain c z) (omega arith) small in
-    let reads = stream_reads c readings fields rest (omega arith) (omega arith) (field_shown c z) (omega arith)
-    (omega arith) in
+    = document_tokens c records fields rest (lit< tt) (λ i small. field_tree (i + 1) (readings_at c z i) small
+    (field_plain c z i)) (omega arith) (omega arith) (omega arith) small in
+    let reads = stream_reads records (λ i. field_value (i + 1) (readings_at c z i)) (plain_read c z) c fields rest
+    (omega arith) (omega arith) (omega arith) (omega arith) in
     let printable : ArePrintable (tokens_of ps)
     = subst ArePrintable (sym same) (ArePrintable-json_tokens tree reads.numbers) in
     let line : List ℕ = print_spaced false ps ++ 10 ∷ [] in
@@ -92,8 +97,11 @@ plain_document c z run =
     = tokens-line_feed (print_spaced false ps) ∙ tokens-print_spaced ps gaps printable ∙ same in
     let bytes : Plain line = then (printed false ps gaps (subst ArePlainTokens (sym same) plain))
     (known (10 ∷ []) refl) in
-    subst IsPlainText (pieces_print c readings fields rest (field_shown c z) is) (record {
+    let head : IsPlainText ((head_with 2 c ++ join_by records.text (codes ",\n") is) ++ tail_of fields rest)
+    = subst IsPlainText (pieces_print c records fields rest is) (record {
       bytes = All-from_recursion IsPlain line bytes.all;
       numbers = All-from_recursion IsSmall (tokens line)
           (subst (AllByRecursion IsSmall) (sym lexed) (both (json_tokens tree) plain));
-    })
+    }) in
+    subst (λ (head : List ℕ). IsPlainText ((head ++ join_by records.text (codes ",\n") is) ++ tail_of fields rest))
+    (plain_head c) head

@@ -1,7 +1,6 @@
 -- Trees of JSON whose tokens are printed in plain bytes and have small numbers, and those of a document.
 use Rattle.std.proofs.Common.{◌≡◌, ℕ, suc, zero, ◌+◌, ◌<◌, ◌^◌, ◌==◌, ◌&&◌, Bool, true, false, cond, List, [], ◌∷◌}
-use Rattle.std.proofs.Common.{◌++◌, ◌⊎◌, inl, inr, decimal, refl, subst, arith, lit<}
-use Rattle.std.specs.Fmt.{digits}
+use Rattle.std.proofs.Common.{◌++◌, ◌⊎◌, inl, inr, refl, arith, lit<}
 use Rattle.std.specs.List.{AllByRecursion, range_with_len}
 use Rattle.std.specs.Prelude.{codes}
 use Rattle.json.specs.Json as json
@@ -15,7 +14,7 @@ use Rattle.vbi_field.specs.ConfigView.{System, ConfigView, Ntsc, Pal, width_of, 
 use Rattle.vbi_field.specs.CodeTexts.{cause_text_of}
 use Rattle.vbi_field.specs.Document.{value_of}
 use Rattle.vbi_meta.specs.ReadBack.{IsPlain, IsSmall}
-use Rattle.vbi_meta.proofs.DocumentTexts.{tokens_of, parameters_json, cut_json, entries_json, document_json}
+use Rattle.vbi_meta.proofs.DocumentTexts.{tokens_of, Records, parameters_json, cut_json, entries_json, document_json}
 use Rattle.vbi_meta.proofs.PlainBytes.{Plain, then, known, are_plain, count}
 use Rattle.vbi_meta.proofs.RecordTexts.{Pieces, count_json, lines_json, words_json, record_json}
 
@@ -54,8 +53,8 @@ printed before (p ∷ ps) gaps h =
 
 -- ---- trees
 
-record Tree (j : json.Json) : Type 0 where
-  all : ArePlainTokens (json_tokens j)
+pub record Tree (j : json.Json) : Type 0 where
+  pub all : ArePlainTokens (json_tokens j)
 
 record Items (js : json.Items) : Type 0 where
   all : ArePlainTokens (items_tokens js)
@@ -113,7 +112,8 @@ words_tree : (readings : FieldReadings) → ArePlainReadings readings → Tree (
 unfolding escape_byte
 words_tree readings h = grind (arith, object_tree, with_member, lines_tree, count_json, small_count, no_member)
 
-field_tree : (n : ℕ) (readings : FieldReadings) → n < 2 ^ 24 → ArePlainReadings readings → Tree (record_json n readings)
+pub field_tree : (n : ℕ) (readings : FieldReadings) → n < 2 ^ 24 → ArePlainReadings readings
+    → Tree (record_json n readings readings json.no_members)
 unfolding escape_byte
 field_tree n readings small h =
     grind (arith, object_tree, with_member, small_count, words_tree, lines_tree, plain_string, count_json, no_member)
@@ -143,26 +143,21 @@ unfolding escape_byte
 cut_tree true n bytes hn hb = null_tree
 cut_tree false n bytes hn hb = grind (arith, object_tree, with_member, small_count, no_member)
 
-two : decimal 2 ≡ codes "2"
-unfolding digits
-two = refl
+entries_tree : (records : Records) → ((i : ℕ) → i + 1 < 2 ^ 24 → Tree (records.tree i)) → (i n : ℕ) → i + n < 2 ^ 24
+    → Items (entries_json records (range_with_len i n))
+entries_tree records each i zero small = no_item
+entries_tree records each i (suc n) small =
+    with_item (each i (omega arith)) (entries_tree records each (i + 1) n (omega arith))
 
-entries_tree : (readings : ℕ → FieldReadings) → ((i : ℕ) → ArePlainReadings (readings i)) → (i n : ℕ)
-    → i + n < 2 ^ 24 → Items (entries_json readings (range_with_len i n))
-entries_tree readings h i zero small = no_item
-entries_tree readings h i (suc n) small =
-    with_item (field_tree (i + 1) (readings i) (omega arith) (h i)) (entries_tree readings h (i + 1) n (omega arith))
-
-pub document_tokens : (c : ConfigView) (readings : ℕ → FieldReadings) (fields rest : ℕ)
-    → c.levels.black < 2 ^ 24 → c.levels.white < 2 ^ 24 → ((i : ℕ) → ArePlainReadings (readings i))
-    → fields + 1 < 2 ^ 24 → rest < 2 ^ 24
-    → ArePlainTokens (json_tokens (document_json c readings fields rest (range_with_len 0 fields)))
+pub document_tokens : (c : ConfigView) (records : Records) (fields rest : ℕ) → records.version < 2 ^ 24
+    → ((i : ℕ) → i + 1 < 2 ^ 24 → Tree (records.tree i))
+    → c.levels.black < 2 ^ 24 → c.levels.white < 2 ^ 24 → fields + 1 < 2 ^ 24 → rest < 2 ^ 24
+    → ArePlainTokens (json_tokens (document_json c records fields rest (range_with_len 0 fields)))
 unfolding escape_byte
-document_tokens c readings fields rest black white h few small =
+document_tokens c records fields rest version each black white few small =
     let tree = object_tree
-    (with_member (codes "version") refl
-    (subst (λ (s : List ℕ). Tree (json.number s)) two (small_count 2 (lit< tt)))
+    (with_member (codes "version") refl (small_count records.version version)
     (with_member (codes "videoParameters") refl (parameters_tree c black white)
-    (with_member (codes "fields") refl (array_tree (entries_tree readings h 0 fields (omega arith)))
+    (with_member (codes "fields") refl (array_tree (entries_tree records each 0 fields (omega arith)))
     (with_member (codes "cutField") refl (cut_tree (rest == 0) (fields + 1) rest few small) no_member)))) in
     tree.all

@@ -1,16 +1,19 @@
--- The record of a field as tokens, each with a gap before it.
+-- The record of a field as tokens, each with a gap before it: of either version, by its lines, the lines whose causes
+-- it has, and the members that come after those.
 use Rattle.std.proofs.Common.{arith}
-use Rattle.std.proofs.Common.{◌≡◌, ℕ, Bool, true, false, cond, List, [], ◌∷◌, ◌++◌, decimal, sym, ap, ◌∙◌, append_assoc}
+use Rattle.std.proofs.Common.{◌≡◌, ℕ, Bool, true, false, cond, List, [], ◌∷◌, ◌++◌, decimal, refl, sym, ap, ◌∙◌}
+use Rattle.std.proofs.Common.{append_assoc, append-nil}
 use Rattle.std.specs.Prelude.{codes}
 use Rattle.json.specs.Json as json
 use Rattle.json.specs.Print.{escape, escape_byte, quoted}
 use Rattle.json.specs.Spaced.{print_spaced}
 use Rattle.json.specs.Token.{Token}
-use Rattle.json.specs.Tree.{json_tokens}
+use Rattle.json.specs.Tree.{json_tokens, members_tokens}
 use Rattle.vbi_field.specs.Stream.{Reading}
 use Rattle.vbi_field.specs.declared.readings.FieldReadings.{FieldReadings}
 use Rattle.vbi_field.specs.CodeTexts.{cause_text_of}
 use Rattle.vbi_field.specs.Document.{value_of, record_of, lines_of}
+use Rattle.vbi_field.specs.Recovered.{record_with}
 use Rattle.vbi_meta.proofs.ShownLines.{AreShown}
 
 -- ---- tokens and gaps
@@ -44,25 +47,23 @@ words_json readings =
     json.object (json.member (codes "vbiData")
     (lines_json (λ reading. count_json (value_of reading.outcome)) readings) json.no_members)
 
-abbrev pub record_json : ℕ → FieldReadings → json.Json
-record_json n readings =
+-- of a field these lines, these causes, and more members
+abbrev pub record_json : ℕ → FieldReadings → FieldReadings → json.Members → json.Json
+record_json n lines causes more =
     json.object (json.member (codes "seqNo") (count_json n)
-    (json.member (codes "vbi") (words_json readings)
-    (json.member (codes "vbiCause") (lines_json (λ reading. json.string (cause_text_of reading.outcome)) readings)
-    (json.member (codes "vbiPass") (lines_json (λ reading. count_json reading.pass) readings) json.no_members))))
+    (json.member (codes "vbi") (words_json lines)
+    (json.member (codes "vbiCause") (lines_json (λ reading. json.string (cause_text_of reading.outcome)) causes)
+    (json.member (codes "vbiPass") (lines_json (λ reading. count_json reading.pass) lines) more))))
 
 -- ---- its text
 
 pub quoted_then : (s r : List ℕ) → escape s ≡ s → quoted s ++ r ≡ 34 ∷ (s ++ (34 ∷ r))
 quoted_then s r e = ap (λ l. 34 ∷ ((l ++ 34 ∷ []) ++ r)) e ∙ ap (λ l. 34 ∷ l) (append_assoc s (34 ∷ []) r)
 
--- seven parts, and six, one after the other
-seven : (t0 v0 t1 v1 t2 v2 t3 r : List ℕ)
-    → (t0 ++ v0 ++ t1 ++ v1 ++ t2 ++ v2 ++ t3) ++ r ≡ t0 ++ (v0 ++ (t1 ++ (v1 ++ (t2 ++ (v2 ++ (t3 ++ r))))))
-seven t0 v0 t1 v1 t2 v2 t3 r = simp append_assoc
-
-six : (a b c d e f r : List ℕ) → (a ++ b ++ c ++ d ++ e ++ f) ++ r ≡ a ++ (b ++ (c ++ (d ++ (e ++ (f ++ r)))))
-six a b c d e f r = simp append_assoc
+-- seven parts, one after the other
+pub seven : (a b c d e f g r : List ℕ)
+    → (a ++ b ++ c ++ d ++ e ++ f ++ g) ++ r ≡ a ++ (b ++ (c ++ (d ++ (e ++ (f ++ (g ++ r))))))
+seven a b c d e f g r = simp append_assoc
 
 -- one of the three lists of a record: what opens it, a line's text in it, and what closes it
 pub record LineList : Type 0 where
@@ -75,32 +76,32 @@ abbrev pub list_of : LineList → FieldReadings → List ℕ
 list_of list readings = lines_of list.opening list.text_of list.closing readings
 
 -- the words, 0 where a line has none
-abbrev pub words : LineList
-words = record {
+abbrev pub word_list : LineList
+word_list = record {
   opening = codes ",\"vbi\":{\"vbiData\":[";
   text_of = λ line. decimal (value_of line.outcome);
   closing = codes "]}";
 }
 
 -- the causes, each between quotes
-abbrev pub causes : LineList
-causes = record {
+abbrev pub cause_list : LineList
+cause_list = record {
   opening = codes ",\"vbiCause\":[";
   text_of = λ line. codes "\"" ++ cause_text_of line.outcome ++ codes "\"";
   closing = codes "]";
 }
 
 -- the causes as they are printed
-abbrev quoted_causes : LineList
-quoted_causes = record {
-  opening = causes.opening;
+abbrev quoted_list : LineList
+quoted_list = record {
+  opening = cause_list.opening;
   text_of = λ line. quoted (cause_text_of line.outcome);
-  closing = causes.closing;
+  closing = cause_list.closing;
 }
 
 -- the passes
-abbrev pub passes : LineList
-passes = record {
+abbrev pub pass_list : LineList
+pass_list = record {
   opening = codes ",\"vbiPass\":[";
   text_of = λ line. decimal line.pass;
   closing = codes "]";
@@ -128,33 +129,56 @@ lines_same : (opening closing : List ℕ) (f g : Reading → List ℕ) (readings
 unfolding lines_of
 lines_same opening closing f g readings first second third = rw (first, second, third)
 
-causes_same : (readings : FieldReadings) → AreShown readings → list_of quoted_causes readings ≡ list_of causes readings
+causes_same : (readings : FieldReadings) → AreShown readings
+    → list_of quoted_list readings ≡ list_of cause_list readings
 causes_same readings shown = grind (arith, lines_same, quoted_as)
 
--- the record as it is printed, and the rest
-abbrev record_then : ℕ → FieldReadings → List ℕ → List ℕ
-record_then n readings r =
+-- the record as it is printed, up to its other members, and what comes then
+abbrev record_then : ℕ → FieldReadings → FieldReadings → List ℕ → List ℕ
+record_then n lines causes r =
     codes "{\"seqNo\":" ++ (decimal n
-    ++ list_then words readings (list_then quoted_causes readings (list_then passes readings (codes "}" ++ r))))
+    ++ list_then word_list lines (list_then quoted_list causes (list_then pass_list lines r)))
 
-record_text : (n : ℕ) (readings : FieldReadings) (r : List ℕ) → AreShown readings
-    → record_then n readings r ≡ record_of n readings ++ r
-unfolding record_of
-record_text n readings r shown =
-    let last = codes "}" ++ r in
-    let then_passes = list_then passes readings last in
+record_text : (n : ℕ) (lines causes : FieldReadings) (nears r : List ℕ) → AreShown causes
+    → record_then n lines causes (nears ++ (codes "}" ++ r)) ≡ record_with n lines causes nears ++ r
+unfolding record_with
+record_text n lines causes nears r shown =
+    let last = nears ++ (codes "}" ++ r) in
+    let then_passes = list_then pass_list lines last in
     ap (λ l. codes "{\"seqNo\":" ++ (decimal n ++ l))
-    (list_text words readings (list_then quoted_causes readings then_passes)
-    ∙ ap (λ l. list_of words readings ++ l)
-    (list_text quoted_causes readings then_passes ∙ ap (λ l. l ++ then_passes) (causes_same readings shown)
-    ∙ ap (λ l. list_of causes readings ++ l) (list_text passes readings last)))
-    ∙ sym (six (codes "{\"seqNo\":") (decimal n) (list_of words readings) (list_of causes readings)
-    (list_of passes readings) (codes "}") r)
+    (list_text word_list lines (list_then quoted_list causes then_passes)
+    ∙ ap (λ l. list_of word_list lines ++ l)
+    (list_text quoted_list causes then_passes ∙ ap (λ l. l ++ then_passes) (causes_same causes shown)
+    ∙ ap (λ l. list_of cause_list causes ++ l) (list_text pass_list lines last)))
+    ∙ sym (seven (codes "{\"seqNo\":") (decimal n) (list_of word_list lines) (list_of cause_list causes)
+    (list_of pass_list lines) nears (codes "}") r)
 
--- after a line feed, and a comma where another record is before it
-pub record_prints : (before : Bool) (n : ℕ) (readings : FieldReadings) (qs : Pieces) → AreShown readings
-    → print_spaced before (gapped (10 ∷ []) (json_tokens (record_json n readings)) ++ qs)
-    ≡ cond before (44 ∷ []) [] ++ (10 ∷ (record_of n readings ++ print_spaced true qs))
+-- the members that come last are printed as this text, and the bracket after it
+abbrev pub IsLast : json.Members → List ℕ → Type 0
+IsLast more nears = (qs : Pieces)
+    → print_spaced true (plain (members_tokens more) ++ qs) ≡ nears ++ (codes "}" ++ print_spaced true qs)
+
+-- after a gap, and a comma where another record is before it
+pub record_prints : (before : Bool) (gap : List ℕ) (n : ℕ) (lines causes : FieldReadings) (more : json.Members)
+    (nears : List ℕ) (qs : Pieces) → AreShown causes → IsLast more nears
+    → print_spaced before (gapped gap (json_tokens (record_json n lines causes more)) ++ qs)
+    ≡ cond before (44 ∷ []) [] ++ (gap ++ (record_with n lines causes nears ++ print_spaced true qs))
 unfolding print_spaced escape_byte
-record_prints true n readings qs shown = ap (λ l. 44 ∷ 10 ∷ l) (record_text n readings (print_spaced true qs) shown)
-record_prints false n readings qs shown = ap (λ l. 10 ∷ l) (record_text n readings (print_spaced true qs) shown)
+record_prints true gap n lines causes more nears qs shown last =
+    ap (λ l. 44 ∷ (gap ++ l))
+    (ap (record_then n lines causes) (last qs) ∙ record_text n lines causes nears (print_spaced true qs) shown)
+record_prints false gap n lines causes more nears qs shown last =
+    ap (λ l. gap ++ l)
+    (ap (record_then n lines causes) (last qs) ∙ record_text n lines causes nears (print_spaced true qs) shown)
+
+-- ---- version 2: no members more
+
+pub plain_record : (n : ℕ) (readings : FieldReadings) → record_with n readings readings [] ≡ record_of n readings
+unfolding record_with record_of
+plain_record n readings =
+    ap (λ l. codes "{\"seqNo\":" ++ (l ++ codes "}"))
+    (append-nil (decimal n ++ list_of word_list readings ++ list_of cause_list readings ++ list_of pass_list readings))
+
+pub none_last : IsLast json.no_members []
+unfolding print_spaced
+none_last qs = refl

@@ -14,9 +14,11 @@ use Rattle.vbi_field.specs.CodeTexts.{Outcome, Word, Blank, Unfinished, Change, 
 use Rattle.vbi_field.specs.Stream.{Reading, reading_at, readings_at, row_levels, line_at}
 use Rattle.vbi_field.specs.declared.readings.FieldReadings.{FieldReadings}
 use Rattle.vbi_field.specs.ConfigView.{System, ConfigView, Ntsc, Pal, line_bytes}
-use Rattle.vbi_words.specs.Levels.{samples_of}
-use Rattle.vbi_words.specs.Outcomes.{FirstHopeless}
+use Rattle.vbi_words.specs.Levels.{Slicing, samples_of}
+use Rattle.vbi_words.specs.Outcomes.{FirstHopeless, IsOutcome}
 use Rattle.vbi_words.specs.Readings.{Reads}
+use Rattle.vbi_words.specs.Words.{IsWord}
+use Rattle.vbi_line.specs.OneReading.{reading_of}
 use Rattle.vbi_line.proofs.OneReading.{is_reading}
 use Rattle.vbi_field.specs.Document.{value_of}
 
@@ -64,72 +66,86 @@ small_column : (system : System) (levels : List Bool) (column : ℕ) → length 
     → column < 2 ^ 64
 small_column system levels column short is = omega (arith, is.inside)
 
-is_shown : (system : System) (levels : List Bool) → length levels < 2 ^ 64 → (outcome : Outcome) (pass : ℕ)
-    → Reads system levels outcome pass → IsShown (record { outcome = outcome; pass = pass })
+-- a word, in whatever pass
+pub word_shown : (word pass : ℕ) → IsWord word → pass < 2 ^ 64 → IsShown (record { outcome = Word word; pass = pass })
 unfolding escape_byte
-is_shown system levels short (Word w) pass (inl (p, shows)) =
+word_shown word pass is small =
     record {
-      value = omega (arith, shows.is_word.1);
-      pass = omega arith;
+      value = omega (arith, is.1);
+      pass = small;
       free = refl;
       utf8 = IsUtf8-are_ascii _ refl;
     }
+
+-- what levels show
+pub outcome_shown : (system : System) (levels : List Bool) → length levels < 2 ^ 64 → (outcome : Outcome) (pass : ℕ)
+    → IsOutcome system levels outcome → pass < 2 ^ 64 → IsShown (record { outcome = outcome; pass = pass })
+unfolding escape_byte
+outcome_shown system levels short (Word w) pass shows small = word_shown w pass shows.is_word small
+outcome_shown system levels short Blank pass is small =
+    record { value = lit< tt; pass = small; free = refl; utf8 = IsUtf8-are_ascii _ refl }
+outcome_shown system levels short Unfinished pass is small =
+    record { value = lit< tt; pass = small; free = refl; utf8 = IsUtf8-are_ascii _ refl }
+outcome_shown system levels short (Change c) pass is small =
+    let column = small_column system levels c short is.2 in
+    record {
+      value = lit< tt;
+      pass = small;
+      free = column_free (codes "change ") c refl column;
+      utf8 = column_utf8 (codes "change ") c refl column;
+    }
+outcome_shown system levels short (Hold c) pass is small =
+    let column = small_column system levels c short is.2 in
+    record {
+      value = lit< tt;
+      pass = small;
+      free = column_free (codes "hold ") c refl column;
+      utf8 = column_utf8 (codes "hold ") c refl column;
+    }
+
+pub is_shown : (system : System) (levels : List Bool) → length levels < 2 ^ 64 → (outcome : Outcome) (pass : ℕ)
+    → Reads system levels outcome pass → IsShown (record { outcome = outcome; pass = pass })
+is_shown system levels short (Word w) pass (inl (p, shows)) = word_shown w pass shows.is_word (omega arith)
 is_shown system levels short (Word w) pass (inr (p, none, high, shows)) =
-    record {
-      value = omega (arith, shows.is_word.1);
-      pass = omega arith;
-      free = refl;
-      utf8 = IsUtf8-are_ascii _ refl;
-    }
+    word_shown w pass shows.is_word (omega arith)
 is_shown system levels short Blank pass (p, is, none) =
-    record {
-      value = lit< tt;
-      pass = omega arith;
-      free = refl;
-      utf8 = IsUtf8-are_ascii _ refl;
-    }
+    outcome_shown system levels short Blank pass is (omega arith)
 is_shown system levels short Unfinished pass (p, is, none) =
-    record {
-      value = lit< tt;
-      pass = omega arith;
-      free = refl;
-      utf8 = IsUtf8-are_ascii _ refl;
-    }
+    outcome_shown system levels short Unfinished pass is (omega arith)
 is_shown system levels short (Change c) pass (p, is, none) =
-    let small = small_column system levels c short is.2 in
-    record {
-      value = lit< tt;
-      pass = omega arith;
-      free = column_free (codes "change ") c refl small;
-      utf8 = column_utf8 (codes "change ") c refl small;
-    }
+    outcome_shown system levels short (Change c) pass is (omega arith)
 is_shown system levels short (Hold c) pass (p, is, none) =
-    let small = small_column system levels c short is.2 in
-    record {
-      value = lit< tt;
-      pass = omega arith;
-      free = column_free (codes "hold ") c refl small;
-      utf8 = column_utf8 (codes "hold ") c refl small;
-    }
+    outcome_shown system levels short (Hold c) pass is (omega arith)
+
+-- the reading of levels
+pub reading_shown : (system : System) (levels : List Bool) → length levels < 2 ^ 64
+    → IsShown (reading_of system levels)
+reading_shown system levels short = is_shown system levels short _ _ (is_reading system levels)
 
 -- ---- the rows of a stream
 
-samples_below : (bytes : List ℕ) → length (samples_of bytes) ≤ length bytes
+pub samples_below : (bytes : List ℕ) → length (samples_of bytes) ≤ length bytes
 samples_below [] = omega arith
 samples_below (low ∷ []) = omega arith
 samples_below (low ∷ high ∷ bytes) = omega (arith, samples_below bytes)
 
-short_line : (system : System) → line_bytes system < 2 ^ 64
-short_line Ntsc = lit< tt
-short_line Pal = lit< tt
+-- a row of a line of either system, by its bytes
+abbrev pub IsShort : List ℕ → Type 0
+IsShort bytes = length bytes ≤ 2270
 
-pub short_levels : (c : ConfigView) (z : List ℕ) (i r : ℕ)
-    → length (row_levels c.levels (line_at c.system z i r)) < 2 ^ 64
-short_levels c z i r = grind (arith, length-take, length-map, samples_below, short_line)
+line_few : (system : System) → line_bytes system ≤ 2270
+line_few Ntsc = omega arith
+line_few Pal = omega arith
+
+pub short_row : (system : System) (z : List ℕ) (i r : ℕ) → IsShort (line_at system z i r)
+short_row system z i r = grind (arith, length-take, line_few)
+
+pub short_levels : (slicing : Slicing) (bytes : List ℕ) → IsShort bytes → length (row_levels slicing bytes) < 2 ^ 64
+short_levels slicing bytes short = grind (arith, length-map, samples_below)
 
 row_shown : (c : ConfigView) (z : List ℕ) (i r : ℕ) → IsShown (reading_at c z i r)
 row_shown c z i r =
-    is_shown c.system _ (short_levels c z i r) _ _ (is_reading c.system (row_levels c.levels (line_at c.system z i r)))
+    reading_shown c.system _ (short_levels c.levels (line_at c.system z i r) (short_row c.system z i r))
 
 pub field_shown : (c : ConfigView) (z : List ℕ) (i : ℕ) → AreShown (readings_at c z i)
 field_shown c z i = record { first = row_shown c z i 15; second = row_shown c z i 16; third = row_shown c z i 17 }

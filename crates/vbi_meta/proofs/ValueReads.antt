@@ -1,11 +1,10 @@
--- Trees of JSON and the values that they are read as, built together, and those of a document.
+-- Trees of JSON and the values that they are read as, built together, and those of a document of either version.
 use Rattle.std.proofs.Common.{◌≡◌, ◌≢◌, ℕ, suc, zero, ◌+◌, ◌<◌, ◌≤◌, ◌^◌, ◌==◌, ◌&&◌, not, Bool, true, false, cond}
-use Rattle.std.proofs.Common.{bytes_eq, get_or, length, List, [], ◌∷◌, ◌++◌, Some, option_map, option_and_then, decimal}
-use Rattle.std.proofs.Common.{IsUtf8, map, refl, sym, ap, ap₂, ◌∙◌, subst, arith, lit<, lit≤}
+use Rattle.std.proofs.Common.{bytes_eq, get_or, length, List, [], ◌∷◌, ◌++◌, Some, option_map, option_and_then}
+use Rattle.std.proofs.Common.{IsUtf8, map, refl, sym, ap, ap₂, ◌∙◌, arith, lit<, lit≤}
 use Rattle.std.proofs.lemmas.Bool.{true≢false, not-true, and_parts}
 use Rattle.std.proofs.lemmas.Slice.Eq.{bytes_eq-Decides}
 use Rattle.std.proofs.lemmas.Str.{IsUtf8-append, IsUtf8-nil}
-use Rattle.std.specs.Fmt.{digits}
 use Rattle.std.specs.List.{range_with_len}
 use Rattle.std.specs.Prelude.{codes, fold, ⊤}
 use Rattle.json.proofs.Printed.Decimals.{IsNumber-decimal}
@@ -27,9 +26,14 @@ use Rattle.vbi_field.specs.Stream.{Reading}
 use Rattle.vbi_field.specs.declared.readings.FieldReadings.{FieldReadings}
 use Rattle.vbi_field.specs.CodeTexts.{cause_text_of}
 use Rattle.vbi_field.specs.Document.{value_of}
-use Rattle.vbi_meta.specs.DocumentValue.{object_of, array_of, whole_of, lines_value, field_value}
-use Rattle.vbi_meta.specs.DocumentValue.{parameters_value, cut_value}
-use Rattle.vbi_meta.proofs.DocumentTexts.{tokens_of, parameters_json, cut_json, entries_json, document_json}
+use Rattle.vbi_field.specs.Recovered.{Near, FieldRecovered, word_or_zero, hundredths, cause_lines}
+use Rattle.vbi_field.specs.Shown.{as_readings}
+use Rattle.vbi_words.specs.Levels.{Slicing}
+use Rattle.vbi_meta.specs.DocumentValue.{object_of, array_of, whole_of, lines_value, field_with, field_value}
+use Rattle.vbi_meta.specs.DocumentValue.{near_value, nears_value, recovered_field_value, parameters_value}
+use Rattle.vbi_meta.specs.DocumentValue.{document_with}
+use Rattle.vbi_meta.proofs.DocumentTexts.{tokens_of, Records, parameters_json, cut_json, entries_json, document_json}
+use Rattle.vbi_meta.proofs.NearTexts.{near_json_by, near_json, nears_json, recovered_json}
 use Rattle.vbi_meta.proofs.RecordTexts.{Pieces, count_json, lines_json, words_json, record_json}
 use Rattle.vbi_meta.proofs.ShownLines.{AreShown, decimal_utf8}
 
@@ -168,35 +172,91 @@ lines_read : (tree : Reading → json.Json) (said : Reading → Data) (readings 
     → Reads (tree readings.third) (said readings.third) → Reads (lines_json tree readings) (lines_value said readings)
 lines_read tree said readings a b c = array_reads (with_item a (with_item b (with_item c no_item)))
 
-words_read : (readings : FieldReadings) → AreShown readings → Reads (words_json readings)
-    (object_of ((codes "vbiData", lines_value (λ x. whole_of (value_of x.outcome)) readings) ∷ []))
-words_read readings shown =
+words_read : (lines : FieldReadings) → AreShown lines → Reads (words_json lines)
+    (object_of ((codes "vbiData", lines_value (λ x. whole_of (value_of x.outcome)) lines) ∷ []))
+words_read lines shown =
     object_reads refl
     (with_member (codes "vbiData") refl
-    (lines_read (λ x. count_json (value_of x.outcome)) (λ x. whole_of (value_of x.outcome)) readings
+    (lines_read (λ x. count_json (value_of x.outcome)) (λ x. whole_of (value_of x.outcome)) lines
     (count_reads _ shown.first.value) (count_reads _ shown.second.value) (count_reads _ shown.third.value)) no_member)
 
-causes_read : (readings : FieldReadings) → AreShown readings
-    → Reads (lines_json (λ x. json.string (cause_text_of x.outcome)) readings)
-    (lines_value (λ x. string (cause_text_of x.outcome)) readings)
-causes_read readings shown =
-    lines_read (λ x. json.string (cause_text_of x.outcome)) (λ x. string (cause_text_of x.outcome)) readings
+causes_read : (causes : FieldReadings) → AreShown causes
+    → Reads (lines_json (λ x. json.string (cause_text_of x.outcome)) causes)
+    (lines_value (λ x. string (cause_text_of x.outcome)) causes)
+causes_read causes shown =
+    lines_read (λ x. json.string (cause_text_of x.outcome)) (λ x. string (cause_text_of x.outcome)) causes
     (string_reads _ shown.first.utf8) (string_reads _ shown.second.utf8) (string_reads _ shown.third.utf8)
 
-passes_read : (readings : FieldReadings) → AreShown readings
-    → Reads (lines_json (λ x. count_json x.pass) readings) (lines_value (λ x. whole_of x.pass) readings)
-passes_read readings shown =
-    lines_read (λ x. count_json x.pass) (λ x. whole_of x.pass) readings
+passes_read : (lines : FieldReadings) → AreShown lines
+    → Reads (lines_json (λ x. count_json x.pass) lines) (lines_value (λ x. whole_of x.pass) lines)
+passes_read lines shown =
+    lines_read (λ x. count_json x.pass) (λ x. whole_of x.pass) lines
     (count_reads _ shown.first.pass) (count_reads _ shown.second.pass) (count_reads _ shown.third.pass)
 
-field_reads : (n : ℕ) (readings : FieldReadings) → n < 2 ^ 64 → AreShown readings
-    → Reads (record_json n readings) (field_value n readings)
-field_reads n readings small shown =
-    object_reads refl
+-- the names of a record's members, with those of others
+abbrev record_keys : json.Members → List (List ℕ)
+record_keys more = codes "seqNo" ∷ codes "vbi" ∷ codes "vbiCause" ∷ codes "vbiPass" ∷ keys more
+
+record_reads : (n : ℕ) (lines causes : FieldReadings) {more : json.Members} {ds : List (List ℕ × Data)} → n < 2 ^ 64
+    → AreShown lines → AreShown causes → distinct (record_keys more) ≡ true → ReadsMembers more ds
+    → Reads (record_json n lines causes more) (field_with n lines causes ds)
+record_reads n lines causes small shown told apart others =
+    object_reads apart
     (with_member (codes "seqNo") refl (count_reads n small)
-    (with_member (codes "vbi") refl (words_read readings shown)
-    (with_member (codes "vbiCause") refl (causes_read readings shown)
-    (with_member (codes "vbiPass") refl (passes_read readings shown) no_member))))
+    (with_member (codes "vbi") refl (words_read lines shown)
+    (with_member (codes "vbiCause") refl (causes_read causes told)
+    (with_member (codes "vbiPass") refl (passes_read lines shown) others))))
+
+-- a record of version 2
+pub field_reads : (n : ℕ) (readings : FieldReadings) → n < 2 ^ 64 → AreShown readings
+    → Reads (record_json n readings readings json.no_members) (field_value n readings)
+field_reads n readings small shown = record_reads n readings readings small shown shown refl no_member
+
+-- ---- nearest words
+
+-- the numbers that a document has of a nearest word
+pub record IsFew (slicing : Slicing) (near : Near) : Type 0 where
+  pub word : word_or_zero near.word < 2 ^ 64
+  pub distance : hundredths slicing near.distance < 2 ^ 64
+  pub rival : hundredths slicing near.rival < 2 ^ 64
+
+-- what a document has of a field with recovered words
+pub record IsWritten (slicing : Slicing) (field : FieldRecovered) : Type 0 where
+  pub lines : AreShown (as_readings field.shown)
+  pub causes : AreShown (cause_lines (as_readings field.shown) field.readings)
+  pub first : IsFew slicing field.first
+  pub second : IsFew slicing field.second
+  pub third : IsFew slicing field.third
+
+near_reads_by : (is_recovered : Bool) (word distance rival : ℕ) → word < 2 ^ 64 → distance < 2 ^ 64 → rival < 2 ^ 64
+    → Reads (near_json_by is_recovered word distance rival) (cond is_recovered (object_of (
+    (codes "word", whole_of word) ∷ (codes "distance", whole_of distance) ∷ (codes "rival", whole_of rival) ∷ [])) null)
+near_reads_by false word distance rival hw hd hr = null_reads
+near_reads_by true word distance rival hw hd hr =
+    object_reads refl
+    (with_member (codes "word") refl (count_reads word hw)
+    (with_member (codes "distance") refl (count_reads distance hd)
+    (with_member (codes "rival") refl (count_reads rival hr) no_member)))
+
+near_reads : (slicing : Slicing) (line : Reading) (near : Near) → IsFew slicing near
+    → Reads (near_json slicing line near) (near_value slicing line near)
+near_reads slicing line near few = near_reads_by (line.pass == 3) _ _ _ few.word few.distance few.rival
+
+nears_read : (slicing : Slicing) (lines : FieldReadings) (field : FieldRecovered) → IsFew slicing field.first
+    → IsFew slicing field.second → IsFew slicing field.third
+    → Reads (nears_json slicing lines field) (nears_value slicing lines field)
+nears_read slicing lines field a b c =
+    array_reads (with_item (near_reads slicing lines.first field.first a)
+    (with_item (near_reads slicing lines.second field.second b)
+    (with_item (near_reads slicing lines.third field.third c) no_item)))
+
+-- a record of version 3
+pub recovered_reads : (slicing : Slicing) (n : ℕ) (field : FieldRecovered) → n < 2 ^ 64 → IsWritten slicing field
+    → Reads (recovered_json slicing n field) (recovered_field_value slicing n field)
+recovered_reads slicing n field small is =
+    let lines = as_readings field.shown in
+    record_reads n lines (cause_lines lines field.readings) small is.lines is.causes refl
+    (with_member (codes "vbiNear") refl (nears_read slicing lines field is.first is.second is.third) no_member)
 
 -- ---- the document
 
@@ -231,47 +291,36 @@ cut_reads false n bytes hn hb =
     (with_member (codes "seqNo") refl (count_reads n hn)
     (with_member (codes "bytes") refl (count_reads bytes hb) no_member))
 
-two : decimal 2 ≡ codes "2"
-unfolding digits
-two = refl
-
-two_reads : Reads (json.number (codes "2")) (whole_of 2)
-two_reads = let P : List ℕ → Type 0 = λ s. Reads (json.number s) (whole_of 2) in subst P two (count_reads 2 (lit< tt))
-
-module _ (readings : ℕ → FieldReadings) where
-  entries_read : ((i : ℕ) → AreShown (readings i)) → (i n : ℕ) → i + n < 2 ^ 64
-      → ReadsItems (entries_json readings (range_with_len i n))
-      (map (λ i. field_value (i + 1) (readings i)) (range_with_len i n))
-  entries_read shown i zero h = no_item
-  entries_read shown i (suc n) h =
-      with_item (field_reads (i + 1) (readings i) (omega arith) (shown i)) (entries_read shown (i + 1) n (omega arith))
-
-  entries_depth : (is : List ℕ) → items_depth (entries_json readings is) ≤ 3
-  entries_depth [] = lit≤ tt
-  entries_depth (i ∷ is) = omega (arith, entries_depth is)
-
 cut_depth : (whole : Bool) (n bytes : ℕ) → depth (cut_json whole n bytes) ≤ 1
 cut_depth true n bytes = lit≤ tt
 cut_depth false n bytes = lit≤ tt
 
-module _ (c : ConfigView) (readings : ℕ → FieldReadings) (fields rest : ℕ) where
-  abbrev pub stream_value : Data
-  stream_value = object_of (
-      (codes "version", whole_of 2)
-      ∷ (codes "videoParameters", parameters_value c)
-      ∷ (codes "fields", array_of (map (λ i. field_value (i + 1) (readings i)) (range_with_len 0 fields)))
-      ∷ (codes "cutField", cut_value fields rest)
-      ∷ [])
+-- the records of a document are read as these values
+pub record AreRead (records : Records) (values : ℕ → Data) : Type 0 where
+  pub version : records.version < 2 ^ 64
+  pub each : (i : ℕ) → i + 1 < 2 ^ 64 → Reads (records.tree i) (values i)
+  pub shallow : (i : ℕ) → depth (records.tree i) ≤ 3
 
-  pub stream_reads : c.levels.black < 2 ^ 64 → c.levels.white < 2 ^ 64 → ((i : ℕ) → AreShown (readings i))
-      → fields + 1 < 2 ^ 64
-      → rest < 2 ^ 64 → Reads (document_json c readings fields rest (range_with_len 0 fields)) stream_value
-  stream_reads black white shown few small =
-      object_reads refl
-      (with_member (codes "version") refl two_reads
-      (with_member (codes "videoParameters") refl (parameters_read c black white)
-      (with_member (codes "fields") refl (array_reads (entries_read readings shown 0 fields (omega arith)))
-      (with_member (codes "cutField") refl (cut_reads (rest == 0) (fields + 1) rest few small) no_member))))
+module _ (records : Records) (values : ℕ → Data) (are : AreRead records values) where
+  entries_read : (i n : ℕ) → i + n < 2 ^ 64
+      → ReadsItems (entries_json records (range_with_len i n)) (map values (range_with_len i n))
+  entries_read i zero h = no_item
+  entries_read i (suc n) h = with_item (are.each i (omega arith)) (entries_read (i + 1) n (omega arith))
 
-  pub stream_depth : (is : List ℕ) → depth (document_json c readings fields rest is) ≤ max_depth
-  stream_depth is = omega (arith, entries_depth readings is, cut_depth (rest == 0) (fields + 1) rest)
+  entries_depth : (is : List ℕ) → items_depth (entries_json records is) ≤ 3
+  entries_depth [] = lit≤ tt
+  entries_depth (i ∷ is) = omega (arith, are.shallow i, entries_depth is)
+
+  module _ (c : ConfigView) (fields rest : ℕ) where
+    pub stream_reads : c.levels.black < 2 ^ 64 → c.levels.white < 2 ^ 64 → fields + 1 < 2 ^ 64 → rest < 2 ^ 64
+        → Reads (document_json c records fields rest (range_with_len 0 fields))
+        (document_with records.version values c fields rest)
+    stream_reads black white few small =
+        object_reads refl
+        (with_member (codes "version") refl (count_reads records.version are.version)
+        (with_member (codes "videoParameters") refl (parameters_read c black white)
+        (with_member (codes "fields") refl (array_reads (entries_read 0 fields (omega arith)))
+        (with_member (codes "cutField") refl (cut_reads (rest == 0) (fields + 1) rest few small) no_member))))
+
+    pub stream_depth : (is : List ℕ) → depth (document_json c records fields rest is) ≤ max_depth
+    stream_depth is = omega (arith, entries_depth is, cut_depth (rest == 0) (fields + 1) rest)

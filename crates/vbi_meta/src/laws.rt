@@ -1,12 +1,18 @@
 //! Laws over the definitions: each function's contract is one, for every config and stream.
 
-ghost use Rattle.std.specs.Prelude.{ℕ, List, Option};
+ghost use Rattle.std.specs.Prelude.{ℕ, ◌<◌, ◌^◌, Bool, List, Option};
+ghost use Rattle.vbi_words.specs.declared.system.System.{System};
+ghost use Rattle.vbi_words.specs.Levels.{Slicing};
 ghost use Rattle.vbi_field.specs.ConfigView.{ConfigView};
 ghost use Rattle.vbi_field.specs.Extracts.{ExtractsAll};
-ghost use Rattle.vbi_field.specs.Texts.{document, whole_text};
-ghost use Rattle.vbi_meta.specs.ReadBack.{IsPlainText, IsReadAs, HasReadings, ReadsBack};
+ghost use Rattle.vbi_field.specs.Recovered.{recovered_record_of, recovered_without};
+ghost use Rattle.vbi_field.specs.Stream.{rows_in};
+ghost use Rattle.vbi_field.specs.Texts.{document, recovered_document, whole_text};
+ghost use Rattle.vbi_meta.specs.ReadBack.{IsPlainText, IsReadAs, HasReadings, HasRecovered, ReadsBack};
+ghost use Rattle.vbi_meta.specs.ReadBack.{RecoversBack};
 ghost use Rattle.vbi_field.specs.declared.summary.Summary.{Summary};
-ghost use Rattle.vbi_meta.specs.DocumentValue.{IsConfig, IsOfRun, document_value};
+ghost use Rattle.vbi_meta.specs.DocumentValue.{IsConfig, IsOfRun, document_value, recovered_value};
+ghost use Rattle.vbi_meta.specs.DocumentValue.{recovered_field_value};
 
 /// The document of a stream is JSON in UTF-8, its value is the one that `specs/DocumentValue` names member by member,
 /// and no object in it has a key twice.
@@ -25,6 +31,35 @@ pub fn document_words()
 pub fn extracted_words()
     ensures { (c : ConfigView) (input : Option (List ℕ)) (z text : List ℕ) (summary : Summary)
         → IsConfig c → ExtractsAll document c input z text summary → ReadsBack c z text }
+{}
+
+/// The document of a stream with recovered words is JSON in UTF-8, its value is the one that `specs/DocumentValue`
+/// names member by member, and no object in it has a key twice.
+pub fn recovered_reads()
+    ensures { (c : ConfigView) (z : List ℕ) → IsOfRun c z
+        → IsReadAs (whole_text recovered_document c z) (recovered_value c z) }
+{}
+
+/// What a reader of JSON finds in the document of a stream with recovered words is what the rule of recovery makes of
+/// its lines: words, causes, passes, nearest words, the fields' numbers and the cut field.
+pub fn recovered_words()
+    ensures { (c : ConfigView) (z : List ℕ) → IsOfRun c z → HasRecovered c z (whole_text recovered_document c z) }
+{}
+
+/// A record of that document by itself, as `vbi_field::recovered_record` answers it, is JSON in UTF-8, its value is the
+/// one that `specs/DocumentValue` names, and no object in it has a key twice, whichever columns are erased.
+pub fn record_reads()
+    ensures { (system : System) (slicing : Slicing) (number : ℕ) (bytes : List ℕ) (marks : List Bool)
+        → slicing.white < 2 ^ 16 → number < 2 ^ 64
+        → let field = recovered_without system slicing (rows_in system bytes) marks in
+        IsReadAs (recovered_record_of slicing number field) (recovered_field_value slicing number field) }
+{}
+
+/// The bytes that `extract_recovered` wrote when it answered Ok are read as the document of the bytes that it fetched
+/// with recovered words, and have what the lines in them show. Its contract says `ExtractsAll` then.
+pub fn extracted_recovered()
+    ensures { (c : ConfigView) (input : Option (List ℕ)) (z text : List ℕ) (summary : Summary)
+        → IsConfig c → ExtractsAll recovered_document c input z text summary → RecoversBack c z text }
 {}
 
 /// The document of a stream is plain: its bytes are printed ASCII without a backslash, so without escapes, and line

@@ -1,6 +1,8 @@
 -- The words that lines may have: those that are nearest to their samples, as they are and levelled.
 use Rattle.std.specs.Prelude.{◌≡◌, ℕ, ◌*◌, ◌&&◌, Bool, true, false, nat_le, List, [], ◌∷◌, Option, Some, None}
+use Rattle.std.specs.Prelude.{take, drop}
 use Rattle.vbi_words.specs.declared.system.System.{System}
+use Rattle.vbi_words.specs.Geometry.{width_of}
 use Rattle.vbi_words.specs.Levels.{Slicing, samples_of}
 use Rattle.vbi_near.specs.declared.lines.Nears.{Nears}
 use Rattle.vbi_near.specs.Distances.{Samples, unit_of, known_but}
@@ -35,6 +37,10 @@ pub record Row : Type 0 where
 
 abbrev pub row_of : List ℕ → List Bool → Row
 row_of bytes erased = record { bytes = bytes; erased = erased }
+
+-- the marks of the erased columns of a line, counted from 0, if those of some lines lie one line after the other
+abbrev pub marks_at : System → List Bool → ℕ → List Bool
+marks_at system marks line = take (width_of system) (drop (width_of system * line) marks)
 
 -- its samples, but those that are erased
 abbrev pub given_samples : Row → Samples

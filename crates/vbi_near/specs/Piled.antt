@@ -1,15 +1,15 @@
 -- The word that lines say together which all have one word, or none: by their nearest words levelled, if they may be
 -- levelled together, and if these say none, by those of the lines as they are.
-use Rattle.std.specs.Prelude.{◌≡◌, ℕ, ◌*◌, Bool, if◌then◌else◌, List, length, map, take, drop, Option, Some}
+use Rattle.std.specs.Prelude.{◌≡◌, ℕ, ◌*◌, Bool, if◌then◌else◌, List, length, map, Option, Some}
 use Rattle.std.specs.List.{list_all, range_with_len}
 use Rattle.vbi_words.specs.declared.system.System.{System}
-use Rattle.vbi_words.specs.Geometry.{width_of, line_at}
+use Rattle.vbi_words.specs.Geometry.{line_at}
 use Rattle.vbi_words.specs.Levels.{Slicing}
 use Rattle.vbi_near.specs.declared.margins.Margins.{Margins}
 use Rattle.vbi_near.specs.Distances.{unit_of}
 use Rattle.vbi_near.specs.Said.{recovered_by, first_said}
 use Rattle.vbi_near.specs.Candidates.{Row, row_of, given_samples, levelled_samples, swing_in, are_alike_by}
-use Rattle.vbi_near.specs.Candidates.{Candidates, HasNear, HasNearIf}
+use Rattle.vbi_near.specs.Candidates.{Candidates, HasNear, HasNearIf, marks_at}
 use Rattle.vbi_near.specs.Levelled.{levelled_unit, levelled_slicing}
 
 -- ---- the rule
@@ -56,7 +56,7 @@ IsSaidTogether system number slicing known rows said = (near : Candidates)
 -- a line of some that lie one after the other, as do the marks of their erased columns, counted from 0
 abbrev pub row_in : System → List ℕ → List Bool → ℕ → Row
 row_in system lines erased i =
-    row_of (line_at system lines 0 i) (take (width_of system) (drop (width_of system * i) erased))
+    row_of (line_at system lines 0 i) (marks_at system erased i)
 
 -- the first ones of them, this many
 abbrev pub rows_in : System → List ℕ → List Bool → ℕ → List Row

@@ -1,7 +1,7 @@
 -- The words of a field's three lines: those that its lines show, and if a line shows none, the word that its samples
 -- say (Said.antt): first the levelled ones, and if these say none, those as they are.
-use Rattle.std.specs.Prelude.{◌≡◌, ℕ, ◌+◌, ◌*◌, ◌==◌, ◌&&◌, ◌||◌, Bool, true, false, not, List, [], ◌∷◌, take}
-use Rattle.std.specs.Prelude.{drop, replicate, nat_le, IsTrue, Option, Some, None, if◌then◌else◌}
+use Rattle.std.specs.Prelude.{◌≡◌, ℕ, ◌+◌, ◌*◌, ◌==◌, ◌&&◌, ◌||◌, Bool, true, false, not, List, [], ◌∷◌}
+use Rattle.std.specs.Prelude.{replicate, nat_le, IsTrue, Option, Some, None, if◌then◌else◌}
 use Rattle.vbi_words.specs.declared.system.System.{System}
 use Rattle.vbi_words.specs.declared.outcome.Outcome.{Outcome}
 use Rattle.vbi_words.specs.declared.outcome.Outcome.TheVariants.{Word, Blank}
@@ -17,7 +17,7 @@ use Rattle.vbi_near.specs.Distances.{unit_of}
 use Rattle.vbi_near.specs.Margins.{levelled_margins, given_margins}
 use Rattle.vbi_near.specs.Said.{said_if, recovered_by, first_said, is_said, stand_of}
 use Rattle.vbi_near.specs.Said.{said_in}
-use Rattle.vbi_near.specs.Candidates.{Candidates, Row, row_of, given_samples}
+use Rattle.vbi_near.specs.Candidates.{Candidates, Row, row_of, marks_at, given_samples}
 use Rattle.vbi_near.specs.Candidates.{AreOf, AreOfBoth}
 use Rattle.vbi_near.specs.Levelled.{levelled_unit}
 use Rattle.vbi_near.specs.Stretched.{IsStretched}
@@ -166,7 +166,7 @@ none_erased system = replicate (3 * width_of system) false
 -- a row of three, counted from 0, of which some columns are erased
 abbrev pub row_at : System → List ℕ → List Bool → ℕ → Row
 row_at system rows erased i =
-    row_of (line_at system rows 0 i) (take (width_of system) (drop (width_of system * i) erased))
+    row_of (line_at system rows 0 i) (marks_at system erased i)
 
 -- the reading of a row of three, counted from 0
 abbrev pub row_reading : System → Slicing → List ℕ → ℕ → Reading

@@ -43,4 +43,5 @@ pub use near::{Near, nearest};
 pub use pile::{add_line, nearest_of_lines};
 pub use piled::recover_pile;
 pub use recovery::{Recovered, recover_rows};
+pub use row::marks_of_line;
 pub use stretched::stretched_distance;

@@ -1,7 +1,8 @@
 //! Lines whose words are sought.
 
-ghost use Rattle.std.specs.Prelude.{◌≡◌, ◌+◌, ◌*◌, ◌≤◌, ◌<◌, length, take, drop};
+ghost use Rattle.std.specs.Prelude.{◌≡◌, ◌+◌, ◌*◌, ◌≤◌, ◌<◌, length};
 ghost use Rattle.vbi_words.specs.Geometry.{line_bytes, line_at, width_of};
+ghost use Rattle.vbi_near.specs.Candidates.{marks_at};
 
 use vbi_words::System;
 
@@ -81,7 +82,7 @@ impl<'a> Rows<'a> {
         Row {
             system: self.system,
             bytes: line_of(self.system, self.bytes, line),
-            erased: erased_of(self.system, self.erased, line),
+            erased: marks_of_line(self.system, self.erased, line),
         }
     }
 }
@@ -96,12 +97,12 @@ pub(crate) fn line_of(system: System, lines: &[u8], line: usize) -> &[u8]
     &lines[size * line..size * line + size]
 }
 
-/// The erased columns of a line, counted from 0.
-fn erased_of(system: System, erased: &[bool], line: usize) -> &[bool]
-    requires { width_of system * line + width_of system ≤ length erased.now }
-    ensures columns { result.now ≡ take (width_of system) (drop (width_of system * line) erased.now) }
+/// The marks of the erased columns of a line, counted from 0, if those of some lines lie one line after the other.
+pub fn marks_of_line(system: System, marks: &[bool], line: usize) -> &[bool]
+    requires { width_of system * line + width_of system ≤ length marks.now }
+    ensures marks { result.now ≡ marks_at system marks.now line }
     ensures long { length result.now ≡ width_of system }
 {
     let width = system.width();
-    &erased[width * line..width * line + width]
+    &marks[width * line..width * line + width]
 }

@@ -72,7 +72,7 @@ one_chapter fields i m n a b = go (eqb_tells m n)
 -- ---- answers
 
 -- what is answered as believed is
-answer_believed : (fields : List Sightings) (i n : ℕ) (answer : Number) → IsChapter fields i answer
+pub answer_believed : (fields : List Sightings) (i n : ℕ) (answer : Number) → IsChapter fields i answer
     → answer ≡ believed n → BelievedChapter fields i n
 answer_believed fields i n answer (inl (m, b, is)) e =
     subst (BelievedChapter fields i) (ap (λ (a : Number). a.number) (sym is ∙ e)) b

@@ -13,18 +13,19 @@ use Rattle.vbi_side.specs.declared.sighting.Sightings.{Sightings}
 use Rattle.vbi_side.specs.declared.verdict.Finding.{Finding}
 use Rattle.vbi_side.specs.Sightings.{Shows}
 use Rattle.vbi_side.specs.Clocks.{kept, nearly_by}
+use Rattle.vbi_side.specs.Blanks.{IsBlank, IsBlankTold}
 use Rattle.vbi_side.specs.CleanRuns.{IsReadTwice, IsOneOfThree}
 use Rattle.vbi_side.specs.Drifts.{IsDrift, IsDriftTold}
 use Rattle.vbi_side.specs.Ends.{lead_out}
 use Rattle.vbi_side.specs.Gaps.{AreNeighbours, AreGaps, gap_as, kind_of, ended_between}
 use Rattle.vbi_side.specs.Gaps.{shown_between, since_end}
 use Rattle.vbi_side.specs.Detours.{detoured, detoured_from}
-use Rattle.vbi_side.specs.Told.{tally_of, away_of}
+use Rattle.vbi_side.specs.Told.{tally_of}
 use Rattle.vbi_side.specs.Numbers.{believed, nothing, doubtful_of, AreAnswers, IsAnswer, IsMarked}
 use Rattle.vbi_side.specs.Side.{AreEnds}
 use Rattle.vbi_side.specs.Swaps.{IsSwap, IsSwapTold}
 use Rattle.vbi_side.specs.Verdicts.{IsFinding, IsUntold, found_whole, reasons_of, too_few, is_off, is_begin_unseen}
-use Rattle.vbi_side.specs.Verdicts.{lead_out_follows, is_end_unseen, count_of, are_doubtful, verdict_of, yes}
+use Rattle.vbi_side.specs.Verdicts.{lead_out_follows, is_end_unseen, count_of, are_doubtful, padded_in, verdict_of, yes}
 use Rattle.vbi_side.proofs.CleanRuns.{place_of, shown_marked, marked_at, all_believed}
 use Rattle.vbi_side.proofs.Counting.{kept_is}
 use Rattle.vbi_side.proofs.GapLaws.{none_found}
@@ -40,15 +41,20 @@ made tally first last swap verdict reasons = record {
   first = first;
   last = last;
   swap = swap;
+  padded = 0;
+  blank = 0;
   verdict = verdict;
   reasons = reasons;
 }
 
 same_finding : (finding : Finding) (tally : Tally) (first last swap verdict reasons : ℕ) → finding.tally ≡ tally
-    → finding.first ≡ first → finding.last ≡ last → finding.swap ≡ swap → finding.verdict ≡ verdict
-    → finding.reasons ≡ reasons → finding ≡ made tally first last swap verdict reasons
-same_finding finding tally first last swap verdict reasons a b c d e f =
-    ap (λ (x : Tally). made x finding.first finding.last finding.swap finding.verdict finding.reasons) a
+    → finding.first ≡ first → finding.last ≡ last → finding.swap ≡ swap → finding.padded ≡ 0
+    → finding.blank ≡ 0
+    → finding.verdict ≡ verdict → finding.reasons ≡ reasons → finding ≡ made tally first last swap verdict reasons
+same_finding finding tally first last swap verdict reasons a b c d none dark e f =
+    ap (λ (x : ℕ). let one : Finding = record finding { padded = x } in one) none
+    ∙ ap (λ (x : ℕ). let one : Finding = record finding { padded = 0; blank = x } in one) dark
+    ∙ ap (λ (x : Tally). made x finding.first finding.last finding.swap finding.verdict finding.reasons) a
     ∙ ap (λ (x : ℕ). made tally x finding.last finding.swap finding.verdict finding.reasons) b
     ∙ ap (λ (x : ℕ). made tally first x finding.swap finding.verdict finding.reasons) c
     ∙ ap (λ (x : ℕ). made tally first last x finding.verdict finding.reasons) d
@@ -157,6 +163,19 @@ module _ (numbering : Numbering) (number : ℕ → ℕ) (fields : List Sightings
       swap.neighbours.between k n swap.after swap.before
       (shown_marked number fields begin last each others three answers are k n shown)
 
+  -- ---- none far from the next one
+
+  no_blank : (i : ℕ) → IsBlank numbering.clock Video 0 answers i → ⊥
+  no_blank i (k, blank) =
+      let (p, le, from, one) = at i blank.m blank.on.neighbours.here in
+      let (q, less, to, two) = at k blank.n blank.on.neighbours.there in
+      blank.on.neighbours.between (begin + 2 * (p + 1)) (number (p + 1)) (omega (arith, from))
+      (omega (arith, from, blank.many)) (has (p + 1) (omega (arith, from, to, less, blank.many)))
+
+  no_dark : (blank : ℕ) → IsBlankTold numbering.clock Video 0 answers blank → blank ≡ 0
+  no_dark zero told = refl
+  no_dark (suc i) told = absurd (no_blank i told.0)
+
   -- ---- none in doubt
 
   blank_not_doubtful : (field : Sightings) → ((n : ℕ) → Shows (Some field) n → ⊥) → doubtful_of field ≡ nothing
@@ -218,7 +237,7 @@ module _ (numbering : Numbering) (number : ℕ → ℕ) (fields : List Sightings
 
   module _ (may_end : Bool) (ends : List ℕ)
       (begun : Begins (number 0) (kept numbering.clock (number 0)) (since_end ends begin))
-      (ended : Ends may_end ends (begin + 2 * last)) where
+      (ended : Ends may_end ends (begin + 2 * last)) (unpadded : padded_in ends ≡ 0) where
     early : too_few Video (since_end ends begin) (kept numbering.clock (number 0)) ≡ false
     early = go begun
       where
@@ -249,38 +268,39 @@ module _ (numbering : Numbering) (number : ℕ → ℕ) (fields : List Sightings
             = lt-ltb 0 (count_by (λ x. x == lead_out) (drop (begin + 2 * last + 1) ends)) (omega (arith, more)) in
             both_false (not may_end) (not (lead_out_follows ends (begin + 2 * last))) (ap not sees)
 
-    on : is_off Video 0 (tally_of numbering.clock [] 0) 0 begin (kept numbering.clock (number 0)) (begin + 2 * last)
+    on : is_off Video 0 (tally_of numbering.clock [] 0) begin (kept numbering.clock (number 0)) (begin + 2 * last)
         (kept numbering.clock (number last)) ≡ false
     on = ap not (near_same (begin + 2 * last + 2 * kept numbering.clock (number 0))
         (begin + 0 + 0 + 2 * kept numbering.clock (number last))
         (omega (arith, steps last (omega arith))))
 
     -- what is said against the capture
-    abbrev against : Tally → ℕ → Bool → Bool → ℕ → ℕ → ℕ → ℕ → ℕ
-    against tally away swapped drifts first m end n =
-        reasons_of numbering.clock Video 0 may_end answers ends tally away swapped drifts first m end n
+    abbrev against : Tally → Bool → Bool → ℕ → ℕ → ℕ → ℕ → ℕ → ℕ
+    against tally swapped drifts blank first m end n =
+        reasons_of numbering.clock Video 0 may_end answers ends tally swapped drifts blank first m end n
 
-    no_reason : against (tally_of numbering.clock [] 0) 0 false false begin (number 0) (begin + 2 * last) (number last)
+    no_reason : against (tally_of numbering.clock [] 0) false false 0 begin (number 0) (begin + 2 * last) (number last)
         ≡ 0
     no_reason = omega (
       arith,
       unsaid 16 (too_few Video (since_end ends begin) (kept numbering.clock (number 0))) early,
-      unsaid 64 (is_off Video 0 (tally_of numbering.clock [] 0) 0 begin (kept numbering.clock (number 0))
+      unsaid 64 (is_off Video 0 (tally_of numbering.clock [] 0) begin (kept numbering.clock (number 0))
           (begin + 2 * last) (kept numbering.clock (number last))) on,
       unsaid 256 (is_end_unseen may_end ends (begin + 2 * last)) end_seen,
       unsaid 512 (is_begin_unseen ends begin (number 0)) begin_seen,
       unsaid 1024 (are_doubtful answers) few_doubtful,
+      unsaid 8192 (nat_lt 0 (padded_in ends)) (ap (nat_lt 0) unpadded),
     )
 
-    all_said : (tally other : Tally) (away : ℕ) (swapped drifts : Bool) (a b c d e f g h : ℕ) → tally ≡ other
-        → away ≡ 0 → swapped ≡ false → drifts ≡ false → a ≡ b → c ≡ d → e ≡ f → g ≡ h
-        → against tally away swapped drifts a c e g ≡ against other 0 false false b d f h
-    all_said tally other away swapped drifts a b c d e f g h one none two three four five six seven =
-        ap (λ (t : Tally). against t away swapped drifts a c e g) one
-        ∙ ap (λ x. against other x swapped drifts a c e g) none ∙ ap (λ s. against other 0 s drifts a c e g) two
-        ∙ ap (λ s. against other 0 false s a c e g) three ∙ ap (λ x. against other 0 false false x c e g) four
-        ∙ ap (λ x. against other 0 false false b x e g) five ∙ ap (λ x. against other 0 false false b d x g) six
-        ∙ ap (λ x. against other 0 false false b d f x) seven
+    all_said : (tally other : Tally) (swapped drifts : Bool) (dark a b c d e f g h : ℕ) → tally ≡ other
+        → swapped ≡ false → drifts ≡ false → dark ≡ 0 → a ≡ b → c ≡ d → e ≡ f → g ≡ h
+        → against tally swapped drifts dark a c e g ≡ against other false false 0 b d f h
+    all_said tally other swapped drifts dark a b c d e f g h one two three none four five six seven =
+        ap (λ (t : Tally). against t swapped drifts dark a c e g) one
+        ∙ ap (λ s. against other s drifts dark a c e g) two ∙ ap (λ s. against other false s dark a c e g) three
+        ∙ ap (λ x. against other false false x a c e g) none ∙ ap (λ x. against other false false 0 x c e g) four
+        ∙ ap (λ x. against other false false 0 b x e g) five ∙ ap (λ x. against other false false 0 b d x g) six
+        ∙ ap (λ x. against other false false 0 b d f x) seven
 
     -- ---- the verdict
 
@@ -295,12 +315,6 @@ module _ (numbering : Numbering) (number : ℕ → ℕ) (fields : List Sightings
           none
           ∙ ap (λ (unread : ℕ). tally_of numbering.clock [] unread) few
 
-      not_away : is.away ≡ 0
-      unfolding detoured_from
-      not_away =
-          let (none, few) = no_gaps ends (length answers) is.told.gaps is.told.unread is.told.all in
-          is.told.told.inserts ∙ ap (λ (gaps : List Gap). away_of (detoured Video 0 numbering.clock gaps)) none
-
       unswapped : (b : Bool) → IsSwapTold numbering.clock Video 0 fields answers finding.swap b
           → (b ≡ false) × (finding.swap ≡ 0)
       unswapped true swap = absurd (no_swap finding.swap swap.2)
@@ -314,17 +328,19 @@ module _ (numbering : Numbering) (number : ℕ → ℕ) (fields : List Sightings
       said = go is.reasons
         where
           go : IsUntold answers finding ⊎ ((m n : ℕ) × AreEnds answers finding.first m finding.last n
-              × (finding.reasons ≡ reasons_of numbering.clock Video 0 may_end answers ends finding.tally is.away
-              is.swapped is.drifts finding.first m finding.last n))
+              × (finding.reasons ≡ reasons_of numbering.clock Video 0 may_end answers ends finding.tally
+              is.swapped is.drifts finding.blank finding.first m finding.last n))
               → (finding.first ≡ begin) × (finding.last ≡ begin + 2 * last) × (finding.reasons ≡ 0)
           go (inl (never, e, first, end)) = absurd (never (begin + 2 * 0) (number 0) (has 0 (omega arith)))
           go (inr (m, n, ends_at, e)) =
               let (first, from, end, to) = ends_are finding.first m finding.last n ends_at in (
                 first,
                 end,
-                e ∙ all_said finding.tally (tally_of numbering.clock [] 0) is.away is.swapped is.drifts finding.first
-                    begin m (number 0) finding.last (begin + 2 * last) n (number last) told_none not_away
-                    (unswapped is.swapped is.swap).0 (undrifting is.drifts is.drift) first (sym from) end (sym to)
+                e ∙ all_said finding.tally (tally_of numbering.clock [] 0) is.swapped is.drifts finding.blank finding.first
+                    begin m
+                    (number 0) finding.last (begin + 2 * last) n (number last) told_none
+                    (unswapped is.swapped is.swap).0 (undrifting is.drifts is.drift) (no_dark finding.blank is.blank) first
+                    (sym from) end (sym to)
                     ∙ no_reason,
               )
 
@@ -332,4 +348,4 @@ module _ (numbering : Numbering) (number : ℕ → ℕ) (fields : List Sightings
       called_whole =
           let (first, end, none) = said in
           same_finding finding (tally_of numbering.clock [] 0) begin (begin + 2 * last) 0 yes 0 told_none first end
-          (unswapped is.swapped is.swap).1 (is.verdict ∙ ap verdict_of none) none
+          (unswapped is.swapped is.swap).1 (is.padded ∙ unpadded) (no_dark finding.blank is.blank) (is.verdict ∙ ap verdict_of none) none

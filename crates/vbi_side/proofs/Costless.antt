@@ -1,9 +1,10 @@
--- What gaps of replaced numbers cost: nothing is lost by them, and no verdict is no by them.
+-- What gaps of replaced numbers cost: nothing is lost by them, and no verdict is no by them; and that inserted fields
+-- and padding cost a no.
 use Rattle.std.proofs.Common.{◌≡◌, ◌≢◌, ℕ, suc, ◌+◌, ◌*◌, ◌-◌, ◌<◌, ◌≤◌, Bool, true, false, List, [], ◌∷◌}
-use Rattle.std.proofs.Common.{refl, arith, ap, sym, ◌∙◌, subst, inl, inr, eq-eqb}
-use Rattle.std.specs.Prelude.{Some, nat_le, ◌⊎◌, ◌&&◌, ◌||◌, ◌==◌, ◌%◌, nat_lt, min, slice_get, sum_by, if◌then◌else◌}
+use Rattle.std.proofs.Common.{refl, arith, ap, sym, ◌∙◌, subst, inl, inr}
+use Rattle.std.specs.Prelude.{Some, ◌⊎◌, ◌||◌, ◌==◌, ◌/◌, ◌%◌, nat_lt, min, slice_get, sum_by, if◌then◌else◌}
 use Rattle.std.proofs.lemmas.Bool.{lt-ltb}
-use Rattle.std.proofs.lemmas.Bool.Decides.{leb_tells, eqb_tells}
+use Rattle.std.proofs.lemmas.Bool.Decides.{eqb_tells}
 use Rattle.std.proofs.lemmas.List.Sums.{sum_by-cons}
 use Rattle.std.proofs.Math.Dec.{eqb}
 use Rattle.vbi_side.specs.declared.clock.Clock.{Clock}
@@ -19,9 +20,10 @@ use Rattle.vbi_side.specs.Detours.{detoured}
 use Rattle.vbi_side.specs.Gaps.{lost, held, back, joined, open_gap, inserted, replaced, skipped, since_end}
 use Rattle.vbi_side.specs.Numbers.{IsMarked}
 use Rattle.vbi_side.specs.Side.{AreEnds}
-use Rattle.vbi_side.specs.Told.{capped, fields_if, one_if, lost_of, undecided_of, shown_most, tally_of, away_of}
-use Rattle.vbi_side.specs.Verdicts.{yes, no, cannot_tell, verdict_of, reason, too_few, is_off, is_end_unseen}
-use Rattle.vbi_side.specs.Verdicts.{is_begin_unseen, are_doubtful, reasons_of, HasNone, IsUntold, IsFinding}
+use Rattle.vbi_side.specs.Told.{capped, fields_if, one_if, lost_of, undecided_of, shown_most, tally_of}
+use Rattle.vbi_side.specs.Verdicts.{yes, no, cannot_tell, is_seen, verdict_of, reason, too_few, is_off, is_end_unseen}
+use Rattle.vbi_side.specs.Verdicts.{is_begin_unseen, are_doubtful, padded_in, reasons_of, HasNone, IsUntold, IsFinding}
+use Rattle.vbi_side.proofs.NoReason.{false_true, not_less}
 
 -- ---- the counts
 
@@ -54,7 +56,8 @@ none_undecided clock gap is =
 pub counts_nothing : (clock : Clock) (gaps : List Gap) (unread : ℕ) → AreReplaced gaps
     → ((tally_of clock gaps unread).lost ≡ 0) × ((tally_of clock gaps unread).held ≡ 0)
     × ((tally_of clock gaps unread).lost_numbers ≡ 0) × ((tally_of clock gaps unread).undecided ≡ 0)
-    × ((tally_of clock gaps unread).back ≡ 0) × ((tally_of clock gaps unread).joined ≡ 0) × (away_of gaps ≡ 0)
+    × ((tally_of clock gaps unread).back ≡ 0) × ((tally_of clock gaps unread).joined ≡ 0)
+    × ((tally_of clock gaps unread).inserted ≡ 0)
 counts_nothing clock gaps unread all = (
   ap capped (zeros (fields_if lost) gaps (no_fields lost refl) all),
   ap capped (zeros (fields_if held) gaps (no_fields held refl) all),
@@ -71,28 +74,30 @@ one_at_most : (bit : ℕ) (b : Bool) → (x : ℕ) × (x ≤ 1) × (reason bit b
 one_at_most bit true = (1, omega arith, omega arith)
 one_at_most bit false = (0, omega arith, omega arith)
 
--- reasons of the middle bits alone leave it open
-not_no : (reasons n : ℕ) → reasons ≡ 64 * n → reasons < 4096 → verdict_of reasons ≢ no
-not_no reasons n is less = go (eqb reasons 0) (eqb (reasons % 64) 0) (nat_lt reasons 4096)
-    (eq-eqb (reasons % 64) 0 (omega (arith, is))) (lt-ltb reasons 4096 less)
+-- reasons of which none is seen on the capture leave it open
+not_no : (reasons low high : ℕ) → reasons ≡ 64 * low + 16384 * high → 64 * low < 4096 → verdict_of reasons ≢ no
+not_no reasons low high is less = go (eqb reasons 0) (nat_lt 0 (reasons % 64)) (nat_lt 0 ((reasons / 4096) % 4))
+    (not_less 0 (reasons % 64) (omega (arith, is)))
+    (not_less 0 ((reasons / 4096) % 4) (omega (arith, is, less)))
   where
-    go : (a b c : Bool) → b ≡ true → c ≡ true → (if a then yes else (if b && c then cannot_tell else no)) ≡ no → ⊥
-    go true b c middle low e = let h : yes ≡ no = e in absurd (omega (arith, h))
-    go false true true middle low e = let h : cannot_tell ≡ no = e in absurd (omega (arith, h))
-    go false false c middle low e = absurd cc
-    go false true false middle low e = absurd cc
+    go : (a b c : Bool) → b ≡ false → c ≡ false → (if a then yes else (if b || c then no else cannot_tell)) ≡ no → ⊥
+    go true b c low high e = let h : yes ≡ no = e in absurd (omega (arith, h))
+    go false false false low high e = let h : cannot_tell ≡ no = e in absurd (omega (arith, h))
+    go false true c low high e = absurd (false_true (sym low))
+    go false false true low high e = absurd (false_true (sym high))
 
 pub verdict_stays : (pace : Pace) (slack : ℕ) (numbering : Numbering) (may_end : Bool) (seen : List Sightings)
     (answers : List Number) (ends : List ℕ) (finding : Finding) (old new : List Gap)
     → (is : IsFinding pace slack numbering may_end seen answers ends finding old new)
-    → AreReplaced (detoured pace slack numbering.clock is.told.gaps) → is.swapped ≡ false
+    → AreReplaced (detoured pace slack numbering.clock is.told.gaps) → is.swapped ≡ false → padded_in ends ≡ 0
     → ((m : ℕ) → IsMarked answers finding.first m
     → too_few pace (since_end ends finding.first) (kept numbering.clock m) ≡ false) → finding.verdict ≢ no
-verdict_stays pace slack numbering may_end seen answers ends finding old new is all whole early no_it_is = go is.reasons
+verdict_stays pace slack numbering may_end seen answers ends finding old new is all whole unpadded early no_it_is = go
+    is.reasons
   where
     go : IsUntold answers finding ⊎ ((m n : ℕ) × AreEnds answers finding.first m finding.last n
-        × (finding.reasons ≡ reasons_of numbering.clock pace slack may_end answers ends finding.tally is.away is.swapped
-        is.drifts finding.first m finding.last n)) → ⊥
+        × (finding.reasons ≡ reasons_of numbering.clock pace slack may_end answers ends finding.tally is.swapped is.drifts
+        finding.blank finding.first m finding.last n)) → ⊥
     go (inl (never, e, first, last)) =
         let h : cannot_tell ≡ no = sym (ap verdict_of e) ∙ sym is.verdict ∙ no_it_is in absurd (omega (arith, h))
     go (inr (m, n, are, e)) =
@@ -107,14 +112,17 @@ verdict_stays pace slack numbering may_end seen answers ends finding old new is 
         ∙ ap (λ k. reason 8 (nat_lt 0 k)) none.5 in
         let late = ap (λ b. reason 16 b) (early m are.begins) in
         let turned = ap (λ b. reason 32 b) whole in
-        let left = ap (λ k. reason 4096 (nat_lt 0 k)) (is.told.told.inserts ∙ none.6) in
-        let off = one_at_most 64 (is.drifts || is_off pace slack finding.tally is.away finding.first
+        let left = ap (λ (t : Tally). reason 4096 (nat_lt 0 t.inserted)) tally
+        ∙ ap (λ k. reason 4096 (nat_lt 0 k)) none.6 in
+        let pads = ap (λ k. reason 8192 (nat_lt 0 k)) unpadded in
+        let off = one_at_most 64 (is.drifts || is_off pace slack finding.tally finding.first
         (kept numbering.clock m) finding.last (kept numbering.clock n)) in
         let end = one_at_most 256 (is_end_unseen may_end ends finding.last) in
         let begin = one_at_most 512 (is_begin_unseen ends finding.first m) in
         let doubt = one_at_most 1024 (are_doubtful answers) in
         let gaps = one_at_most 2048 (nat_lt 0 finding.tally.open_gaps) in
-        let sum : finding.reasons ≡ 64 * (off.0 + 4 * end.0 + 8 * begin.0 + 16 * doubt.0 + 32 * gaps.0)
+        let dark = one_at_most 16384 (nat_lt 0 finding.blank) in
+        let sum : finding.reasons ≡ 64 * (off.0 + 4 * end.0 + 8 * begin.0 + 16 * doubt.0 + 32 * gaps.0) + 16384 * dark.0
         = omega (
           arith,
           e,
@@ -125,39 +133,84 @@ verdict_stays pace slack numbering may_end seen answers ends finding old new is 
           late,
           turned,
           left,
+          pads,
           off.2,
           end.2,
           begin.2,
           doubt.2,
           gaps.2,
+          dark.2,
         ) in
-        not_no finding.reasons (off.0 + 4 * end.0 + 8 * begin.0 + 16 * doubt.0 + 32 * gaps.0) sum
-        (omega (arith, sum, off.1, end.1, begin.1, doubt.1, gaps.1)) (sym is.verdict ∙ no_it_is)
+        not_no finding.reasons (off.0 + 4 * end.0 + 8 * begin.0 + 16 * doubt.0 + 32 * gaps.0) dark.0 sum
+        (omega (arith, off.1, end.1, begin.1, doubt.1, gaps.1)) (sym is.verdict ∙ no_it_is)
 
--- ---- what inserted fields cost
+-- ---- what inserted fields and padding cost
 
-above_no : (reasons : ℕ) → 4096 ≤ reasons → verdict_of reasons ≡ no
-above_no reasons high = go (eqb_tells reasons 0) (eqb (reasons % 64) 0) (leb_tells (suc reasons) 4096)
+or_true : (a b : Bool) → b ≡ true → (a || b) ≡ true
+or_true true b e = refl
+or_true false b e = e
+
+no_seen : (reasons : ℕ) → is_seen reasons ≡ true → verdict_of reasons ≡ no
+no_seen reasons seen = elim (eqb_tells reasons 0) [
+  | inl (t, zero) ↦ absurd (false_true (subst (λ r. is_seen r ≡ true) zero seen))
+  | inr (f, other) ↦ rw f (rw seen refl)
+]
+
+-- reasons of which one is 4096 or 8192
+above : (reasons low x y high : ℕ) → reasons ≡ low + 4096 * x + 8192 * y + 16384 * high → low < 4096 → x ≤ 1 → y ≤ 1
+    → 1 ≤ x + y → verdict_of reasons ≡ no
+above reasons low x y high is less one other some = no_seen reasons
+    (or_true (nat_lt 0 (reasons % 64)) (nat_lt 0 ((reasons / 4096) % 4))
+    (lt-ltb 0 ((reasons / 4096) % 4) (omega (arith, is, less, one, other, some))))
+
+-- those of a capture in which fields are inserted, or padding
+seen_no : (clock : Clock) (pace : Pace) (slack : ℕ) (may_end : Bool) (answers : List Number) (ends : List ℕ)
+    (tally : Tally) (swapped drifts : Bool) (blank first m last n : ℕ) → (0 < tally.inserted) ⊎ (0 < padded_in ends)
+    → verdict_of (reasons_of clock pace slack may_end answers ends tally swapped drifts blank first m last n) ≡ no
+seen_no clock pace slack may_end answers ends tally swapped drifts blank first m last n = go
   where
-    go : ((eqb reasons 0 ≡ true) × (reasons ≡ 0)) ⊎ ((eqb reasons 0 ≡ false) × (reasons ≢ 0)) → (b : Bool)
-        → ((nat_le (suc reasons) 4096 ≡ true) × (suc reasons ≤ 4096))
-        ⊎ ((nat_le (suc reasons) 4096 ≡ false) × (4096 < suc reasons))
-        → (if eqb reasons 0 then yes else (if b && nat_le (suc reasons) 4096 then cannot_tell else no)) ≡ no
-    go (inl (t, none)) b low = absurd (omega (arith, none, high))
-    go (inr (f, some)) b (inl (t, less)) = absurd (omega (arith, less, high))
-    go (inr (f, some)) true (inr (g, more)) = rw f (rw g refl)
-    go (inr (f, some)) false (inr (g, more)) = rw f refl
+    all : ℕ
+    all = reasons_of clock pace slack may_end answers ends tally swapped drifts blank first m last n
 
-pub away_is_no : (pace : Pace) (slack : ℕ) (numbering : Numbering) (may_end : Bool) (seen : List Sightings)
+    low : (x y : ℕ) → x ≤ 1 → y ≤ 1 → 1 ≤ x + y → reason 4096 (nat_lt 0 tally.inserted) ≡ 4096 * x
+        → reason 8192 (nat_lt 0 (padded_in ends)) ≡ 8192 * y → verdict_of all ≡ no
+    low x y one other some here there =
+        let a = one_at_most 1 (nat_lt 0 tally.lost) in
+        let b = one_at_most 2 (nat_lt 0 tally.held) in
+        let c = one_at_most 4 (nat_lt 0 tally.back) in
+        let d = one_at_most 8 (nat_lt 0 tally.joined) in
+        let e = one_at_most 16 (too_few pace (since_end ends first) (kept clock m)) in
+        let f = one_at_most 32 swapped in
+        let g = one_at_most 64 (drifts || is_off pace slack tally first (kept clock m) last (kept clock n)) in
+        let h = one_at_most 256 (is_end_unseen may_end ends last) in
+        let i = one_at_most 512 (is_begin_unseen ends first m) in
+        let j = one_at_most 1024 (are_doubtful answers) in
+        let k = one_at_most 2048 (nat_lt 0 tally.open_gaps) in
+        let l = one_at_most 16384 (nat_lt 0 blank) in
+        let sum : ℕ = a.0 + 2 * b.0 + 4 * c.0 + 8 * d.0 + 16 * e.0 + 32 * f.0 + 64 * g.0 + 256 * h.0 + 512 * i.0
+        + 1024 * j.0 + 2048 * k.0 in
+        above all sum x y l.0
+        (omega (arith, a.2, b.2, c.2, d.2, e.2, f.2, g.2, h.2, i.2, j.2, k.2, l.2, here, there))
+        (omega (arith, a.1, b.1, c.1, d.1, e.1, f.1, g.1, h.1, i.1, j.1, k.1)) one other some
+
+    go : (0 < tally.inserted) ⊎ (0 < padded_in ends) → verdict_of all ≡ no
+    go (inl away) =
+        let y = one_at_most 8192 (nat_lt 0 (padded_in ends)) in
+        low 1 y.0 (omega arith) y.1 (omega arith) (ap (λ b. reason 4096 b) (lt-ltb 0 tally.inserted away)) y.2
+    go (inr padded) =
+        let x = one_at_most 4096 (nat_lt 0 tally.inserted) in
+        low x.0 1 x.1 (omega arith) (omega arith) x.2 (ap (λ b. reason 8192 b) (lt-ltb 0 (padded_in ends) padded))
+
+pub inserted_is_no : (pace : Pace) (slack : ℕ) (numbering : Numbering) (may_end : Bool) (seen : List Sightings)
     (answers : List Number) (ends : List ℕ) (finding : Finding) (old new : List Gap)
-    → (is : IsFinding pace slack numbering may_end seen answers ends finding old new) → (HasNone answers → ⊥)
-    → 0 < is.away → finding.verdict ≡ no
-away_is_no pace slack numbering may_end seen answers ends finding old new is some away = go is.reasons
+    → IsFinding pace slack numbering may_end seen answers ends finding old new → (HasNone answers → ⊥)
+    → (0 < finding.tally.inserted) ⊎ (0 < padded_in ends) → finding.verdict ≡ no
+inserted_is_no pace slack numbering may_end seen answers ends finding old new is some here = go is.reasons
   where
     go : IsUntold answers finding ⊎ ((m n : ℕ) × AreEnds answers finding.first m finding.last n
-        × (finding.reasons ≡ reasons_of numbering.clock pace slack may_end answers ends finding.tally is.away is.swapped
-        is.drifts finding.first m finding.last n)) → finding.verdict ≡ no
+        × (finding.reasons ≡ reasons_of numbering.clock pace slack may_end answers ends finding.tally is.swapped is.drifts
+        finding.blank finding.first m finding.last n)) → finding.verdict ≡ no
     go (inl (never, e, first, last)) = absurd (some never)
-    go (inr (m, n, are, e)) =
-        let left = ap (λ b. reason 4096 b) (lt-ltb 0 is.away away) in
-        is.verdict ∙ above_no finding.reasons (omega (arith, e, left))
+    go (inr (m, n, are, e)) = is.verdict ∙ ap verdict_of e
+        ∙ seen_no numbering.clock pace slack may_end answers ends finding.tally is.swapped is.drifts finding.blank
+        finding.first m finding.last n here

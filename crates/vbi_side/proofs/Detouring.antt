@@ -31,11 +31,11 @@ module _ (pace : Pace) (slack : ℕ) (clock : Clock) where
   -- ---- one gap more
 
   -- the first one waits
-  pub one_waits : (gaps : List Gap) (unread : ℕ) (tally : Tally) (away : ℕ) (old new : List Gap) (gap : Gap)
-      → AreTelling pace slack clock gaps unread None tally away old new
-      → AreTelling pace slack clock (gaps ++ gap ∷ []) unread (Some gap) tally away old new
+  pub one_waits : (gaps : List Gap) (unread : ℕ) (tally : Tally) (old new : List Gap) (gap : Gap)
+      → AreTelling pace slack clock gaps unread None tally old new
+      → AreTelling pace slack clock (gaps ++ gap ∷ []) unread (Some gap) tally old new
   unfolding detoured_from
-  one_waits gaps unread tally away old new gap telling = record {
+  one_waits gaps unread tally old new gap telling = record {
     settled = telling.settled;
     goes_on = λ more. ap (detoured pace slack clock) (append_assoc gaps (gap ∷ []) more)
         ∙ telling.goes_on (gap ∷ more);
@@ -43,12 +43,12 @@ module _ (pace : Pace) (slack : ℕ) (clock : Clock) where
   }
 
   -- the one before it is told, and it waits
-  pub one_told : (gaps : List Gap) (unread : ℕ) (tally next : Tally) (away then_away : ℕ) (old new then_new : List Gap)
+  pub one_told : (gaps : List Gap) (unread : ℕ) (tally next : Tally) (old new then_new : List Gap)
       (a b : Gap) → detour_of pace slack clock a b ≡ None
-      → (telling : AreTelling pace slack clock gaps unread (Some a) tally away old new)
-      → AreTold clock (telling.settled ++ a ∷ []) unread next then_away old then_new
-      → AreTelling pace slack clock (gaps ++ b ∷ []) unread (Some b) next then_away old then_new
-  one_told gaps unread tally next away then_away old new then_new a b none telling told = record {
+      → (telling : AreTelling pace slack clock gaps unread (Some a) tally old new)
+      → AreTold clock (telling.settled ++ a ∷ []) unread next old then_new
+      → AreTelling pace slack clock (gaps ++ b ∷ []) unread (Some b) next old then_new
+  one_told gaps unread tally next old new then_new a b none telling told = record {
     settled = telling.settled ++ a ∷ [];
     goes_on = λ more. ap (detoured pace slack clock) (append_assoc gaps (b ∷ []) more)
         ∙ telling.goes_on (b ∷ more)
@@ -58,13 +58,13 @@ module _ (pace : Pace) (slack : ℕ) (clock : Clock) where
   }
 
   -- both are told
-  pub two_told : (gaps : List Gap) (unread : ℕ) (tally next : Tally) (away then_away : ℕ) (old new then_new : List Gap)
+  pub two_told : (gaps : List Gap) (unread : ℕ) (tally next : Tally) (old new then_new : List Gap)
       (a b : Gap) (kind : ℕ) → detour_of pace slack clock a b ≡ Some kind
-      → (telling : AreTelling pace slack clock gaps unread (Some a) tally away old new)
+      → (telling : AreTelling pace slack clock gaps unread (Some a) tally old new)
       → AreTold clock ((telling.settled ++ turned kind (fields_by clock pace kind a b) a ∷ []) ++ turned kind 0 b ∷ [])
-      unread next then_away old then_new
-      → AreTelling pace slack clock (gaps ++ b ∷ []) unread None next then_away old then_new
-  two_told gaps unread tally next away then_away old new then_new a b kind is telling told =
+      unread next old then_new
+      → AreTelling pace slack clock (gaps ++ b ∷ []) unread None next old then_new
+  two_told gaps unread tally next old new then_new a b kind is telling told =
       let first = turned kind (fields_by clock pace kind a b) a in
       let second = turned kind 0 b in
       record {
@@ -81,28 +81,28 @@ module _ (pace : Pace) (slack : ℕ) (clock : Clock) where
 
   -- ---- the end
 
-  ends_as : (gaps : List Gap) (unread : ℕ) (last : Option Gap) (tally : Tally) (away : ℕ) (old new : List Gap)
-      → (telling : AreTelling pace slack clock gaps unread last tally away old new)
+  ends_as : (gaps : List Gap) (unread : ℕ) (last : Option Gap) (tally : Tally) (old new : List Gap)
+      → (telling : AreTelling pace slack clock gaps unread last tally old new)
       → detoured pace slack clock gaps ≡ telling.settled ++ detoured_from pace slack clock last []
-  ends_as gaps unread last tally away old new telling =
+  ends_as gaps unread last tally old new telling =
       ap (detoured pace slack clock) (sym (append-nil gaps)) ∙ telling.goes_on []
 
-  pub none_waits : (gaps : List Gap) (unread : ℕ) (tally : Tally) (away : ℕ) (old new : List Gap)
-      → AreTelling pace slack clock gaps unread None tally away old new
-      → AreTold clock (detoured pace slack clock gaps) unread tally away old new
+  pub none_waits : (gaps : List Gap) (unread : ℕ) (tally : Tally) (old new : List Gap)
+      → AreTelling pace slack clock gaps unread None tally old new
+      → AreTold clock (detoured pace slack clock gaps) unread tally old new
   unfolding detoured_from
-  none_waits gaps unread tally away old new telling =
-      let as_is = ends_as gaps unread None tally away old new telling ∙ append-nil telling.settled in
-      subst (λ (xs : List Gap). AreTold clock xs unread tally away old new) (sym as_is) telling.told
+  none_waits gaps unread tally old new telling =
+      let as_is = ends_as gaps unread None tally old new telling ∙ append-nil telling.settled in
+      subst (λ (xs : List Gap). AreTold clock xs unread tally old new) (sym as_is) telling.told
 
-  pub last_told : (gaps : List Gap) (unread : ℕ) (tally next : Tally) (away then_away : ℕ) (old new then_new : List Gap)
-      (gap : Gap) → (telling : AreTelling pace slack clock gaps unread (Some gap) tally away old new)
-      → AreTold clock (telling.settled ++ gap ∷ []) unread next then_away old then_new
-      → AreTold clock (detoured pace slack clock gaps) unread next then_away old then_new
+  pub last_told : (gaps : List Gap) (unread : ℕ) (tally next : Tally) (old new then_new : List Gap)
+      (gap : Gap) → (telling : AreTelling pace slack clock gaps unread (Some gap) tally old new)
+      → AreTold clock (telling.settled ++ gap ∷ []) unread next old then_new
+      → AreTold clock (detoured pace slack clock gaps) unread next old then_new
   unfolding detoured_from
-  last_told gaps unread tally next away then_away old new then_new gap telling told =
-      let as_is = ends_as gaps unread (Some gap) tally away old new telling in
-      subst (λ (xs : List Gap). AreTold clock xs unread next then_away old then_new) (sym as_is) told
+  last_told gaps unread tally next old new then_new gap telling told =
+      let as_is = ends_as gaps unread (Some gap) tally old new telling in
+      subst (λ (xs : List Gap). AreTold clock xs unread next old then_new) (sym as_is) told
 
   -- ---- as many are told as there are
 
@@ -126,13 +126,13 @@ module _ (pace : Pace) (slack : ℕ) (clock : Clock) where
       go None e one none = omega (arith, ap (λ (xs : List Gap). length xs) (no_detour a b gaps e), one)
       go (Some kind) e one none = omega (arith, ap (λ (xs : List Gap). length xs) (a_detour a b gaps kind e), none)
 
-  pub settled_few : (gaps : List Gap) (unread : ℕ) (last : Option Gap) (tally : Tally) (away : ℕ) (old new : List Gap)
-      → AreTelling pace slack clock gaps unread last tally away old new → tally.gaps ≤ length gaps
-  settled_few gaps unread last tally away old new telling =
+  pub settled_few : (gaps : List Gap) (unread : ℕ) (last : Option Gap) (tally : Tally) (old new : List Gap)
+      → AreTelling pace slack clock gaps unread last tally old new → tally.gaps ≤ length gaps
+  settled_few gaps unread last tally old new telling =
       omega (
         arith,
         ap (λ (t : Tally). t.gaps) telling.told.comes_to,
-        ap (λ (xs : List Gap). length xs) (ends_as gaps unread last tally away old new telling),
+        ap (λ (xs : List Gap). length xs) (ends_as gaps unread last tally old new telling),
         length-append telling.settled (detoured_from pace slack clock last []),
         detoured_length None gaps,
       )

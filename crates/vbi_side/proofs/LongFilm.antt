@@ -12,7 +12,7 @@ use Rattle.vbi_side.specs.Due.{IsLeft}
 use Rattle.vbi_side.specs.Numbers.{AreAnswers}
 use Rattle.vbi_side.specs.Side.{DiscRuns}
 use Rattle.vbi_side.specs.Truth.{RunsOn, wrong_weight}
-use Rattle.vbi_side.specs.Verdicts.{IsFinding, found_whole}
+use Rattle.vbi_side.specs.Verdicts.{padded_in, IsFinding, found_whole}
 use Rattle.vbi_side.specs.Witnesses.{all_read, all_answered, cut_film_disc}
 use Rattle.vbi_side.specs.WorkedSides.{cav}
 use Rattle.vbi_side.proofs.LongSides.{none_some, IsSupport, three_support}
@@ -192,12 +192,12 @@ film_answers cut last many = answers_are Film 0 (cut_film_disc cut) (5 * last) 0
     (omega arith) (five_has cut last) (film_runs_on cut) (film_runs cut) (film_next cut)
     (λ d n. film_much cut last d n many) (film_undue cut last)
 
-pub film_finding : (cut last : ℕ) (ends : List ℕ) (room : List Gap) → 2 ≤ last
+pub film_finding : (cut last : ℕ) (ends : List ℕ) (room : List Gap) → 2 ≤ last → padded_in ends ≡ 0
     → IsFinding Film 0 cav true (all_read (cut_film_disc cut) (suc (5 * last)))
     (all_answered (cut_film_disc cut) (suc (5 * last))) ends (found_whole 0 (5 * last)) room room
-film_finding cut last ends room many = finding_is Film 0 (cut_film_disc cut) (5 * last) 0 (2 * last) (five_has cut 0)
-    (omega arith) (five_has cut last) (film_runs_on cut) (film_runs cut) (film_next cut)
-    (λ d n. film_much cut last d n many) (film_undue cut last) ends room
+film_finding cut last ends room many unpadded = finding_is Film 0 (cut_film_disc cut) (5 * last) 0 (2 * last)
+    (five_has cut 0) (omega arith) (five_has cut last) (film_runs_on cut) (film_runs cut) (film_next cut)
+    (λ d n. film_much cut last d n many) (film_undue cut last) ends room unpadded (omega arith)
 
 pub film_right : (cut last i : ℕ) → 2 ≤ last
     → wrong_weight (cut_film_disc cut) (all_read (cut_film_disc cut) (suc (5 * last))) i ≡ 0

@@ -15,7 +15,7 @@ use Rattle.vbi_side.specs.Due.{IsLeft}
 use Rattle.vbi_side.specs.Numbers.{AreAnswers}
 use Rattle.vbi_side.specs.Sightings.{Shows}
 use Rattle.vbi_side.specs.Truth.{IsNear, RunsOn, video_disc, wrong_weight}
-use Rattle.vbi_side.specs.Verdicts.{IsFinding, found_whole}
+use Rattle.vbi_side.specs.Verdicts.{padded_in, IsFinding, found_whole}
 use Rattle.vbi_side.specs.Witnesses.{read_as, all_read, all_answered, both_disc}
 use Rattle.vbi_side.specs.Worked.{field_of}
 use Rattle.vbi_side.specs.WorkedSides.{cav}
@@ -117,12 +117,12 @@ video_answers last many = answers_are Video 0 video_disc (2 * last) 0 last refl 
     (video_has (2 * last) last refl) video_nears video_runs video_next (λ d n. video_much last d n many)
     (video_undue last)
 
-pub video_finding : (last : ℕ) (ends : List ℕ) (room : List Gap) → 2 ≤ last
+pub video_finding : (last : ℕ) (ends : List ℕ) (room : List Gap) → 2 ≤ last → padded_in ends ≡ 0
     → IsFinding Video 0 cav true (all_read video_disc (suc (2 * last))) (all_answered video_disc (suc (2 * last))) ends
     (found_whole 0 (2 * last)) room room
-video_finding last ends room many = finding_is Video 0 video_disc (2 * last) 0 last refl (omega arith)
+video_finding last ends room many unpadded = finding_is Video 0 video_disc (2 * last) 0 last refl (omega arith)
     (video_has (2 * last) last refl) video_nears video_runs video_next (λ d n. video_much last d n many)
-    (video_undue last) ends room
+    (video_undue last) ends room unpadded (omega arith)
 
 pub video_right : (last i : ℕ) → 2 ≤ last → wrong_weight video_disc (all_read video_disc (suc (2 * last))) i ≡ 0
 video_right last i many = none_wrong Video 0 video_disc (2 * last) 0 last refl (omega arith)
@@ -186,11 +186,11 @@ pub both_answers : (end : ℕ) → 8 ≤ end
 both_answers end many = answers_are Video 1 both_disc end 0 (end / 2) refl (omega arith) refl both_nears both_runs
     both_next (λ d n. both_much end d n many) (both_undue end)
 
-pub both_finding : (end : ℕ) (ends : List ℕ) (room : List Gap) → 8 ≤ end
+pub both_finding : (end : ℕ) (ends : List ℕ) (room : List Gap) → 8 ≤ end → padded_in ends ≡ 0
     → IsFinding Video 1 cav true (all_read both_disc (suc end)) (all_answered both_disc (suc end)) ends
     (found_whole 0 end) room room
-both_finding end ends room many = finding_is Video 1 both_disc end 0 (end / 2) refl (omega arith) refl both_nears
-    both_runs both_next (λ d n. both_much end d n many) (both_undue end) ends room
+both_finding end ends room many unpadded = finding_is Video 1 both_disc end 0 (end / 2) refl (omega arith) refl both_nears
+    both_runs both_next (λ d n. both_much end d n many) (both_undue end) ends room unpadded (omega arith)
 
 pub both_right : (end i : ℕ) → 8 ≤ end → wrong_weight both_disc (all_read both_disc (suc end)) i ≡ 0
 both_right end i many = none_wrong Video 1 both_disc end 0 (end / 2) refl (omega arith) refl both_nears both_runs

@@ -24,7 +24,7 @@ use Rattle.vbi_side.proofs.Truth.{video_fits, film_fits, stays_is, believed_alik
 
 -- ---- what fits, so many fields later
 
-same_truth : (a b : Bool) → (a ≡ true → b ≡ true) → (b ≡ true → a ≡ true) → a ≡ b
+pub same_truth : (a b : Bool) → (a ≡ true → b ≡ true) → (b ≡ true → a ≡ true) → a ≡ b
 same_truth true b on back = sym (on refl)
 same_truth false true on back = back refl
 same_truth false false on back = refl
@@ -98,7 +98,7 @@ weight_at-later test later part whole first i k within before agree same =
     ]
     go (inr (t, less)) (inr (s, lesser)) = rw t (rw s refl)
 
-weight_below-later : (test later : ℕ → ℕ → Bool) (part whole : List Sightings) (first i n : ℕ) → n ≤ 2 * reach + 1
+pub weight_below-later : (test later : ℕ → ℕ → Bool) (part whole : List Sightings) (first i n : ℕ) → n ≤ 2 * reach + 1
     → (first ≡ 0) ⊎ (reach ≤ i) → ((j : ℕ) → IsNear i j → slice_get part j ≡ slice_get whole (first + j))
     → ((j n : ℕ) → test j n ≡ later (first + j) n)
     → weight_below test part i n ≡ weight_below later whole (first + i) n

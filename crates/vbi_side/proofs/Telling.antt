@@ -148,18 +148,16 @@ tally_gap clock gaps unread gap =
       summed one_if_open gaps gap,
       summed (lost_of clock) gaps gap,
       summed (undecided_of clock) gaps gap,
+      summed (fields_if inserted) gaps gap,
     )
 
 -- one gap more, which is counted and written if there is room
-pub told_one : (clock : Clock) (gaps : List Gap) (unread : ℕ) (tally : Tally) (away then_away : ℕ)
-    (old new then_new : List Gap) (gap : Gap) → AreTold clock gaps unread tally away old new
-    → then_away ≡ capped (away + fields_if inserted gap)
+pub told_one : (clock : Clock) (gaps : List Gap) (unread : ℕ) (tally : Tally) (old new then_new : List Gap) (gap : Gap)
+    → AreTold clock gaps unread tally old new
     → (tally.gaps < length new → then_new ≡ slice_set new tally.gaps gap) → (length new ≤ tally.gaps → then_new ≡ new)
-    → AreTold clock (gaps ++ gap ∷ []) unread (with_gap clock tally gap) then_away old then_new
-told_one clock gaps unread tally away then_away old new then_new gap told more there full = record {
+    → AreTold clock (gaps ++ gap ∷ []) unread (with_gap clock tally gap) old then_new
+told_one clock gaps unread tally old new then_new gap told there full = record {
   comes_to = ap (λ (t : Tally). with_gap clock t gap) told.comes_to ∙ tally_gap clock gaps unread gap;
-  inserts = more ∙ ap (λ (n : ℕ). capped (n + fields_if inserted gap)) told.inserts
-      ∙ summed (fields_if inserted) gaps gap;
   written = go (leb_tells (length new) tally.gaps);
 }
   where
@@ -229,12 +227,12 @@ gap_between pace slack numbering seen answers ends i m k n gap neighbours found 
 -- ---- field by field
 
 pub told_free : (pace : Pace) (slack : ℕ) (numbering : Numbering) (seen : List Sightings) (answers : List Number)
-    (ends : List ℕ) (k : ℕ) (last : Option Gap) (tally : Tally) (away : ℕ)
+    (ends : List ℕ) (k : ℕ) (last : Option Gap) (tally : Tally)
     (old new : List Gap) → IsFree answers k
-    → IsTelling pace slack numbering seen answers ends k last tally away old new
-    → IsTelling pace slack numbering seen answers ends (suc k) last tally away old new
+    → IsTelling pace slack numbering seen answers ends k last tally old new
+    → IsTelling pace slack numbering seen answers ends (suc k) last tally old new
 unfolding AreGaps
-told_free pace slack numbering seen answers ends k last tally away old new free told = record {
+told_free pace slack numbering seen answers ends k last tally old new free told = record {
   gaps = told.gaps;
   unread = told.unread;
   all = inl (free, told.all);
@@ -242,15 +240,15 @@ told_free pace slack numbering seen answers ends k last tally away old new free 
 }
 
 pub told_on : (pace : Pace) (slack : ℕ) (numbering : Numbering) (seen : List Sightings) (answers : List Number)
-    (ends : List ℕ) (i m k n : ℕ) (last then_last : Option Gap) (tally next : Tally) (away then_away : ℕ)
+    (ends : List ℕ) (i m k n : ℕ) (last then_last : Option Gap) (tally next : Tally)
     (old new : List Gap) → AreNeighbours answers i m k n
     → nearly_by numbering.clock pace slack i m k n ≡ true
-    → (told : IsTelling pace slack numbering seen answers ends k last tally away old new)
+    → (told : IsTelling pace slack numbering seen answers ends k last tally old new)
     → AreTelling pace slack numbering.clock told.gaps (told.unread + skipped numbering.clock m n) then_last next
-    then_away old new
-    → IsTelling pace slack numbering seen answers ends (suc k) then_last next then_away old new
+    old new
+    → IsTelling pace slack numbering seen answers ends (suc k) then_last next old new
 unfolding AreGaps
-told_on pace slack numbering seen answers ends i m k n last then_last tally next away then_away old new neighbours
+told_on pace slack numbering seen answers ends i m k n last then_last tally next old new neighbours
     near told telling = record {
       gaps = told.gaps;
       unread = told.unread + skipped numbering.clock m n;
@@ -260,13 +258,13 @@ told_on pace slack numbering seen answers ends i m k n last then_last tally next
 
 pub told_gap : (pace : Pace) (slack : ℕ) (numbering : Numbering) (seen : List Sightings) (answers : List Number)
     (ends : List ℕ) (i m k n : ℕ) (gap : Gap) (last then_last : Option Gap) (tally next : Tally)
-    (away then_away : ℕ) (old new then_new : List Gap) → AreNeighbours answers i m k n
+    (old new then_new : List Gap) → AreNeighbours answers i m k n
     → gap_of pace slack numbering (ended_between ends i k) (shown_between seen i m k n) i m k n ≡ Some gap
-    → (told : IsTelling pace slack numbering seen answers ends k last tally away old new)
-    → AreTelling pace slack numbering.clock (told.gaps ++ gap ∷ []) told.unread then_last next then_away old then_new
-    → IsTelling pace slack numbering seen answers ends (suc k) then_last next then_away old then_new
+    → (told : IsTelling pace slack numbering seen answers ends k last tally old new)
+    → AreTelling pace slack numbering.clock (told.gaps ++ gap ∷ []) told.unread then_last next old then_new
+    → IsTelling pace slack numbering seen answers ends (suc k) then_last next old then_new
 unfolding AreGaps
-told_gap pace slack numbering seen answers ends i m k n gap last then_last tally next away then_away old new then_new
+told_gap pace slack numbering seen answers ends i m k n gap last then_last tally next old new then_new
     neighbours found told telling =
     let is = gap_between pace slack numbering seen answers ends i m k n gap neighbours found in
     record {
@@ -308,13 +306,13 @@ gaps_few pace slack numbering seen answers ends (suc k) gaps unread (inr (inr (o
     )
 
 pub told_few : (pace : Pace) (slack : ℕ) (numbering : Numbering) (seen : List Sightings) (answers : List Number)
-    (ends : List ℕ) (k : ℕ) (last : Option Gap) (tally : Tally) (away : ℕ)
-    (old new : List Gap) → IsTelling pace slack numbering seen answers ends k last tally away old new
+    (ends : List ℕ) (k : ℕ) (last : Option Gap) (tally : Tally)
+    (old new : List Gap) → IsTelling pace slack numbering seen answers ends k last tally old new
     → tally.gaps ≤ k
-told_few pace slack numbering seen answers ends k last tally away old new told =
+told_few pace slack numbering seen answers ends k last tally old new told =
     omega (
       arith,
-      settled_few pace slack numbering.clock told.gaps told.unread last tally away old new told.telling,
+      settled_few pace slack numbering.clock told.gaps told.unread last tally old new told.telling,
       gaps_few pace slack numbering seen answers ends k told.gaps told.unread told.all,
     )
 

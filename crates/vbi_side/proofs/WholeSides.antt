@@ -1,7 +1,7 @@
 -- What the verdict of a capture says of it.
 use Rattle.std.proofs.Common.{◌≡◌, ◌≢◌, ℕ, ◌+◌, ◌*◌, ◌-◌, ◌<◌, ◌≤◌, Bool, true, false, List}
 use Rattle.std.proofs.Common.{refl, arith, ap, sym, subst, ◌∙◌, inl, inr, length}
-use Rattle.std.specs.Prelude.{Option, Some, slice_get, ◌⊎◌, nat_le, nat_lt, ◌==◌, ◌&&◌, ◌||◌, ◌%◌, not, sum_by}
+use Rattle.std.specs.Prelude.{Option, Some, slice_get, ◌⊎◌, nat_le, nat_lt, ◌==◌, ◌&&◌, ◌||◌, not, sum_by}
 use Rattle.std.specs.Prelude.{if◌then◌else◌}
 use Rattle.std.proofs.lemmas.Bool.Decides.{leb_tells, eqb_tells}
 use Rattle.std.proofs.Math.Dec.{eqb}
@@ -18,16 +18,16 @@ use Rattle.vbi_side.specs.declared.clock.Clock.TheVariants.{Plain}
 use Rattle.vbi_side.specs.Clocks.{kept, nearly_by, out_near, DiscCountsBy, DiscNearlyBy, IsClear, IsClearAt}
 use Rattle.vbi_side.proofs.Counting.{clear_video, clear_film, near_video, plain_clear, plain_runs, plain_counts}
 use Rattle.vbi_side.specs.Beliefs.{reach, enough}
+use Rattle.vbi_side.specs.Blanks.{IsBlank, IsBlankTold}
 use Rattle.vbi_side.specs.Truth.{IsNear, wrong_weight}
 use Rattle.vbi_side.specs.Numbers.{believed, AreAnswers, IsMarked}
 use Rattle.vbi_side.specs.Side.{DiscRuns, DiscCounts, Rises, captured, NoneLost, AreLost, AreEnds, IsAnchor}
 use Rattle.vbi_side.specs.declared.gap.Numbering.{Numbering}
 use Rattle.vbi_side.specs.Gaps.{lost, HasRightEnds, LostAtLeast}
 use Rattle.vbi_side.specs.Told.{fields_if, capped}
-use Rattle.vbi_side.specs.Verdicts.{yes, no, cannot_tell, verdict_of, reason, seen_reasons, is_off, reasons_of, HasNone}
+use Rattle.vbi_side.specs.Verdicts.{yes, no, cannot_tell, verdict_of, reason, is_off, reasons_of, HasNone}
 use Rattle.vbi_side.specs.Verdicts.{IsUntold}
-use Rattle.vbi_side.specs.Verdicts.{IsFinding}
-use Rattle.vbi_side.specs.Verdicts.{is_end_unseen, is_begin_unseen, are_doubtful}
+use Rattle.vbi_side.specs.Verdicts.{IsFinding, is_seen}
 use Rattle.std.proofs.lemmas.Bool.{and_parts}
 use Rattle.vbi_side.proofs.Truth.{video_fits, film_fits}
 use Rattle.vbi_side.proofs.Filling.{answer_believed}
@@ -40,28 +40,23 @@ use Rattle.vbi_side.specs.Detours.{detoured}
 
 -- yes leaves no reason
 yes_none : (reasons : ℕ) → verdict_of reasons ≡ yes → reasons ≡ 0
-yes_none reasons = go (eqb_tells reasons 0) (eqb (reasons % 64) 0 && nat_lt reasons 4096)
+yes_none reasons = go (eqb_tells reasons 0) (is_seen reasons)
   where
     go : ((eqb reasons 0 ≡ true) × (reasons ≡ 0)) ⊎ ((eqb reasons 0 ≡ false) × (reasons ≢ 0)) → (b : Bool)
-        → (if eqb reasons 0 then yes else (if b then cannot_tell else no)) ≡ yes → reasons ≡ 0
+        → (if eqb reasons 0 then yes else (if b then no else cannot_tell)) ≡ yes → reasons ≡ 0
     go (inl (t, e)) b v = e
-    go (inr (f, other)) true v = let h : cannot_tell ≡ yes = rw f at v in absurd (omega (arith, h))
-    go (inr (f, other)) false v = let h : no ≡ yes = rw f at v in absurd (omega (arith, h))
+    go (inr (f, other)) true v = let h : no ≡ yes = rw f at v in absurd (omega (arith, h))
+    go (inr (f, other)) false v = let h : cannot_tell ≡ yes = rw f at v in absurd (omega (arith, h))
 
-not_off : (seen swap last first doubt gaps more : ℕ) (off : Bool)
-    → seen + swap + (if off then 64 else 0) + last + first + doubt + gaps + more ≡ 0 → off ≡ false
-not_off seen swap last first doubt gaps more true e = absurd (omega (arith, e))
-not_off seen swap last first doubt gaps more false e = refl
+-- a reason that isn't there doesn't hold
+unheld : (bit : ℕ) (b : Bool) → 0 < bit → reason bit b ≡ 0 → b ≡ false
+unheld bit true some e = absurd (omega (arith, some, e))
+unheld bit false some e = refl
 
-not_open : (seen swap off last first doubt more : ℕ) (b : Bool)
-    → seen + swap + off + last + first + doubt + (if b then 2048 else 0) + more ≡ 0 → b ≡ false
-not_open seen swap off last first doubt more true e = absurd (omega (arith, e))
-not_open seen swap off last first doubt more false e = refl
-
--- nothing is inserted
-none_away : (rest away : ℕ) → rest + reason 4096 (nat_lt 0 away) ≡ 0 → away ≡ 0
-none_away rest away e = elim (leb_tells 1 away) [
-  | inl (t, le) ↦ absurd (let h : rest + 4096 ≡ 0 = rw t at e in omega (arith, h))
+-- nothing is counted
+none_there : (count : ℕ) → nat_lt 0 count ≡ false → count ≡ 0
+none_there count none = elim (leb_tells 1 count) [
+  | inl (t, le) ↦ absurd (let h : true ≡ false = sym t ∙ none in cc)
   | inr (f, lt) ↦ omega (arith, lt)
 ]
 
@@ -95,9 +90,8 @@ yes_near pace slack numbering may_end seen answers ends finding old new is verdi
     none = yes_none finding.reasons (sym is.verdict ∙ verdict)
 
     go : IsUntold answers finding ⊎ ((m n : ℕ) × AreEnds answers finding.first m finding.last n
-        × (finding.reasons ≡ reasons_of numbering.clock pace slack may_end answers ends finding.tally is.away is.swapped
-        is.drifts
-        finding.first m finding.last n))
+        × (finding.reasons ≡ reasons_of numbering.clock pace slack may_end answers ends finding.tally is.swapped is.drifts
+        finding.blank finding.first m finding.last n))
         → (m n : ℕ) × AreEnds answers finding.first m finding.last n
         × (nearly_by numbering.clock pace slack (finding.first + finding.tally.stood) m finding.last n ≡ true)
     go (inl (never, e, first, last)) = absurd (omega (arith, none, e))
@@ -107,26 +101,20 @@ yes_near pace slack numbering may_end seen answers ends finding old new is verdi
         let tally = finding.tally in
         let from = kept numbering.clock m in
         let to = kept numbering.clock n in
-        let seen_here = seen_reasons pace ends tally first from in
-        let swap = reason 32 is.swapped in
-        let last_unseen = reason 256 (is_end_unseen may_end ends last) in
-        let first_unseen = reason 512 (is_begin_unseen ends first m) in
-        let doubt = reason 1024 (are_doubtful answers) in
-        let off_here = is.drifts || is_off pace slack tally is.away first from last to in
-        let gaps = reason 2048 (nat_lt 0 tally.open_gaps) in
-        let more = reason 4096 (nat_lt 0 is.away) in
-        let open_none = not_open seen_here swap (reason 64 off_here) last_unseen first_unseen doubt more
-        (nat_lt 0 tally.open_gaps) (sym e ∙ none) in
-        let off = not_off seen_here swap last_unseen first_unseen doubt gaps more off_here (sym e ∙ none) in
-        let here = none_away (seen_here + swap + reason 64 off_here + last_unseen + first_unseen + doubt + gaps)
-        is.away (sym e ∙ none) in
-        let near = is_near tally.open_gaps (nearly pace slack (first + tally.stood + is.away) from last to) open_none
-        (neither is.drifts (is_off pace slack tally is.away first from last to) off) in (
+        let off_here = is.drifts || is_off pace slack tally first from last to in
+        -- each reason is one of a sum that is 0
+        let open_none = unheld 2048 (nat_lt 0 tally.open_gaps) (omega arith) (omega (arith, e, none)) in
+        let off = unheld 64 off_here (omega arith) (omega (arith, e, none)) in
+        let away = unheld 4096 (nat_lt 0 tally.inserted) (omega arith) (omega (arith, e, none)) in
+        let here = none_there tally.inserted away in
+        let near = is_near tally.open_gaps (nearly pace slack (first + tally.stood + tally.inserted) from last to)
+        open_none (neither is.drifts (is_off pace slack tally first from last to) off) in (
           m,
           n,
           are,
           subst (λ n. nearly pace slack n from last to ≡ true)
-              (let less : first + tally.stood + is.away ≡ first + tally.stood = omega (arith, here) in less) near,
+              (let less : first + tally.stood + tally.inserted ≡ first + tally.stood = omega (arith, here) in less)
+              near,
         )
 
 within : (slack i m j n : ℕ) → nearly Video slack i m j n ≡ true
@@ -337,6 +325,24 @@ plain_of_film disc place fields answers slack numbering may_end seen ends findin
     (plain_runs numbering.clock Film disc none runs) rises are is verdict few low
     (λ n at. plain_clear numbering.clock n none) (λ n at. plain_clear numbering.clock n none)
 
+pub blank_not_yes : (pace : Pace) (slack : ℕ) (numbering : Numbering) (may_end : Bool) (seen : List Sightings)
+    (answers : List Number) (ends : List ℕ) (finding : Finding) (old new : List Gap)
+    → IsFinding pace slack numbering may_end seen answers ends finding old new → (i : ℕ)
+    → IsBlank numbering.clock pace slack answers i → finding.verdict ≢ yes
+blank_not_yes pace slack numbering may_end seen answers ends finding old new is i blank whole = go is.reasons
+  where
+    none : finding.reasons ≡ 0
+    none = yes_none finding.reasons (sym is.verdict ∙ whole)
+
+    go : IsUntold answers finding ⊎ ((m n : ℕ) × AreEnds answers finding.first m finding.last n
+        × (finding.reasons ≡ reasons_of numbering.clock pace slack may_end answers ends finding.tally is.swapped is.drifts
+        finding.blank finding.first m finding.last n)) → ⊥
+    go (inl (never, e, first, last)) = absurd (omega (arith, none, e))
+    go (inr (m, n, are, e)) =
+        let zero = none_there finding.blank (unheld 16384 (nat_lt 0 finding.blank) (omega arith)
+        (omega (arith, e, none))) in
+        subst (IsBlankTold numbering.clock pace slack answers) zero is.blank i blank
+
 -- ---- no
 
 pub whole_lost : (pace : Pace) (slack : ℕ) (disc : ℕ → Option ℕ) (place : ℕ → ℕ) (answers : List Number)
@@ -353,9 +359,8 @@ whole_lost pace slack disc place answers numbering may_end seen ends finding old
     sum = ap (λ (t : Tally). t.lost) is.told.told.comes_to
 
     go : IsUntold answers finding ⊎ ((m n : ℕ) × AreEnds answers finding.first m finding.last n
-        × (finding.reasons ≡ reasons_of numbering.clock pace slack may_end answers ends finding.tally is.away is.swapped
-        is.drifts
-        finding.first m finding.last n))
+        × (finding.reasons ≡ reasons_of numbering.clock pace slack may_end answers ends finding.tally is.swapped is.drifts
+        finding.blank finding.first m finding.last n))
         → LostAtLeast place finding.first finding.last finding.tally.lost
     go (inl (never, e, first, last)) = absurd (some never)
     go (inr (m, n, are, e)) = omega (
@@ -374,9 +379,8 @@ pub none_known : (pace : Pace) (slack : ℕ) (numbering : Numbering) (may_end : 
 none_known pace slack numbering may_end seen answers ends finding old new is never = go is.reasons
   where
     go : IsUntold answers finding ⊎ ((m n : ℕ) × AreEnds answers finding.first m finding.last n
-        × (finding.reasons ≡ reasons_of numbering.clock pace slack may_end answers ends finding.tally is.away is.swapped
-        is.drifts
-        finding.first m finding.last n))
+        × (finding.reasons ≡ reasons_of numbering.clock pace slack may_end answers ends finding.tally is.swapped is.drifts
+        finding.blank finding.first m finding.last n))
         → finding.verdict ≡ cannot_tell
     go (inl (always, e, first, last)) = is.verdict ∙ ap verdict_of e
     go (inr (m, n, are, e)) = absurd (never finding.first m are.begins)

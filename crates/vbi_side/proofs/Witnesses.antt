@@ -1,7 +1,7 @@
 -- A disc that is read whole is whole by the definitions, however long it is.
 use Rattle.std.proofs.Common.{◌≡◌, ◌≢◌, ℕ, zero, suc, ◌+◌, ◌*◌, ◌-◌, ◌<◌, ◌≤◌, true, false, List, []}
 use Rattle.std.proofs.Common.{refl, arith, ap, sym, ◌∙◌, subst, inl, inr}
-use Rattle.std.specs.Prelude.{Option, Some, None, slice_get, ◌⊎◌, ◌==◌, not}
+use Rattle.std.specs.Prelude.{Option, Some, None, slice_get, ◌⊎◌, ◌==◌, nat_lt, not}
 use Rattle.std.proofs.lemmas.Bool.Decides.{eqb_tells}
 use Rattle.std.proofs.lemmas.List.FromFn.{get_or-map-range_with_len, length-map-range_with_len}
 use Rattle.std.proofs.lemmas.Option.{slice_get_within, slice_get-get_or}
@@ -13,6 +13,7 @@ use Rattle.vbi_side.specs.declared.pace.Pace.TheVariants.{Video, Film}
 use Rattle.vbi_side.specs.declared.sighting.Sightings.{Sightings}
 use Rattle.vbi_side.specs.Sightings.{Shows}
 use Rattle.vbi_side.specs.Paces.{nearly}
+use Rattle.vbi_side.specs.Blanks.{IsBlank}
 use Rattle.vbi_side.specs.Beliefs.{enough, support_of, Believed}
 use Rattle.vbi_side.specs.Clocks.{kept, nearly_by}
 use Rattle.vbi_side.specs.Drifts.{IsDrift}
@@ -24,10 +25,11 @@ use Rattle.vbi_side.specs.Numbers.{believed, nothing, AreAnswers, IsAnswer, IsMa
 use Rattle.vbi_side.specs.Swaps.{IsSwap}
 use Rattle.vbi_side.specs.Truth.{RunsOn, wrong_weight}
 use Rattle.vbi_side.specs.Verdicts.{IsFinding, found_whole, reasons_of, too_few, is_off, is_begin_unseen, are_doubtful}
-use Rattle.vbi_side.specs.Verdicts.{count_of}
+use Rattle.vbi_side.specs.Verdicts.{count_of, padded_in}
 use Rattle.vbi_side.specs.Witnesses.{read_as, answered_as, all_read, all_answered}
 use Rattle.vbi_side.specs.Worked.{blank}
 use Rattle.vbi_side.specs.WorkedSides.{cav}
+use Rattle.vbi_side.proofs.Blanks.{near_by}
 use Rattle.vbi_side.proofs.Counting.{plain}
 use Rattle.vbi_side.proofs.NoReason.{false_true, not_less, more_not_le, unsaid, none_counted, one_counted, stray_shows}
 use Rattle.vbi_side.proofs.Telling.{some_is, none_written}
@@ -224,6 +226,20 @@ module _ (pace : Pace) (slack : ℕ) (disc : ℕ → Option ℕ) (end from to : 
   no_drift j drift = absurd (false_true (sym (sym (near drift.i drift.m j drift.n (marks drift.i drift.m drift.here).1
       (marks j drift.n drift.there).1) ∙ drift.apart)))
 
+  no_blank : slack ≤ 1 → (i : ℕ) → IsBlank Plain pace slack (all_answered disc (suc end)) i → ⊥
+  no_blank few i (k, blank) =
+      let (inside, here) = marks i blank.m blank.on.neighbours.here in
+      let (within, there) = marks k blank.n blank.on.neighbours.there in
+      let up = next i k blank.m blank.n blank.on.neighbours.order here there (λ j l more below is.
+      blank.on.neighbours.between j l more below (marked j l (omega (arith, below, within)) is)) in
+      omega (
+        arith,
+        blank.many,
+        few,
+        near_by pace slack i blank.m k blank.n
+            (nears i k blank.m blank.n here there) up,
+      )
+
   few_doubtful : are_doubtful (all_answered disc (suc end)) ≡ false
   few_doubtful =
       let some = one_counted (λ (a : Number). a.state == 1) (all_answered disc (suc end)) 0 (believed from)
@@ -246,34 +262,36 @@ module _ (pace : Pace) (slack : ℕ) (disc : ℕ → Option ℕ) (end from to : 
   early Film passed =
       not_less (2 * passed + 2) (5 * (kept Plain from - 1)) (omega (arith, low, plain Plain from refl))
 
-  no_reason : (ends : List ℕ) → reasons_of Plain pace slack true (all_answered disc (suc end)) ends
-      (tally_of Plain [] 0) 0 false false 0 from end to ≡ 0
-  no_reason ends = omega (
+  no_reason : (ends : List ℕ) → padded_in ends ≡ 0 → reasons_of Plain pace slack true (all_answered disc (suc end)) ends
+      (tally_of Plain [] 0) false false 0 0 from end to ≡ 0
+  no_reason ends unpadded = omega (
     arith,
     unsaid 16 (too_few pace (since_end ends 0) (kept Plain from)) (early pace (since_end ends 0)),
-    unsaid 64 (is_off pace slack (tally_of Plain [] 0) 0 0 (kept Plain from) end (kept Plain to))
+    unsaid 64 (is_off pace slack (tally_of Plain [] 0) 0 (kept Plain from) end (kept Plain to))
         (ap not (near 0 from end to begins ends_at)),
     unsaid 512 (is_begin_unseen ends 0 from) (let e = not_less 1 from low in rw e refl),
     unsaid 1024 (are_doubtful (all_answered disc (suc end))) few_doubtful,
+    unsaid 8192 (nat_lt 0 (padded_in ends)) (ap (nat_lt 0) unpadded),
   )
 
-  pub finding_is : (ends : List ℕ) (room : List Gap) → IsFinding pace slack cav true (all_read disc (suc end))
+  pub finding_is : (ends : List ℕ) (room : List Gap) → padded_in ends ≡ 0 → slack ≤ 1 → IsFinding pace slack cav true (all_read disc (suc end))
       (all_answered disc (suc end)) ends (found_whole 0 end) room room
   unfolding detoured_from
-  finding_is ends room = record {
-    away = 0;
+  finding_is ends room unpadded few = record {
     told = record {
       gaps = [];
       unread = 0;
       all = subst (λ k. AreGaps pace slack cav (all_read disc (suc end)) (all_answered disc (suc end)) ends k [] 0)
           (sym (length-map-range_with_len (λ d. answered_as (disc d)) 0 (suc end)))
           (no_gaps ends (suc end) (omega arith));
-      told = record { comes_to = refl; inserts = refl; written = none_written room };
+      told = record { comes_to = refl; written = none_written room };
     };
     swapped = false;
     swap = (refl, λ video single. no_swap);
     drifts = false;
     drift = no_drift;
+    padded = sym unpadded;
+    blank = no_blank few;
     verdict = refl;
     reasons = inr (
       from,
@@ -284,6 +302,6 @@ module _ (pace : Pace) (slack : ℕ) (disc : ℕ → Option ℕ) (end from to : 
         none_before = λ i k less at. absurd (omega (arith, less));
         none_after = λ i k less at. absurd (omega (arith, less, (marks i k at).0));
       },
-      sym (no_reason ends),
+      sym (no_reason ends unpadded),
     );
   }

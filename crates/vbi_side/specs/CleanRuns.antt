@@ -7,6 +7,7 @@ use Rattle.vbi_side.specs.Clocks.{kept, leaves_out}
 use Rattle.vbi_side.specs.Due.{ShowsTwice}
 use Rattle.vbi_side.specs.Gaps.{since_end}
 use Rattle.vbi_side.specs.Ends.{lead_out}
+use Rattle.vbi_side.specs.Verdicts.{padded_in}
 
 -- ---- the numbers of a run
 
@@ -56,9 +57,10 @@ IsBegun clock ends begin m =
 abbrev pub IsEnded : Bool → List ℕ → ℕ → Type 0
 IsEnded may_end ends k = (may_end ≡ true) ⊎ ((e : ℕ) × (k < e) × (slice_get ends e ≡ Some lead_out))
 
--- the run is the whole of a side
+-- the run is the whole of a side, none of which is padding
 pub record IsCleanSide (clock : Clock) (number : ℕ → ℕ) (fields : List Sightings) (ends : List ℕ) (may_end : Bool)
     (begin last : ℕ) : Type 0 where
   pub run : IsCleanRun clock number fields begin last
   pub begun : IsBegun clock ends begin (number 0)
   pub ended : IsEnded may_end ends (begin + 2 * last)
+  pub unpadded : padded_in ends ≡ 0

@@ -6,7 +6,8 @@ use Rattle.vbi_words.specs.declared.code.Code.TheVariants.{LeadIn, LeadOut}
 use Rattle.vbi_side.specs.declared.lines.Shown.{Shown}
 use Rattle.vbi_side.specs.Lines.{code_in, pass_weight}
 
--- what is answered of a field: it is of lead-out, of lead-in, of either in doubt, or of none
+-- what is answered of a field: it is of lead-out, of lead-in, of either in doubt, or of none. A caller who knows that a
+-- field is padding says so in the place of its answer
 abbrev pub no_end : ℕ
 no_end = 0
 
@@ -18,6 +19,9 @@ doubtful_end = 2
 
 abbrev pub lead_in : ℕ
 lead_in = 3
+
+abbrev pub padding : ℕ
+padding = 4
 
 -- what a code weighs as lead-out, if its word weighs so much
 abbrev pub weight_as_out : Option Code → ℕ → ℕ

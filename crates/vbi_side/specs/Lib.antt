@@ -24,6 +24,7 @@ pub mod Told
 pub mod ClocksFound
 pub mod Verdicts
 pub mod Swaps
+pub mod Blanks
 pub mod Both
 pub mod Votes
 pub mod Tallies

@@ -24,10 +24,6 @@ one_if kind gap = if gap.kind == kind then 1 else 0
 abbrev pub fields_if : ℕ → Gap → ℕ
 fields_if kind gap = if gap.kind == kind then gap.fields else 0
 
--- the fields that detours insert
-abbrev pub away_of : List Gap → ℕ
-away_of gaps = capped (sum_by (fields_if inserted) gaps)
-
 -- one if it is open, or of a detour of which it isn't known what it is
 abbrev pub one_if_open : Gap → ℕ
 one_if_open gap = one_if open_gap gap + one_if replaced gap
@@ -80,6 +76,7 @@ tally_of clock gaps unread = record {
   lost_numbers = capped (sum_by (lost_of clock) gaps);
   undecided = capped (sum_by (undecided_of clock) gaps);
   unread = capped unread;
+  inserted = capped (sum_by (fields_if inserted) gaps);
 }
 
 -- the same with one gap more
@@ -97,6 +94,7 @@ with_gap clock tally gap = record {
   lost_numbers = capped (tally.lost_numbers + lost_of clock gap);
   undecided = capped (tally.undecided + undecided_of clock gap);
   unread = tally.unread;
+  inserted = capped (tally.inserted + fields_if inserted gap);
 }
 
 -- the same with this many unread numbers more
@@ -109,20 +107,18 @@ pub record AreWritten (gaps old new : List Gap) : Type 0 where
   pub first : (j : ℕ) (gap : Gap) → j < length old → slice_get gaps j ≡ Some gap → slice_get new j ≡ Some gap
   pub others : (j : ℕ) → length gaps ≤ j → slice_get new j ≡ slice_get old j
 
--- it is told what these gaps come to, and how many fields detours insert, and the room holds the first of them
-pub record AreTold (clock : Clock) (gaps : List Gap) (unread : ℕ) (tally : Tally) (away : ℕ) (old new : List Gap) :
-    Type 0 where
+-- it is told what these gaps come to, and the room holds the first of them
+pub record AreTold (clock : Clock) (gaps : List Gap) (unread : ℕ) (tally : Tally) (old new : List Gap) : Type 0 where
   pub comes_to : tally ≡ tally_of clock gaps unread
-  pub inserts : away ≡ away_of gaps
   pub written : AreWritten gaps old new
 
 -- the gaps before field k are told, with their detours
 pub record IsTold (pace : Pace) (slack : ℕ) (numbering : Numbering) (seen : List Sightings) (answers : List Number)
-    (ends : List ℕ) (k : ℕ) (tally : Tally) (away : ℕ) (old new : List Gap) : Type 0 where
+    (ends : List ℕ) (k : ℕ) (tally : Tally) (old new : List Gap) : Type 0 where
   pub gaps : List Gap
   pub unread : ℕ
   pub all : AreGaps pace slack numbering seen answers ends k gaps unread
-  pub told : AreTold numbering.clock (detoured pace slack numbering.clock gaps) unread tally away old new
+  pub told : AreTold numbering.clock (detoured pace slack numbering.clock gaps) unread tally old new
 
 -- ---- gap by gap
 
@@ -134,16 +130,16 @@ waiting (Some one) = Some one.gap
 -- the gaps so far are told, but the last one if a detour may begin with it: whatever comes after them is told after
 -- these
 pub record AreTelling (pace : Pace) (slack : ℕ) (clock : Clock) (gaps : List Gap) (unread : ℕ) (last : Option Gap)
-    (tally : Tally) (away : ℕ) (old new : List Gap) : Type 0 where
+    (tally : Tally) (old new : List Gap) : Type 0 where
   pub settled : List Gap
   pub goes_on : (more : List Gap) → detoured pace slack clock (gaps ++ more)
       ≡ settled ++ detoured_from pace slack clock last more
-  pub told : AreTold clock settled unread tally away old new
+  pub told : AreTold clock settled unread tally old new
 
 -- the same of the gaps before field k
 pub record IsTelling (pace : Pace) (slack : ℕ) (numbering : Numbering) (seen : List Sightings) (answers : List Number)
-    (ends : List ℕ) (k : ℕ) (last : Option Gap) (tally : Tally) (away : ℕ) (old new : List Gap) : Type 0 where
+    (ends : List ℕ) (k : ℕ) (last : Option Gap) (tally : Tally) (old new : List Gap) : Type 0 where
   pub gaps : List Gap
   pub unread : ℕ
   pub all : AreGaps pace slack numbering seen answers ends k gaps unread
-  pub telling : AreTelling pace slack numbering.clock gaps unread last tally away old new
+  pub telling : AreTelling pace slack numbering.clock gaps unread last tally old new

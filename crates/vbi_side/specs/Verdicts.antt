@@ -1,5 +1,5 @@
 -- Whether a capture of a side is whole: yes, no, or it can't be told, with the reasons.
-use Rattle.std.specs.Prelude.{◌≡◌, ℕ, ◌+◌, ◌*◌, ◌-◌, ◌%◌, ◌==◌, nat_lt, nat_le, not, ◌&&◌, ◌||◌, ◌⊎◌, Bool}
+use Rattle.std.specs.Prelude.{◌≡◌, ℕ, ◌+◌, ◌*◌, ◌-◌, ◌/◌, ◌%◌, ◌==◌, nat_lt, nat_le, not, ◌&&◌, ◌||◌, ◌⊎◌, Bool}
 use Rattle.std.specs.Prelude.{if◌then◌else◌, List, [], length, count_by, drop}
 use Rattle.vbi_side.specs.declared.number.Number.{Number}
 use Rattle.vbi_side.specs.declared.gap.Gap.{Gap}
@@ -15,7 +15,8 @@ use Rattle.vbi_side.specs.Numbers.{IsMarked}
 use Rattle.vbi_side.specs.Side.{AreEnds}
 use Rattle.vbi_side.specs.Gaps.{since_end}
 use Rattle.vbi_side.specs.Told.{IsTold, tally_of}
-use Rattle.vbi_side.specs.Ends.{lead_out}
+use Rattle.vbi_side.specs.Ends.{lead_out, padding}
+use Rattle.vbi_side.specs.Blanks.{IsBlankTold}
 use Rattle.vbi_side.specs.Swaps.{IsSwapTold}
 use Rattle.vbi_side.specs.Drifts.{IsDriftTold}
 use Rattle.vbi_side.specs.declared.sighting.Sightings.{Sightings}
@@ -31,12 +32,13 @@ yes = 1
 abbrev pub no : ℕ
 no = 2
 
--- the verdict that reasons leave: yes if there is none, no if one of the first six is there or the last one, which are
--- seen on the capture, else it can't be told
+-- one of the first six is among these reasons, or one of 4096 and 8192: those that are seen on the capture
+abbrev pub is_seen : ℕ → Bool
+is_seen reasons = nat_lt 0 (reasons % 64) || nat_lt 0 ((reasons / 4096) % 4)
+
+-- the verdict that reasons leave: yes if there is none, no if one is seen on the capture, else it can't be told
 abbrev pub verdict_of : ℕ → ℕ
-verdict_of reasons =
-    if reasons == 0 then yes
-    else (if ((reasons % 64) == 0) && nat_lt reasons 4096 then cannot_tell else no)
+verdict_of reasons = if reasons == 0 then yes else (if is_seen reasons then no else cannot_tell)
 
 -- a reason, if it holds
 abbrev pub reason : ℕ → Bool → ℕ
@@ -55,9 +57,9 @@ seen_reasons pace ends tally first m =
 
 -- no gap is open, and the first and the last number don't count to each other, less the fields for which the player
 -- stood still, and those that detours insert
-abbrev pub is_off : Pace → ℕ → Tally → ℕ → ℕ → ℕ → ℕ → ℕ → Bool
-is_off pace slack tally away first m last n =
-    (tally.open_gaps == 0) && not (nearly pace slack (first + tally.stood + away) m last n)
+abbrev pub is_off : Pace → ℕ → Tally → ℕ → ℕ → ℕ → ℕ → Bool
+is_off pace slack tally first m last n =
+    (tally.open_gaps == 0) && not (nearly pace slack (first + tally.stood + tally.inserted) m last n)
 
 -- the first number isn't the disc's first, and over a hundred fields without numbers stand before it
 abbrev pub is_begin_unseen : List ℕ → ℕ → ℕ → Bool
@@ -80,15 +82,20 @@ abbrev pub are_doubtful : List Number → Bool
 are_doubtful answers =
     nat_le (count_of 1 answers + count_of 2 answers) (10 * count_of 2 answers)
 
+-- this many fields are padding
+abbrev pub padded_in : List ℕ → ℕ
+padded_in ends = count_by (λ e. e == padding) ends
+
 -- all reasons against a capture whose first and last believed numbers are m in field `first` and n in field `last`; how
 -- far these are from each other and from the disc's beginning is counted by the clock
-abbrev pub reasons_of : Clock → Pace → ℕ → Bool → List Number → List ℕ → Tally → ℕ → Bool → Bool → ℕ → ℕ → ℕ → ℕ → ℕ
-reasons_of clock pace slack may_end answers ends tally away swapped drifts first m last n =
+abbrev pub reasons_of : Clock → Pace → ℕ → Bool → List Number → List ℕ → Tally → Bool → Bool → ℕ → ℕ → ℕ → ℕ → ℕ → ℕ
+reasons_of clock pace slack may_end answers ends tally swapped drifts blank first m last n =
     seen_reasons pace ends tally first (kept clock m) + reason 32 swapped
-    + reason 64 (drifts || is_off pace slack tally away first (kept clock m) last (kept clock n))
+    + reason 64 (drifts || is_off pace slack tally first (kept clock m) last (kept clock n))
     + reason 256 (is_end_unseen may_end ends last) + reason 512 (is_begin_unseen ends first m)
     + reason 1024 (are_doubtful answers) + reason 2048 (nat_lt 0 tally.open_gaps)
-    + reason 4096 (nat_lt 0 away)
+    + reason 4096 (nat_lt 0 tally.inserted) + reason 8192 (nat_lt 0 (padded_in ends))
+    + reason 16384 (nat_lt 0 blank)
 
 -- no number is believed
 abbrev pub HasNone : List Number → Type 0
@@ -102,17 +109,18 @@ IsUntold answers finding =
 -- what is said of a capture
 pub record IsFinding (pace : Pace) (slack : ℕ) (numbering : Numbering) (may_end : Bool) (seen : List Sightings)
     (answers : List Number) (ends : List ℕ) (finding : Finding) (old new : List Gap) : Type 0 where
-  pub away : ℕ
-  pub told : IsTold pace slack numbering seen answers ends (length answers) finding.tally away old new
+  pub told : IsTold pace slack numbering seen answers ends (length answers) finding.tally old new
   pub swapped : Bool
   pub swap : IsSwapTold numbering.clock pace slack seen answers finding.swap swapped
   pub drifts : Bool
   pub drift : IsDriftTold numbering.clock pace slack answers drifts
+  pub padded : finding.padded ≡ padded_in ends
+  pub blank : IsBlankTold numbering.clock pace slack answers finding.blank
   pub verdict : finding.verdict ≡ verdict_of finding.reasons
   pub reasons : IsUntold answers finding
       ⊎ ((m n : ℕ) × AreEnds answers finding.first m finding.last n
-      × (finding.reasons ≡ reasons_of numbering.clock pace slack may_end answers ends finding.tally away swapped drifts
-      finding.first m finding.last n))
+      × (finding.reasons ≡ reasons_of numbering.clock pace slack may_end answers ends finding.tally swapped drifts
+      finding.blank finding.first m finding.last n))
 
 -- what is said of a capture with no gap from the first field with a number to the last, to which nothing is to be said
 abbrev pub found_whole : ℕ → ℕ → Finding
@@ -121,6 +129,8 @@ found_whole first last = record {
   first = first;
   last = last;
   swap = 0;
+  padded = 0;
+  blank = 0;
   verdict = yes;
   reasons = 0;
 }

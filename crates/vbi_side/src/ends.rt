@@ -14,6 +14,9 @@ pub const LEAD_OUT: u32 = 1;
 pub const DOUBTFUL_END: u32 = 2;
 /// It is of lead-in: a line shows that in pass 1, or both lines do, and it isn't of lead-out.
 pub const LEAD_IN: u32 = 3;
+/// It is padding, and stands for a field that the capture lacks: `judge_end` never answers this, a caller who knows it
+/// says it in the place of the answer.
+pub const PADDING: u32 = 4;
 
 /// How much a line says that its field is of lead-out.
 fn out_weight(line: &Shown) -> u32

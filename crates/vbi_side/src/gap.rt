@@ -95,12 +95,14 @@ pub struct Tally {
     pub undecided: u64,
     /// The numbers that weren't read, though their fields are there.
     pub unread: u64,
+    /// The fields that detours insert, at least.
+    pub inserted: u64,
 }
 
 // As include/ldvbi.h has them.
 const _: () = prove!(size_of::<Gap>() == 48);
 
-const _: () = prove!(size_of::<Tally>() == 96);
+const _: () = prove!(size_of::<Tally>() == 104);
 
 /// What the numbers of a disc are.
 #[derive(Clone, Copy)]

@@ -290,9 +290,10 @@ pub fn worked_verdicts()
         ∷ believed 6 ∷ []) ∷ []) ≡ true ∷ false ∷ [] }
     ensures frozen { map is_on_both ((believed 1 ∷ believed 1 ∷ believed 1 ∷ nothing ∷ believed 2 ∷ [])
         ∷ (believed 1 ∷ believed 1 ∷ believed 1 ∷ believed 2 ∷ []) ∷ []) ≡ false ∷ true ∷ [] }
-    ensures verdicts { map verdict_of (0 ∷ 1 ∷ 32 ∷ 64 ∷ 128 ∷ 256 ∷ 257 ∷ 1024 ∷ 2048 ∷ 4032 ∷ 4096 ∷ 6144 ∷ [])
+    ensures verdicts { map verdict_of (0 ∷ 1 ∷ 32 ∷ 64 ∷ 128 ∷ 256 ∷ 257 ∷ 1024 ∷ 2048 ∷ 4032 ∷ 4096 ∷ 6144 ∷ 8192
+        ∷ 10240 ∷ 16384 ∷ 18432 ∷ 20480 ∷ 24576 ∷ [])
         ≡ yes ∷ no ∷ no ∷ cannot_tell ∷ cannot_tell ∷ cannot_tell ∷ no ∷ cannot_tell ∷ cannot_tell ∷ cannot_tell ∷ no
-        ∷ no ∷ [] }
+        ∷ no ∷ no ∷ no ∷ cannot_tell ∷ cannot_tell ∷ no ∷ no ∷ [] }
     ensures late { map (λ fields. too_few Video fields 5) (7 ∷ 8 ∷ []) ≡ true ∷ false ∷ [] }
     ensures film_late { map (λ fields. too_few Film fields 5) (8 ∷ 9 ∷ []) ≡ true ∷ false ∷ [] }
     ensures first { map (λ m. too_few Video 0 m) (0 ∷ 1 ∷ 2 ∷ []) ≡ false ∷ false ∷ true ∷ [] }

@@ -28,12 +28,13 @@ use crate::clock::Clock;
 use crate::detour::Waiting;
 use crate::ends::{LEAD_IN, LEAD_OUT};
 use crate::gap::{
-    BACK, Gap, HELD, JOINED, LOST, Neighbours, OPEN, REPLACED, Rule, STILL, Tally, between, skipped,
+    BACK, Gap, HELD, INSERTED, JOINED, LOST, Neighbours, OPEN, REPLACED, Rule, STILL, Tally,
+    between, skipped,
 };
 use crate::number::Number;
 use crate::place::{Place, believed_at};
 use crate::sighting::Sightings;
-use crate::told::{Telling, Told};
+use crate::told::Telling;
 
 impl Tally {
     /// Of no gap.
@@ -53,6 +54,7 @@ impl Tally {
             lost_numbers: 0,
             undecided: 0,
             unread: 0,
+            inserted: 0,
         }
     }
 
@@ -102,6 +104,7 @@ impl Tally {
             lost_numbers: self.lost_numbers.saturating_add(gap.lost_numbers(clock)),
             undecided: self.undecided.saturating_add(gap.undecided(clock)),
             unread: self.unread,
+            inserted: self.inserted.saturating_add(gap.fields_if(INSERTED)),
         }
     }
 
@@ -175,14 +178,14 @@ struct Walk {
 fn tell(seen: &[Sightings], rule: Rule, walk: Walk, pair: Neighbours, out: &mut [Gap]) -> Telling
     requires inside { pair.there.field ≤ length seen.now }
     requires since { walk.since ≤ pair.there.field }
-    requires few { walk.telling.told.tally.gaps < 2 ^ 60 }
+    requires few { walk.telling.tally.gaps < 2 ^ 60 }
     ensures { (answers : List Number) (ends : List ℕ) (old : List Gap)
         → AreNeighbours answers pair.here.field pair.here.number pair.there.field pair.there.number
         → walk.since ≡ since_end ends pair.there.field
         → IsTelling rule.pace rule.slack rule.numbering seen.now answers ends pair.there.field
-        (waiting walk.telling.last) walk.telling.told.tally walk.telling.told.away old out.old
+        (waiting walk.telling.last) walk.telling.tally old out.old
         → IsTelling rule.pace rule.slack rule.numbering seen.now answers ends (pair.there.field + 1)
-        (waiting result.last) result.told.tally result.told.away old out.new }
+        (waiting result.last) result.tally old out.new }
 {
     let ended = pair.here.field + walk.since + 1 < pair.there.field;
     let shown = shown_between(seen, pair);
@@ -200,13 +203,13 @@ fn visit(seen: &[Sightings], numbers: &[Number], rule: Rule, walk: Walk, out: &m
     requires same { length seen.now ≡ length numbers.now }
     requires inside { walk.at.field < length numbers.now }
     requires since { walk.since ≤ walk.at.field }
-    requires few { walk.telling.told.tally.gaps ≤ walk.at.field }
+    requires few { walk.telling.tally.gaps ≤ walk.at.field }
     requires last { IsLast numbers.now walk.at.field walk.at.last }
     ensures { (ends : List ℕ) (old : List Gap) → walk.since ≡ since_end ends walk.at.field
         → IsTelling rule.pace rule.slack rule.numbering seen.now numbers.now ends walk.at.field
-        (waiting walk.telling.last) walk.telling.told.tally walk.telling.told.away old out.old
+        (waiting walk.telling.last) walk.telling.tally old out.old
         → IsTelling rule.pace rule.slack rule.numbering seen.now numbers.now ends (walk.at.field + 1)
-        (waiting result.last) result.told.tally result.told.away old out.new }
+        (waiting result.last) result.tally old out.new }
 {
     let Some(pair) = neighbours_at(numbers, walk.at) else {
         return walk.telling;
@@ -251,11 +254,11 @@ pub fn find_gaps(
     ends: &[u32],
     rule: Rule,
     out: &mut [Gap],
-) -> Told
+) -> Tally
     requires seen { length seen.now ≡ length numbers.now }
     requires ends { length ends.now ≡ length numbers.now }
     ensures { IsTold rule.pace rule.slack rule.numbering seen.now numbers.now ends.now (length numbers.now)
-        result.tally result.away out.old out.new }
+        result out.old out.new }
 {
     let mut telling = Telling::none();
     let mut last: Option<Place> = None;

@@ -9,6 +9,7 @@
 
 mod answers;
 mod belief;
+mod blank;
 mod both;
 pub mod chapter_laws;
 mod chapters;
@@ -56,7 +57,7 @@ pub use chapters::{chapters_shown, judge_chapters};
 pub use clock::Clock;
 pub use clock_found::find_clock;
 pub use completion::completed_time;
-pub use ends::{DOUBTFUL_END, LEAD_IN, LEAD_OUT, NO_END, judge_end};
+pub use ends::{DOUBTFUL_END, LEAD_IN, LEAD_OUT, NO_END, PADDING, judge_end};
 pub use found::found_pace;
 pub use gap::{
     BACK, Gap, HELD, INSERTED, JOINED, LOST, Numbering, OPEN, REPLACED, Rule, STILL, Tally,
@@ -72,10 +73,9 @@ pub use plan_check::{
 pub use seek::first_of;
 pub use sighting::{Sighting, Sightings};
 pub use stops::judge_stop;
-pub use told::Told;
 pub use verdict::{
-    BEGIN_UNSEEN, BEGINS_LATE, CANNOT_TELL, END_UNSEEN, Finding, GOES_BACK, IS_HELD, IS_INSERTED,
-    IS_JOINED, IS_LOST, IS_OFF, IS_OPEN, IS_SWAPPED, MANY_DOUBTFUL, NO, NO_NUMBERS, YES,
-    judge_whole,
+    BEGIN_UNSEEN, BEGINS_LATE, CANNOT_TELL, END_UNSEEN, Finding, GOES_BACK, IS_BLANK, IS_HELD,
+    IS_INSERTED, IS_JOINED, IS_LOST, IS_OFF, IS_OPEN, IS_PADDED, IS_SWAPPED, MANY_DOUBTFUL, NO,
+    NO_NUMBERS, YES, judge_whole,
 };
 pub use votes::{VOTE_REACH, elected};

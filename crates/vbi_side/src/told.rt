@@ -12,17 +12,8 @@ ghost use Rattle.vbi_side.specs.Told.{AreTold, AreTelling, waiting};
 
 use crate::clock::Clock;
 use crate::detour::{Waiting, detour, fields_by};
-use crate::gap::{Gap, INSERTED, Rule, Tally};
+use crate::gap::{Gap, Rule, Tally};
 use crate::gaps::write;
-
-/// What the gaps of a capture come to, with its detours.
-#[derive(Clone, Copy)]
-pub struct Told {
-    /// The counts of the gaps.
-    pub tally: Tally,
-    /// The fields that detours insert.
-    pub away: u64,
-}
 
 /// What is told of the gaps so far.
 #[derive(Clone, Copy)]
@@ -30,23 +21,19 @@ pub(crate) struct Telling {
     /// The last gap, if a detour may begin with it.
     pub(crate) last: Option<Waiting>,
     /// What those before it come to.
-    pub(crate) told: Told,
+    pub(crate) tally: Tally,
 }
 
-impl Told {
+impl Tally {
     /// With one gap more, which is written if there is room.
-    fn with_gap(self, clock: Clock, one: Waiting, out: &mut [Gap]) -> Told
-        requires few { self.tally.gaps < 2 ^ 61 }
-        ensures count { result.tally.gaps ≡ self.tally.gaps + 1 }
-        ensures told { (gaps : List Gap) (unread : ℕ) (old : List Gap)
-            → AreTold clock gaps unread self.tally self.away old out.old
-            → AreTold clock (gaps ++ one.gap ∷ []) unread result.tally result.away old out.new }
+    fn with_written(self, clock: Clock, one: Waiting, out: &mut [Gap]) -> Tally
+        requires few { self.gaps < 2 ^ 61 }
+        ensures count { result.gaps ≡ self.gaps + 1 }
+        ensures told { (gaps : List Gap) (unread : ℕ) (old : List Gap) → AreTold clock gaps unread self old out.old
+            → AreTold clock (gaps ++ one.gap ∷ []) unread result old out.new }
     {
-        write(out, self.tally.gaps, one.gap);
-        Told {
-            tally: self.tally.with_gap(clock, one.gap),
-            away: self.away.saturating_add(one.gap.fields_if(INSERTED)),
-        }
+        write(out, self.gaps, one.gap);
+        self.with_gap(clock, one.gap)
     }
 }
 
@@ -54,77 +41,70 @@ impl Telling {
     /// Of no gap.
     pub(crate) fn none() -> Telling
         ensures { (pace : Pace) (slack : ℕ) (clock : Clock) (old : List Gap)
-            → AreTelling pace slack clock [] 0 (waiting result.last) result.told.tally result.told.away old old }
+            → AreTelling pace slack clock [] 0 (waiting result.last) result.tally old old }
     {
         Telling {
             last: None,
-            told: Told {
-                tally: Tally::none(),
-                away: 0,
-            },
+            tally: Tally::none(),
         }
     }
 
     /// With this many unread numbers more.
     pub(crate) fn with_unread(self, more: u64) -> Telling
         ensures { (pace : Pace) (slack : ℕ) (clock : Clock) (gaps : List Gap) (unread : ℕ) (old new : List Gap)
-            → AreTelling pace slack clock gaps unread (waiting self.last) self.told.tally self.told.away old new
-            → AreTelling pace slack clock gaps (unread + more) (waiting result.last) result.told.tally
-            result.told.away old new }
+            → AreTelling pace slack clock gaps unread (waiting self.last) self.tally old new
+            → AreTelling pace slack clock gaps (unread + more) (waiting result.last) result.tally old new }
     {
         Telling {
             last: self.last,
-            told: Told {
-                tally: self.told.tally.with_unread(more),
-                away: self.told.away,
-            },
+            tally: self.tally.with_unread(more),
         }
     }
 
     /// With one gap more.
     pub(crate) fn with_gap(self, rule: Rule, gap: Waiting, out: &mut [Gap]) -> Telling
-        requires few { self.told.tally.gaps < 2 ^ 60 }
+        requires few { self.tally.gaps < 2 ^ 60 }
         ensures { (gaps : List Gap) (unread : ℕ) (old : List Gap)
-            → AreTelling rule.pace rule.slack rule.numbering.clock gaps unread (waiting self.last) self.told.tally
-            self.told.away old out.old
+            → AreTelling rule.pace rule.slack rule.numbering.clock gaps unread (waiting self.last) self.tally old out.old
             → AreTelling rule.pace rule.slack rule.numbering.clock (gaps ++ gap.gap ∷ []) unread (waiting result.last)
-            result.told.tally result.told.away old out.new }
+            result.tally old out.new }
     {
         let Some(first) = self.last else {
             return Telling {
                 last: Some(gap),
-                told: self.told,
+                tally: self.tally,
             };
         };
         let clock = rule.numbering.clock;
         match detour(rule, first, gap) {
             None => Telling {
                 last: Some(gap),
-                told: self.told.with_gap(clock, first, out),
+                tally: self.tally.with_written(clock, first, out),
             },
             Some(kind) => {
                 let fields = fields_by(rule, kind, first, gap);
-                let told = self.told.with_gap(clock, first.turned(kind, fields), out);
+                let tally = self
+                    .tally
+                    .with_written(clock, first.turned(kind, fields), out);
                 Telling {
                     last: None,
-                    told: told.with_gap(clock, gap.turned(kind, 0), out),
+                    tally: tally.with_written(clock, gap.turned(kind, 0), out),
                 }
             }
         }
     }
 
     /// After the last gap.
-    pub(crate) fn ended(self, rule: Rule, out: &mut [Gap]) -> Told
-        requires few { self.told.tally.gaps < 2 ^ 61 }
+    pub(crate) fn ended(self, rule: Rule, out: &mut [Gap]) -> Tally
+        requires few { self.tally.gaps < 2 ^ 61 }
         ensures { (gaps : List Gap) (unread : ℕ) (old : List Gap)
-            → AreTelling rule.pace rule.slack rule.numbering.clock gaps unread (waiting self.last) self.told.tally
-            self.told.away old out.old
-            → AreTold rule.numbering.clock (detoured rule.pace rule.slack rule.numbering.clock gaps) unread result.tally
-            result.away old out.new }
+            → AreTelling rule.pace rule.slack rule.numbering.clock gaps unread (waiting self.last) self.tally old out.old
+            → AreTold rule.numbering.clock (detoured rule.pace rule.slack rule.numbering.clock gaps) unread result
+            old out.new }
     {
         match self.last {
-            None => self.told,
-            Some(last) => self.told.with_gap(rule.numbering.clock, last, out),
+            None => self.tally,
+            Some(last) => self.tally.with_written(rule.numbering.clock, last, out),
         }
     }
 }

@@ -1,10 +1,10 @@
 //! Whether a capture of a side is whole.
 //!
-//! `judge_whole` asks three passes over the answers: the gaps (gaps.rt), the swapped fields (swaps.rt) and the numbers
-//! that drift (drift.rt). What they find is `Found`, with the first and the last number; each thing that speaks against
-//! the capture is a reason, and reasons are bits, so that their sum says which hold. Bits below 64, and the last one,
-//! are seen on the capture itself: with one of these the verdict is `NO`. The others leave it open, so with these alone
-//! it is `CANNOT_TELL`. A capture without a number has the reason `NO_NUMBERS` alone.
+//! `judge_whole` asks four passes over the answers: the gaps (gaps.rt), the swapped fields (swaps.rt), the numbers that
+//! drift (drift.rt) and the fields without any (blank.rt). What they find is `Found`, with the first and the last number; each thing that speaks against
+//! the capture is a reason, and reasons are bits, so that their sum says which hold. Bits below 64, `IS_INSERTED` and
+//! `IS_PADDED` are seen on the capture itself: with one of these the verdict is `NO`. The others leave it open, so with
+//! these alone it is `CANNOT_TELL`. A capture without a number has the reason `NO_NUMBERS` alone.
 //!
 //! A reason more, or another bound, changes `specs/Verdicts.antt`, the worked reasons of `reason_laws`,
 //! include/ldvbi.h, `Reason` of python/ldvbi/sides.py and docs/SIDES.md.
@@ -15,11 +15,12 @@ ghost use Rattle.vbi_side.specs.Clocks.{kept};
 ghost use Rattle.vbi_side.specs.Gaps.{since_end, ended_between};
 ghost use Rattle.vbi_side.specs.Verdicts.{verdict_of, reason, too_few, seen_reasons, is_off, is_begin_unseen};
 ghost use Rattle.vbi_side.specs.Verdicts.{lead_out_follows, is_end_unseen, count_of, are_doubtful, reasons_of};
-ghost use Rattle.vbi_side.specs.Verdicts.{IsFinding};
+ghost use Rattle.vbi_side.specs.Verdicts.{padded_in, IsFinding};
 ghost use Rattle.vbi_side.specs.Swaps.{IsSwapTold};
 
+use crate::blank::first_blank;
 use crate::drift::has_drift;
-use crate::ends::LEAD_OUT;
+use crate::ends::{LEAD_OUT, PADDING};
 use crate::gap::{Gap, Rule, Tally};
 use crate::gaps::{find_gaps, since_at};
 use crate::number::{BELIEVED, DOUBTFUL, Number};
@@ -27,7 +28,6 @@ use crate::pace::Pace;
 use crate::place::{Place, by_clock, first_believed, last_believed};
 use crate::sighting::Sightings;
 use crate::swaps::first_swap;
-use crate::told::Told;
 use std::mem::size_of;
 
 /// It can't be told.
@@ -65,6 +65,10 @@ pub const MANY_DOUBTFUL: u32 = 1024;
 pub const IS_OPEN: u32 = 2048;
 /// Fields are inserted: the player left those around and came back.
 pub const IS_INSERTED: u32 = 4096;
+/// Fields are padding: the capture lacks those for which they stand.
+pub const IS_PADDED: u32 = 8192;
+/// Between two numbers that go on, over a hundred fields in a row have none: as many may be lost there as are too many.
+pub const IS_BLANK: u32 = 16384;
 
 /// What is said of a capture.
 #[derive(Clone, Copy)]
@@ -78,6 +82,10 @@ pub struct Finding {
     pub last: usize,
     /// The first field that was swapped with one beside it, counted from 0; 0 if there is none.
     pub swap: usize,
+    /// How many of its fields are padding.
+    pub padded: usize,
+    /// The first of over a hundred fields without a number between two that go on, counted from 0; 0 if there are none.
+    pub blank: usize,
     /// `YES`, `NO` or `CANNOT_TELL`.
     pub verdict: u32,
     /// Why not: the sum of the reasons; 0 just if the verdict is `YES`.
@@ -85,7 +93,7 @@ pub struct Finding {
 }
 
 // As include/ldvbi.h has it.
-const _: () = prove!(size_of::<Finding>() == 128);
+const _: () = prove!(size_of::<Finding>() == 152);
 
 /// The verdict that reasons leave.
 fn verdict(reasons: u32) -> u32
@@ -93,10 +101,10 @@ fn verdict(reasons: u32) -> u32
 {
     if reasons == 0 {
         YES
-    } else if reasons % IS_OFF == 0 && reasons < IS_INSERTED {
-        CANNOT_TELL
-    } else {
+    } else if reasons % IS_OFF > 0 || reasons / IS_INSERTED % 4 > 0 {
         NO
+    } else {
+        CANNOT_TELL
     }
 }
 
@@ -145,13 +153,11 @@ fn too_few(pace: Pace, fields: usize, number: u32) -> bool
 
 /// Whether no gap is open, and the first and the last number don't count to each other, less the stills and what
 /// detours insert.
-fn is_off(rule: Rule, told: Told, first: Place, last: Place) -> bool
-    ensures { result ≡ is_off rule.pace rule.slack told.tally told.away first.field first.number last.field
-        last.number }
+fn is_off(rule: Rule, tally: &Tally, first: Place, last: Place) -> bool
+    ensures { result ≡ is_off rule.pace rule.slack tally.now first.field first.number last.field last.number }
 {
-    let Told { tally, away } = told;
     let field = first.field as u128 + u128::from(tally.stood);
-    let field = field + u128::from(away);
+    let field = field + u128::from(tally.inserted);
     let number = u128::from(first.number);
     let other = last.field as u128;
     let count = u128::from(last.number);
@@ -186,6 +192,13 @@ fn are_doubtful(numbers: &[Number]) -> bool
     believed as u128 + doubtful as u128 <= 10 * doubtful as u128
 }
 
+/// How many fields are padding.
+fn padded_in(ends: &[u32]) -> usize
+    ensures { result ≡ padded_in ends.now }
+{
+    ends.iter().filter(|end| **end == PADDING).count()
+}
+
 /// The reasons that are seen between the numbers, and before the first one.
 fn seen_reasons(pace: Pace, since: usize, tally: &Tally, number: u32) -> u32
     requires { since < 2 ^ 60 }
@@ -211,11 +224,15 @@ struct Swap {
 #[derive(Clone, Copy)]
 struct Found {
     /// What its gaps come to.
-    told: Told,
+    tally: Tally,
+    /// How many fields are padding.
+    padded: usize,
     /// A field that was swapped.
     swap: Swap,
     /// Whether the numbers of some stretch don't count to each other.
     drifts: bool,
+    /// The first field of a long stretch without a number.
+    blank: usize,
     /// Its first number.
     first: Place,
     /// Its last number.
@@ -227,16 +244,17 @@ fn reasons(numbers: &[Number], ends: &[u32], rule: Rule, may_end: bool, found: &
     requires same { length ends.now ≡ length numbers.now }
     requires first { found.now.first.field < length numbers.now }
     requires last { found.now.last.field < length numbers.now }
+    requires padded { found.now.padded ≡ padded_in ends.now }
     ensures { result ≡ reasons_of rule.numbering.clock rule.pace rule.slack may_end numbers.now ends.now
-        found.now.told.tally found.now.told.away found.now.swap.is_seen found.now.drifts found.now.first.field
+        found.now.tally found.now.swap.is_seen found.now.drifts found.now.blank found.now.first.field
         found.now.first.number found.now.last.field found.now.last.number }
 {
-    let tally = &found.told.tally;
+    let tally = &found.tally;
     let before = since_end(ends, found.first.field);
     let is_ended = lead_out_follows(ends, found.last.field);
     let begin = by_clock(rule.numbering.clock, found.first);
     let end = by_clock(rule.numbering.clock, found.last);
-    let is_off = found.drifts || is_off(rule, found.told, begin, end);
+    let is_off = found.drifts || is_off(rule, tally, begin, end);
     seen_reasons(rule.pace, before, tally, begin.number)
         + reason(IS_SWAPPED, found.swap.is_seen)
         + reason(IS_OFF, is_off)
@@ -245,7 +263,9 @@ fn reasons(numbers: &[Number], ends: &[u32], rule: Rule, may_end: bool, found: &
         + reason(BEGIN_UNSEEN, found.first.number > 1 && before > 100)
         + reason(MANY_DOUBTFUL, are_doubtful(numbers))
         + reason(IS_OPEN, tally.open_gaps > 0)
-        + reason(IS_INSERTED, found.told.away > 0)
+        + reason(IS_INSERTED, tally.inserted > 0)
+        + reason(IS_PADDED, found.padded > 0)
+        + reason(IS_BLANK, found.blank > 0)
 }
 
 /// The first field that was swapped, of a disc on which that can be seen: one of video with a number on one field of
@@ -291,33 +311,41 @@ pub fn judge_whole(
     ensures { IsFinding rule.pace rule.slack rule.numbering may_end seen.now numbers.now ends.now result
         out.old out.new }
 {
-    let told = find_gaps(seen, numbers, ends, rule, out);
+    let tally = find_gaps(seen, numbers, ends, rule, out);
     let swap = swap_by(seen, numbers, rule);
     let drifts = has_drift(numbers, rule);
+    let padded = padded_in(ends);
+    let blank = first_blank(numbers, rule);
     let Some(first) = first_believed(numbers) else {
         return Finding {
-            tally: told.tally,
+            tally,
             first: 0,
             last: 0,
             swap: swap.field,
+            padded,
+            blank,
             verdict: verdict(NO_NUMBERS),
             reasons: NO_NUMBERS,
         };
     };
     let last = last_believed(numbers).unwrap_or(first);
     let found = Found {
-        told,
+        tally,
+        padded,
         swap,
         drifts,
+        blank,
         first,
         last,
     };
     let reasons = reasons(numbers, ends, rule, may_end, &found);
     Finding {
-        tally: told.tally,
+        tally,
         first: first.field,
         last: last.field,
         swap: swap.field,
+        padded,
+        blank,
         verdict: verdict(reasons),
         reasons,
     }

@@ -7,34 +7,36 @@ chain.py, 5 in numbers.py and places.py, 6 in order.py, 7 in parts.py and readin
 confirmed.py, 9 in clock.py. gaps.py takes in what the library says of the side."""
 
 import operator
-from typing import Any, Dict, List, NamedTuple, Sequence
+from typing import Any, Dict, List, NamedTuple, Optional
 
 from ldvbi import Clock, Kind
 from ldvbi.collector import paused
 from ..judge.numbers import numbers_of
 from ..judge.order import pairs_of
-from ..judge.places import Break, Places, places_of, showings_of
+from ..judge.places import Break, Places, Showing, places_of
 from ..judge.readings import Codes, Fields, codes_of
 from .as_json import as_json
 from .confirmed import with_confirmed
 from .doubts import Doubts, doubts_in, read_in
-from .ends import begin_of, unseen_between
+from .ends import Begin, begin_of, unseen_between
 from .entries import Answer, Extent, Lost, Speed, Swapped, Unread
 from .gaps import Gaps, gaps_of
+from .last import Last, last_of
 from .lines import bad_lines_of, levels_of, rates_of
-from .missing import lost_fields, missing_of, own_breaks, repeated_of
+from .missing import is_about, lost_fields, missing_of, own_breaks, repeated_of
 from .parts import chapters_of, ends_of, padding_of, status_of, stops_of, users_of
-from .whole import reasons_of, whole_of
+from .whole import YES, reasons_of, whole_of
 
 VERSION = 3  # of the answer's form
 
 
 class Analysis(NamedTuple):
-    """The answer; the breaks between the numbers that are believed in it: there are more of these than the library
-    reports; and the clock that the library found."""
+    """The answer, the breaks between the numbers believed in it (more than the library's), the library's clock, and how
+    the side begins if its first number isn't the disc's."""
     answer: Answer
     breaks: List[Break]
     clock: Clock
+    begin: Optional[Begin]
 
 
 def analyse(fields: Fields) -> Dict[str, Any]:
@@ -56,25 +58,27 @@ def analysed(fields: Fields) -> Analysis:
         version=VERSION, system=fields.system, format=codes.format, unit=numbers.unit.name, fields=len(fields.words),
         cut_field=fields.cut, frame_begin=begin, pace=numbers.pace.kind if numbers.pace else None,
         bad_lines=bad, lines=rates, levels=levels_of(rates, bad, fields), metadata_fields=fields.expected,
-        open_end=fields.may_end, missing=[], left_out=[], lost=[], padding=padding_of(fields),
+        sequential_fields=fields.sequential, open_end=fields.may_end, given_last=fields.given_last,
+        padding=padding_of(fields), missing=[], left_out=[], lost=[],
         **_of_numbers(places, gaps, doubts), **_of_parts(codes, places, doubts, begin))
-    answer = _with_losses(answer, places, gaps, codes)
-    reasons = reasons_of(answer, gaps, numbers.unit, fields.is_strict, fields.may_end, unseen_between(numbers))
-    return Analysis(answer._replace(whole=whole_of(reasons), reasons=reasons), _breaks(places, own_breaks(places)),
-                    numbers.clock)
+    last = last_of(answer, numbers.unit, numbers.clock)
+    answer = _with_losses(answer, places, gaps, codes, last)
+    reasons = reasons_of(answer, gaps, numbers.unit, fields.is_strict, fields.may_end, unseen_between(numbers), last)
+    whole = whole_of(reasons)
+    answer = answer._replace(whole=whole, reasons=reasons, levels=None if whole == YES else answer.levels)
+    return Analysis(answer, _breaks(places, own_breaks(places)),
+                    numbers.clock, begin_of(answer, gaps.judged, numbers.unit, fields.is_strict))
 
 
 def _of_numbers(places: Places, gaps: Gaps, doubts: Doubts) -> Dict[str, Any]:
     """The numbers, and where they stand: these members of the answer."""
     text_of, showings = places.numbers.unit.text_of, places.showings
     read = read_in(doubts.doubtful, {field for _, field in places.due})
-    shown = [one.number for one in showings]
-    numbers = set(shown)
-    least, greatest = (text_of(end(numbers)) if numbers else None for end in (min, max))
+    numbers = {one.number for one in showings}
     return {
-        "numbers": Extent(len(numbers), least, greatest),
-        "showings": showings if places.numbers.unit.name == "picture" else showings_of(
-            map(text_of, shown), [one.first for one in showings], [one.last for one in showings]),
+        "numbers": Extent(len(numbers), *(text_of(end(numbers)) if numbers else None for end in (min, max))),
+        "showings": showings if places.numbers.unit.name == "picture" else [
+            Showing(text_of(number), first, last) for number, first, last in showings],
         "completed": sorted(places.numbers.completed), "confirmed": list(places.confirmed),
         "unread": [Unread(text_of(number), field, read.get(field)) for number, field in places.due],
         "breaks": _breaks(places, gaps.breaks), "detours": _breaks(places, gaps.detours),
@@ -91,14 +95,17 @@ def _breaks(places: Places, breaks: List[Any]) -> List[Any]:
     return [one._replace(from_=text_of(one.from_), to=text_of(one.to)) for one in breaks]
 
 
-def _with_losses(answer: Answer, places: Places, gaps: Gaps, codes: Codes) -> Answer:
-    """The answer with what isn't there. Of what the side lacks before its first number it says so if that is the least
-    one."""
+def _with_losses(answer: Answer, places: Places, gaps: Gaps, codes: Codes, last: Optional[Last]) -> Answer:
+    """The answer with what isn't there: also before the side's first number, if that is the least one."""
     begin, first = begin_of(answer, gaps.judged, places.numbers.unit), codes.fields.first or ()
-    missing, left_out = missing_of(places, gaps, codes, begin)
+    missing, left_out = missing_of(places, gaps, codes, begin, last.lacks if last else None)
     lost = lost_fields(places, gaps, first[:answer.fields])
     if begin and begin.fields > 0 and (begin.before, begin.lacks) == (answer.showings[0].first, answer.numbers.least):
-        lost = [Lost(begin.after, begin.before, begin.fields, "number")] + lost
+        lost = [Lost(begin.after, begin.before, begin.fields, "number", is_about(answer.pace))] + lost
+    if last and last.lacks and last.least:
+        lost = lost + [Lost(last.lacks.after, last.lacks.before, last.least, "number",
+                            last.or_more or is_about(answer.pace))]
+        lost.sort(key=operator.attrgetter("after"))
     return answer._replace(missing=missing, left_out=left_out, lost=lost)
 
 
@@ -107,15 +114,11 @@ def _of_parts(codes: Codes, places: Places, doubts: Doubts, begin: int) -> Dict[
     chapters, doubtful, conflicts = chapters_of(codes, places, begin)
     lead_in, stray_in = ends_of(codes, Kind.lead_in, places.numbers)
     lead_out, stray_out = ends_of(codes, Kind.lead_out, places.numbers)
-    stops, stray_stops = stops_of(codes, places, begin)
+    stops, unsure_stops, stray_stops = stops_of(codes, places, begin)
     return {
-        "doubtful": _by_place(doubts.doubtful + doubtful),
-        "conflicts": sorted(doubts.conflicts, key=operator.attrgetter("field")),
+        "doubtful": sorted(doubts.doubtful + doubtful), "conflicts": sorted(doubts.conflicts),
         "chapter_conflicts": conflicts, "second_rows": doubts.second_rows,
-        "chapters": chapters, "stops": stops, "lead_in": lead_in, "lead_out": lead_out,
-        "stray": _by_place(codes.stray + stray_in + stray_out + stray_stops),
+        "chapters": chapters, "stops": stops, "unsure_stops": unsure_stops,
+        "lead_in": lead_in, "lead_out": lead_out,
+        "stray": sorted(codes.stray + stray_in + stray_out + stray_stops),
         "unknown": codes.unknown, "programme_status": status_of(codes), "users": users_of(codes)}
-
-
-def _by_place(ones: Sequence[Any]) -> List[Any]:
-    return sorted(ones, key=operator.attrgetter("field", "line"))

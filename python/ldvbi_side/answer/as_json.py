@@ -1,6 +1,5 @@
 """The answer as plain data, in the form of share/schema/ldvbi-side.schema.json: the members of each entry under their
-names there, in their order, with words and their kinds as texts. Only what reads the plain data knows these names too:
-a page's lists."""
+names there, in their order, with words and their kinds as texts. Only a page's lists know these names too."""
 
 import functools
 import re
@@ -60,6 +59,7 @@ _FORMS: Dict[str, Callable[[Any], Any]] = {
     "cutField": lambda cut: cut and {"seqNo": cut.field, "bytes": cut.bytes},
     "showings": lambda ones: list(map(list, ones)),
     "stops": lambda ones: [entry(one, lines=list(one.lines)) for one in ones],
+    "unsureStops": lambda ones: [entry(one, lines=list(one.lines)) for one in ones],
     "stray": lambda ones: [entry(one, word="%06X" % one.word, kind=_KINDS[one.kind]) for one in ones],
     "unknown": lambda ones: [entry(one, word="%06X" % one.word) for one in ones],
     "lines": lambda lines: {str(line): entry(rates) for line, rates in lines.items()},

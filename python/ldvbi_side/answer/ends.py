@@ -9,9 +9,8 @@ from ..judge.clock import NO_CLOCK, left_out_below
 from ..judge.paces import RATES, Unit
 from .entries import Answer
 
-# The numbers with which a disc may begin
-FIRST: Dict[Optional[str], Tuple[Any, ...]] = {
-    "picture": (0, 1), "time": ("0:00:00.00", "0:00:00.01"), "minute": ("0:00",)}
+# The last number, as a count, with which a disc may begin
+FIRST: Dict[Optional[str], int] = {"picture": 1, "time": 1, "minute": 0}
 LONGEST = 100  # fields without a number that may be a scratch
 LEFT_OUT = 2  # numbers that the clock of an NTSC disc leaves out in a minute, at most, if it isn't known
 
@@ -36,24 +35,20 @@ def begin_of(answer: Answer, judged: Optional[JudgedSide], unit: Unit, is_strict
         return None
     clock = judged.clock if judged else NO_CLOCK
     number, field, _ = answer.showings[0]
-    is_first = least in FIRST[answer.unit]
-    if judged is None:
-        if is_first:
-            return None
-        fewest, most = _fields_before(number, answer, clock)
-        there = fields_there(answer, field)
-        is_late, is_open = number != least or there < fewest, there < most or there > LONGEST
+    is_first = ordinal_of(least, unit.rate) <= FIRST[answer.unit]
+    if judged and judged.first is not None:
+        field, number = judged.first + 1, unit.text_of(judged.numbers[judged.first].number or 0)
+    (fewest, most), there = _fields_before(number, answer, clock), fields_there(answer, field)
+    if judged:
+        is_open = bool(judged.reasons & (Reason.begins_late | Reason.begin_unseen))
+        is_late = bool(judged.reasons & Reason.begins_late) and there < fewest
     else:
-        if judged.first is not None:
-            field, number = judged.first + 1, unit.text_of(judged.numbers[judged.first].number or 0)
-        is_short = bool(judged.reasons & Reason.begins_late)
-        is_late = is_short and fields_there(answer, field) < _fields_before(number, answer, clock)[0]
-        is_open = is_short or bool(judged.reasons & Reason.begin_unseen)
+        is_open = not is_first and (there < most or there > LONGEST)
+        is_late = not is_first and (number != least or there < fewest)
     if is_late or is_strict and not is_first:
-        there = fields_there(answer, field)
-        lost = _fields_before(number, answer, clock)[answer.unit != "minute"] - there if is_late else 0
+        lost = (fewest if answer.unit == "minute" else most) - there if is_late else 0
         return Begin(number, None, lost, field - 1 - there, field)
-    return Begin(unread=(field - fields_there(answer, field), field - 1)) if is_open else None
+    return Begin(unread=(field - there, field - 1)) if is_open else None
 
 
 def fields_there(answer: Answer, field: int) -> int:
@@ -64,9 +59,7 @@ def fields_there(answer: Answer, field: int) -> int:
 def end_of(answer: Answer) -> Optional[Tuple[int, int]]:
     """The first and the last field after the last number and before the lead-out, or before the end of the side; None
     if they are no more than a scratch has."""
-    if not answer.showings:
-        return None
-    shown = answer.showings[-1].last
+    shown = answer.showings[-1].last if answer.showings else answer.fields
     after = fields_after(answer, shown)
     return (shown + 1, shown + after) if after > LONGEST else None
 
@@ -77,8 +70,7 @@ def fields_after(answer: Answer, field: int) -> int:
 
 
 def unseen_between(numbers: Numbers) -> List[Tuple[int, int]]:
-    """The first and the last field of each stretch without a number between two that fit, if it is longer than a
-    scratch is."""
+    """The first and the last field of each stretch between two numbers that fit, if it is longer than a scratch."""
     pairs = [numbers.believed[place - 1:place + 1] for place in numbers.odd_places]
     return [(before.field + 1, after.field - 1) for before, after in pairs
             if after.field - before.field > LONGEST + 1 and numbers.off(before, after) == 0]
@@ -90,23 +82,15 @@ def is_end_seen(answer: Answer) -> bool:
     return any(one.last > last for one in answer.lead_out + answer.lead_in)
 
 
-def first_of(unit: Optional[str], rate: int) -> int:
-    """The last number with which a disc may begin, as a count."""
-    return ordinal_of(FIRST[unit][-1], rate)
-
-
 def _fields_before(number: Any, answer: Answer, clock: Clock) -> Tuple[int, int]:
     """How many fields a disc has before this number, from the last one on with which it may begin, at least and at
     most: if no clock was found of an NTSC disc, it may leave out times."""
     rate, unit = RATES[answer.system], answer.unit
-    count = ordinal_of(number, rate) - first_of(unit, rate)
-    if unit == "picture":
+    begin, end = FIRST[unit], ordinal_of(number, rate)
+    count = end - begin - left_out_below(clock, end) + left_out_below(clock, begin)
+    if unit == "picture" or clock.kind != ClockKind.plain:
         fields = 5 * count // 2 if answer.pace == "film" else 2 * count
         return fields, fields
-    if clock.kind != ClockKind.plain:
-        begin = first_of(unit, rate)
-        count -= left_out_below(clock, begin + count) - left_out_below(clock, begin)
-        return 2 * count, 2 * count
     times = 60 * rate * count if unit == "minute" else count
     left_out = LEFT_OUT * (times // (60 * rate) + 1) if answer.system == "NTSC" else 0
     return 2 * (times - left_out), 2 * times

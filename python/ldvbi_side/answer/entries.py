@@ -38,8 +38,7 @@ class Repeated(NamedTuple):
 
 
 class Missing(NamedTuple):
-    """Numbers that no field has: the first and the last one, how many (`count_`), why, and the first fields of the
-    numbers around them."""
+    """Numbers that no field has, how many (`count_`), why, and the first fields of the numbers around them."""
     first: Any
     last: Any
     count_: int
@@ -49,15 +48,21 @@ class Missing(NamedTuple):
 
 
 class Lost(NamedTuple):
-    """How many fields are lost between two, or None if that isn't known, and how that is known."""
+    """How many fields are lost between two, or None if that isn't known, how that is known, and whether more may be
+    lost there than these."""
     after: int
     before: int
     fields: Optional[int]
     by: str
+    or_more: bool = False
 
     def is_again(self) -> bool:
         """Whether a field may be shown again there instead: only isFirstField shows that something is."""
         return self.by == "undecided" and self.fields is None
+
+    def count_text(self) -> str:
+        """How many they are, as a text."""
+        return "1 or more" if self.fields is None else "%s%d" % ("at least " * self.or_more, self.fields)
 
 
 class Swapped(NamedTuple):
@@ -82,8 +87,7 @@ class Neighbour(NamedTuple):
 
 
 class Doubt(NamedTuple):
-    """A word that is set aside: its pass, why, its number, or None if no clock shows it, and the believed numbers
-    around it."""
+    """A word that is set aside: its pass, why, its number, if a clock shows it, and the believed numbers around it."""
     field: int
     line: int
     word: int
@@ -122,8 +126,7 @@ class SecondRow(NamedTuple):
 # ---- The disc's other parts
 
 class Chapter(NamedTuple):
-    """A stretch of a chapter from `field` to `last`, the last field of the chapter before it, its first number, and its
-    first frame."""
+    """A chapter from `field` to `last`, the last field of the one before it, its first number, and its first frame."""
     chapter: int
     field: int
     last: int
@@ -168,8 +171,7 @@ class Users(NamedTuple):
 # ---- Lines
 
 class BadLine(NamedTuple):
-    """A line that shows no word of its own and isn't blank: its cause, the column of that cause, or None, and its place
-    in the TBC file, in bytes."""
+    """A line that isn't blank, but shows no word of its own: its cause, with its column, and its bytes in the file."""
     field: int
     line: int
     cause: str
@@ -198,8 +200,7 @@ class Rates(NamedTuple):
 
 
 class Best(NamedTuple):
-    """The system and the levels by which most lines are read, each None unless it differs from the side's, and how many
-    lines these are."""
+    """The system and levels by which most lines are read, each None if it is the side's own, and their count."""
     system: Optional[str]
     black: Optional[int]
     white: Optional[int]
@@ -207,8 +208,7 @@ class Best(NamedTuple):
 
 
 class Tried(NamedTuple):
-    """How many of some lines are read by the side's levels, and the system and levels by which more of them are read,
-    or None."""
+    """How many of some lines are read by the side's levels, and by what more of them are read, or None."""
     lines: int
     read: int
     black: int
@@ -268,6 +268,7 @@ class Answer(NamedTuple):
     second_rows: List[SecondRow]
     chapters: List[Chapter]
     stops: List[Stop]
+    unsure_stops: List[Stop]
     lead_in: List[Stretch]
     lead_out: List[Stretch]
     stray: List[Stray]
@@ -278,13 +279,16 @@ class Answer(NamedTuple):
     lines: Dict[int, Rates]
     levels: Optional[FewWords]
     metadata_fields: Optional[int]
+    sequential_fields: Optional[int]
     open_end: bool
+    given_last: Optional[str]
     whole: str = ""
     reasons: Sequence[Ground] = ()
 
     def aside(self) -> Set[Tuple[int, int]]:
-        """The fields and lines whose word is set aside: it is doubtful or stray."""
-        return {one[:2] for one in self.doubtful}.union([one[:2] for one in self.stray])
+        """The fields and lines whose word is set aside: it is doubtful or stray, or a stop that isn't sure."""
+        return {one[:2] for one in self.doubtful}.union(
+            [one[:2] for one in self.stray], [(one.field, line) for one in self.unsure_stops for line in one.lines])
 
 
 def frame_of(field: int, begin: int) -> int:

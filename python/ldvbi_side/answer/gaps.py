@@ -1,13 +1,13 @@
 """What the library says of the side: where numbers and fields don't go on together, and whether the capture is whole.
-It counts by the clock of an NTSC disc, if it finds that (rule 9). What is found here besides may explain a gap: another
-speed (rule 6), and which field of a picture was read if both have its number. A gap is left out only if it is
-explained."""
+It counts by the clock of an NTSC disc, if it finds that (rule 9). A gap is left out if it is explained by what is found
+here besides: another speed (rule 6), or which field of a picture was read if both have its number."""
 
 import bisect
 from typing import Dict, Iterable, List, NamedTuple, Optional, Set, Tuple, Union
 
 from ldvbi import Gap, GapKind, JudgedSide, Pace as JudgedPace, Reason, State
 from ..judge.detours import KINDS, Detour, detour_of, pairs_of
+from ..judge.order import TURNED
 from ..judge.places import Break, Places
 from ..judge.readings import ByField
 
@@ -17,17 +17,15 @@ _KINDS = {GapKind.lost: "lost", GapKind.held: "held", GapKind.back: "back"}
 
 
 class Gaps(NamedTuple):
-    """Where numbers and fields don't go on together, as breaks with numbers as counts.
+    """Where numbers and fields don't go on together, as breaks with numbers as counts. `judged` is the library's
+    answer, or None for minutes alone, which it doesn't judge. `breaks` are lost fields, fields too many, and jumps
+    back. `open` are gaps where the disc itself may skip, or doesn't where its clock would, and breaks at an end, for
+    which the library knows no gap. `joins` are gaps between two sides. Another speed explains those `at_speed`: there
+    the breaks are those of the numbers that are believed here.
 
-    `judged` is the library's answer, or None for minutes alone, which it doesn't judge. `breaks` are lost fields,
-    fields too many, and jumps back. `open` are gaps where the disc itself may skip, or doesn't where its clock would,
-    and breaks at an end, for which the library knows no gap. `joins` are gaps between two sides. `at_speed` are gaps
-    that another speed explains: there the breaks are those of the numbers that are believed here. `detours` are pairs
-    of gaps over which the numbers around go on.
-
-    `more` is set if the library reports without a gap that numbers don't count to each other, and nothing here explains
-    it; else it is None. It is how many more fields there are than the first number and the last count to, or, if
-    negative, how many fewer. It is 0 if these two count to each other, and only a stretch between them doesn't."""
+    `more` is None unless the library reports without a gap that numbers don't count to each other, and nothing here
+    explains it. Then it is how many more fields there are than the first number and the last count to, or, negative,
+    fewer: 0 if only a stretch between these two is off."""
     judged: Optional[JudgedSide]
     breaks: List[Break]
     more: Optional[int] = None
@@ -75,13 +73,14 @@ def gaps_of(places: Places, shown: ByField, lead_out: Set[int]) -> Gaps:
         found["breaks"], found["open"] = ([one for one in places.breaks if known.may_skip(one) == is_open]
                                           for is_open in (False, True))
     found["open"] += [one for one in places.breaks if is_outside(judged, one)]
-    is_off = judged.reasons & Reason.is_off and not judged.reasons & _BY_GAPS
-    opened = Between((one.after, one.before) for one in found["open"])
-    off = [one for one in _off_in(places, judged) if not opened.hold(one.after, one.before)] if is_off else []
-    found["breaks"] += off
+    more = None
+    if judged.reasons & Reason.is_off and not judged.reasons & _BY_GAPS:
+        opened = Between((one.after, one.before) for one in found["open"])
+        off = [one for one in _off_in(places, judged) if not opened.hold(one.after, one.before)]
+        found["breaks"] += off
+        more = None if off or _is_explained(places, judged, lead_out) else _more(places.numbers)
     for name in ("breaks", "open"):
         found[name].sort(key=lambda one: one.after)
-    more = None if not is_off or off or _is_explained(places, judged, lead_out) else _more(places.numbers)
     return Gaps(judged, more=more, detours=[detour_of(*pair) for pair in pairs], **found)
 
 
@@ -97,6 +96,8 @@ class _Known:
         self.open = sorted(places.open)
         stills = [(one.after, one.before) for one in judged.gaps if one.kind == GapKind.still]
         self.still_after, self.still_before = dict(stills), {before: after for after, before in stills}
+        self.turns = Between((one.after - TURNED, one.before + TURNED) for one in judged.gaps
+                             if one.kind == GapKind.back)
 
     def is_at_speed(self, gap: Gap) -> bool:
         """Whether some of its fields were played at another speed."""
@@ -107,8 +108,7 @@ class _Known:
         return bisect.bisect(self.open, gap.from_) < bisect.bisect_left(self.open, gap.to)
 
     def fate(self, gap: Gap) -> Optional[str]:
-        """Which of the lists of `Gaps` has it; None of a still. An open one counts if it is a loss that is known here,
-        and no clock can explain it."""
+        """Which of the lists of `Gaps` has it; None of a still. An open one counts if it is known here to be a loss."""
         first, last = gap.after + 1, gap.before + 1
         # the library takes a number that is the same before and after lead-out for one that stays
         if gap.kind == GapKind.joined or (first, last) in self.joins:
@@ -117,11 +117,11 @@ class _Known:
             return None
         if self.is_at_speed(gap):
             return "at_speed"
+        explained = (self._is_clocks, self._are_rows, self._is_video, self._is_still)
+        is_open = gap.kind in KINDS or any(may_be(gap) for may_be in explained)
         if gap.kind == GapKind.open:
-            is_lost = self.is_time and self.losses.meet(first - 1, last) and not self.may_skip(gap)
-        else:
-            is_lost = gap.kind not in KINDS and not (self._is_clocks(gap) or self._are_rows(gap) or self._is_video(gap))
-        return "breaks" if is_lost else "open"
+            is_open = not self.is_time or not self.losses.meet(first - 1, last) or self.may_skip(gap)
+        return "open" if is_open else "breaks"
 
     def _is_clocks(self, gap):
         """Whether it has just the fields of the numbers that the clock leaves out, or may be what a clock leaves out
@@ -149,6 +149,15 @@ class _Known:
         spans = self.still_after.get(before, after) - after, before - self.still_before.get(after, before)
         return before - after >= count or count in spans
 
+    def _is_still(self, gap):
+        """Whether a picture that stands still beside it may have stood longer than its number was read: by whole
+        pictures, but on film, and with numbers on both fields, it isn't known of which field of a picture one is. Where
+        the disc is turned by hand, it shows each picture as long as it likes, and passes over others."""
+        is_beside = gap.from_ == gap.to or gap.after in self.still_before or gap.before in self.still_after
+        is_odd = gap.fields % 2 and self.judged.pace == JudgedPace.video and not self.judged.on_both
+        is_turned = self.turns.meet(gap.after, gap.before)
+        return gap.kind == GapKind.held and is_beside and not (self.is_time or is_odd or is_turned)
+
 
 def _is_explained(places, judged, lead_out):
     """Whether something explains that numbers don't count to each other. A player that stands still shows both fields
@@ -161,26 +170,21 @@ def _is_explained(places, judged, lead_out):
 def is_outside(judged: JudgedSide, one: Break) -> bool:
     """Whether a break stands before the first number that the library believes, which has fields for all numbers before
     it, or after the last one. The library knows of no gap there."""
-    if judged.first is None or judged.last is None:
-        return False
-    is_before = one.before <= judged.first + 1 and not judged.reasons & Reason.begins_late
-    return is_before or one.after > judged.last
+    return judged.first is not None and judged.last is not None and (
+        one.after > judged.last or one.before <= judged.first + 1 and not judged.reasons & Reason.begins_late)
 
 
 def _off_in(places, judged):
     """The breaks that are known here of numbers that go on to within a field: which field of a picture was read if both
     have its number, and where all numbers of film stand a field off from there on."""
-    if judged.on_both:
-        return places.breaks
-    shifts = _shifts(judged)
-    return [one for one in places.breaks
-            if any(one.after <= last and first < one.before - 1 for first, last in shifts)]
+    shifts = () if judged.on_both else _shifts(judged)
+    return [one for one in places.breaks if judged.on_both or
+            any(one.after <= last and first < one.before - 1 for first, last in shifts)]
 
 
 def _shifts(judged):
     """The fields before and after each place at which film isn't merely cut. At a cut two pictures of two or of three
-    fields follow each other: from there on either the even numbers stand a field off, or the odd ones. If a field is
-    lost or too many, all do."""
+    fields follow each other: then the even numbers stand a field off, or the odd ones. If a field is lost, all do."""
     rows = [[], []]
     for field, (number, state) in enumerate(judged.numbers):
         if state == State.believed:
@@ -214,27 +218,22 @@ def _add(entries, one):
 def _entry(places, gap, is_on_both):
     """A gap as a break of the answer."""
     after, before = gap.after + 1, gap.before + 1
-    kind = _KINDS.get(gap.kind) or ("lost" if _off(places, gap) < 0 else "held")
-    fields = gap.fields
+    # how many fields are too many, or, negative, too few, as far as is known without their neighbours
+    step = gap.to - gap.from_ - places.numbers.left_out(gap.from_, gap.to)
+    off, fields = gap.before - gap.after - places.numbers.pace.between(gap.from_, step, 0, 0), gap.fields
+    kind = _KINDS.get(gap.kind) or ("lost" if off < 0 else "held")
     if kind == "back" or gap.kind in KINDS:
-        fields = abs(_off(places, gap))
+        fields = abs(off)
     elif is_on_both:
         fields = _fields_on_both(places.numbers, gap, kind)
     return Break(kind, after, before, gap.from_, gap.to, fields)
-
-
-def _off(places, gap):
-    """How many fields are too many, or, negative, too few, as far as is known without their neighbours."""
-    pace = places.numbers.pace
-    step = gap.to - gap.from_ - places.numbers.left_out(gap.from_, gap.to)
-    return gap.before - gap.after - pace.between(gap.from_, step, 0, 0)
 
 
 def _fields_on_both(numbers, gap, kind):
     """How many fields are lost, or too many. Both fields of a picture have its number, and the library doesn't ask
     which of the two was read: so it may be one less, if that isn't known here."""
     ends = [one for field, number in ((gap.after + 1, gap.from_), (gap.before + 1, gap.to))
-            for one in numbers.believed_in(field, field) if one.number == number]
+            if numbers.taken.get(field) == number for one in numbers.believed[numbers.places_in(field, field)]]
     off = numbers.off(*ends) if len(ends) == 2 else None
     if off and (off < 0) == (kind == "lost"):
         return abs(off)

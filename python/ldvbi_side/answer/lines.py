@@ -43,15 +43,15 @@ def rates_of(fields: Fields) -> Dict[int, Rates]:
 
 
 def levels_of(rates: Dict[int, Rates], bad: List[BadLine], fields: Fields) -> Optional[FewWords]:
-    """Whether the side was read with wrong levels: None if lines 17 and 18 show enough words of their own; else what
-    they show instead, a line to look at, and what other levels read of some lines, if their samples are at hand."""
+    """Whether the side was read with wrong levels: None if lines 17 and 18 show enough words, also recovered ones;
+    else what they show instead, a line to look at, and what other levels read of some lines, if their samples are at
+    hand."""
     shown = Rates(*map(operator.add, rates[17], rates[18]))
-    words, count = shown.pass1 + shown.pass2, len(fields.words)
+    words, count = shown.words(), len(fields.words)
     if not count or FEW * words >= 2 * count:
         return None
-    without = shown.near + shown.bad()
     lines = [one for one in bad if one.line != 16]
-    is_blank = without <= shown.blank or not lines
+    is_blank = shown.bad() <= shown.blank or not lines
     field, line = (count // 2 + 1, 17) if is_blank else lines[len(lines) // 2][:2]
-    return FewWords("blank" if is_blank else "bad", words, without, shown.blank, field, line,
+    return FewWords("blank" if is_blank else "bad", words, shown.bad(), shown.blank, field, line,
                     fields.try_levels() if fields.try_levels else None)

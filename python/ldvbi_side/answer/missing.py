@@ -2,7 +2,7 @@
 gaps; and numbers that are shown again."""
 
 import bisect
-from typing import Any, Dict, Iterator, List, NamedTuple, Optional, Sequence, Tuple
+from typing import Any, Dict, Iterator, List, Optional, Sequence, Tuple
 
 from ldvbi import ClockKind
 from ..judge.believed import stretch_at
@@ -10,7 +10,7 @@ from ..judge.clock import left_out_in
 from ..judge.order import pairs_of
 from ..judge.places import Break, Places, Showing
 from ..judge.readings import Codes
-from .ends import Begin, first_of, ordinal_of
+from .ends import FIRST, Begin, ordinal_of
 from .entries import Lost, Missing, Repeated
 from .gaps import Between, Gaps
 
@@ -19,16 +19,17 @@ FAR = 10  # numbers passed over to one that fields may be there for: from here o
 Spans = List[Tuple[str, List[Tuple[int, int]]]]
 
 
-def missing_of(places: Places, gaps: Gaps, codes: Codes, begin: Optional[Begin]) -> Tuple[List[Missing], List[Missing]]:
-    """The numbers that no field has, in stretches of one reason: those between the least and the greatest, and those
-    that are lost before the least one, as `begin` says; and those that the disc's clock left out. A number is lost only
-    in a gap that lacks fields."""
+def missing_of(places: Places, gaps: Gaps, codes: Codes, begin: Optional[Begin], end: Optional[Break] = None
+               ) -> Tuple[List[Missing], List[Missing]]:
+    """The numbers that no field has, in stretches of one reason: those between the least and the greatest, those that
+    are lost before the least one, as `begin` says, and those between the greatest one and the `end`; and those that the
+    disc's clock left out. A number is lost only in a gap that lacks fields."""
     unit, breaks, unshown = places.numbers.unit, places.breaks, set(places.unshown)
     firsts = {one.number: one.first for one in reversed(places.showings)}
     lost = [(one.after, one.before) for one in gaps.breaks + gaps.at_speed if one.kind == "lost"]
     others = [(one.from_ + 1, one.to - 1) for one in gaps.at_speed if one.kind == "lost"]
     if begin and begin.fields > 0:
-        number, start = ordinal_of(begin.lacks, unit.rate), first_of(unit.name, unit.rate) - 1
+        number, start = ordinal_of(begin.lacks, unit.rate), FIRST[unit.name] - 1
         is_first = number == min(firsts) and firsts[number] == begin.before
         if is_first or places.numbers.clock.kind != ClockKind.plain or codes.fields.system != "NTSC" or (
                 unit.name != "time"):  # else an unknown clock may have left out some
@@ -38,6 +39,10 @@ def missing_of(places: Places, gaps: Gaps, codes: Codes, begin: Optional[Begin])
             breaks = [Break("lost", begin.after, begin.before, start, number, begin.fields)] + breaks
             unshown |= left_out_in(places.numbers.clock, start + 1, number - 1)
             firsts[start] = begin.after
+    if end:
+        breaks, firsts = breaks + [end], {**firsts, end.to: end.before}
+        lost += [(end.after, end.before)] * (end.kind == "lost")
+        unshown |= left_out_in(places.numbers.clock, end.from_ + 1, end.to - 1)
     losses = Between(lost)
     passed = _passed_over(places, breaks, losses, codes)
     unread = places.without_field.union([number for number, _ in places.due])
@@ -62,30 +67,23 @@ def missing_of(places: Places, gaps: Gaps, codes: Codes, begin: Optional[Begin])
 
 # ---- Lost or unread
 
-class Passed(NamedTuple):
-    """Numbers from the first to the last that are passed over between two fields. For `spare` of them there are fields
-    between in which they may stand. `is_lost` says whether enough fields are lost that one of them may be lost, too; it
-    is None if that isn't known."""
-    first: int
-    last: int
-    spare: int
-    is_lost: Optional[bool]
-
-    def parts(self) -> Iterator[Tuple[str, int, int]]:
-        """Why they aren't there, each reason with the first and the last number."""
-        yield "lost", self.first, self.last
-        if not self.is_lost:
-            yield "undecided" if self.is_lost is None else "unread", self.first, self.last
-        elif FAR * self.spare > self.last - self.first + 1:
-            yield "undecided", self.first, self.last
-        elif self.spare:  # beside a wide jump only the numbers next to it can have been there
-            yield "undecided", self.first, self.first + self.spare - 1
-            yield "undecided", self.last - self.spare + 1, self.last
+def fates(first: int, last: int, spare: int, is_lost: Optional[bool]) -> Iterator[Tuple[str, int, int]]:
+    """Why numbers aren't there that are passed over between two fields, each reason with the first and the last number.
+    For `spare` of them there are fields between in which they may stand. `is_lost` says whether enough fields are lost
+    that one of them may be lost, too; it is None if that isn't known."""
+    yield "lost", first, last
+    if not is_lost:
+        yield "undecided" if is_lost is None else "unread", first, last
+    elif FAR * spare > last - first + 1:
+        yield "undecided", first, last
+    elif spare:  # beside a wide jump only the numbers next to it can have been there
+        yield "undecided", first, first + spare - 1
+        yield "undecided", last - spare + 1, last
 
 
 class PassedOver:
-    """Why numbers aren't there, by spans of numbers in the order of their weight. If a number was passed over more than
-    once, one field for it is enough. If it is in no span, as what is only between two sides, that isn't known."""
+    """Why numbers aren't there, by spans of numbers in the order of their weight: one field for a number is enough. If
+    it is in no span, as what is only between two sides, that isn't known."""
 
     def __init__(self, spans: Spans) -> None:
         ends = [(why, _merged(ones)) for why, ones in spans]
@@ -113,14 +111,13 @@ def _merged(spans):
 
 
 def _passed_over(places: Places, breaks: List[Break], losses: Between, codes: Codes) -> Spans:
-    """Why numbers aren't there that were passed over between two believed ones, or between two sides. Numbers are lost
-    only in a gap that lacks fields, and none that a field in it shows in pass 1 on both lines."""
+    """Why numbers aren't there that were passed over between two believed ones, or between two sides: lost only in a
+    gap that lacks fields, unless a field in it shows them in pass 1 on both lines."""
     spans: Dict[str, List[Tuple[int, int]]] = {
         "unread": [], "undecided": [(one, one) for one in places.open], "lost": []}
     for one in breaks:
         if one.from_ < one.to and (one.kind == "held" or losses.meet(one.after, one.before)):
-            passed = Passed(one.from_ + 1, one.to - 1, *_fate(one, places.numbers, codes.fields))
-            for why, first, last in passed.parts():
+            for why, first, last in fates(one.from_ + 1, one.to - 1, *_fate(one, places.numbers, codes.fields)):
                 spans[why].append((first, last))
             shown = map(codes.sure_picture, range(one.after + 1, one.before))
             spans["undecided"] += [(number, number) for number in shown if number is not None]
@@ -130,8 +127,7 @@ def _passed_over(places: Places, breaks: List[Break], losses: Between, codes: Co
 
 def _fate(one, numbers, fields):
     """For how many of the numbers that are passed over at a break there may be fields, and whether some are lost. Where
-    no field is too few, each of them had one in which something was read or seen: else, the player may have searched in
-    the dark."""
+    no field is too few, something was read or seen in one for each: else the player may have searched in the dark."""
     between = range(one.after + 1, one.before)
     passed = one.to - one.from_ - 1 - len(left_out_in(numbers.clock, one.from_ + 1, one.to - 1))
     if one.kind == "held":
@@ -148,19 +144,27 @@ def _fate(one, numbers, fields):
 
 def lost_fields(places: Places, gaps: Gaps, first: Sequence[bool]) -> List[Lost]:
     """Where fields are lost: by the gaps, and, between the first number and the last, by two fields of one parity in a
-    row. If the numbers go on there, one was shown again, or the metadata is wrong, or fields were lost and others shown
-    again: this is undecided. `first` says of each field whether it is the first one of its frame."""
-    lost = [Lost(one.after, one.before, one.fields, by)
-            for by, ones in (("number", gaps.breaks), ("undecided", gaps.open))
-            for one in ones if one.kind == "lost"]
-    lost.sort(key=lambda one: one.after)
-    swapped, numbered = _swapped_parity(places.numbers, first), places.numbers.fields
-    fields = [field for field in range(numbered[0] + 1, min(numbered[-1], len(first)) + 1)
-              if first[field - 1] == first[field - 2]] if numbered else []
-    sides = Between([(before.field, after.field) for before, after in places.joins] +
-                    [(one.after, one.before) for one in gaps.joins])
-    return _with_parity(lost, [(field, "undecided" if places.numbers.go_on_before(field) else "parity")
-                               for field in fields if field not in swapped and not sides.meet(field - 1, field)])
+    row. If the numbers go on there, this is undecided: one was shown again, or the metadata is wrong, or fields were
+    lost and others shown again. `first` says of each field whether it is the first one of its frame."""
+    or_more = is_about(places.numbers.pace.kind if places.numbers.pace else None)
+    lost = sorted([Lost(one.after, one.before, one.fields, by, or_more)
+                   for by, ones in (("number", gaps.breaks), ("undecided", gaps.open))
+                   for one in ones if one.kind == "lost"], key=lambda one: one.after)
+    numbers, sides = places.numbers, Between([(before.field, after.field) for before, after in places.joins] +
+                                             [(one.after, one.before) for one in gaps.joins])
+    alike = {field for field in range(2, len(first) + 1) if first[field - 1] == first[field - 2]}
+    # two swapped fields make the first of them, and the one after both, look like the field before
+    swapped = {field for begin in pairs_of(numbers.swapped) if {begin, begin + 2} <= alike
+               for field in (begin, begin + 2)}
+    return _with_parity(lost, [
+        (field, "undecided" if numbers.go_on_before(field) else "parity") for field in sorted(alike - swapped)
+        if numbers.fields and numbers.fields[0] < field <= numbers.fields[-1] and not sides.meet(field - 1, field)])
+
+
+def is_about(pace: Optional[str]) -> bool:
+    """Whether more fields may be lost than numbers of this pace show: a picture of film has two or three, both fields
+    of a picture have its number, or all of a minute."""
+    return pace in ("film", "both", "minute")
 
 
 def own_breaks(places: Places) -> List[Break]:
@@ -183,16 +187,6 @@ def _first_after(numbers, after):
     return numbers.fields[place]
 
 
-def _swapped_parity(numbers, first):
-    """The fields that have the parity of the one before since two are swapped: the first of these, and the one after
-    both."""
-    found = set()
-    for begin in pairs_of(numbers.swapped):
-        if 1 < begin < len(first) - 1 and first[begin - 1] == first[begin - 2] and first[begin] == first[begin + 1]:
-            found |= {begin, begin + 2}
-    return found
-
-
 def _with_parity(lost, fields):
     """What is lost by numbers, with these fields, each of which has the parity of the one before, and how it is known
     that something is lost between them if the numbers don't show that."""
@@ -205,7 +199,7 @@ def _with_parity(lost, fields):
         elif lost[place].by == "number":
             one = lost[place]
             after, before = (field - 1, field) if one.fields == 1 else (one.after, one.before)
-            lost[place] = Lost(after, before, one.fields, "both")
+            lost[place] = Lost(after, before, one.fields, "both", one.or_more)
     return sorted(lost + found, key=lambda one: one.after)
 
 

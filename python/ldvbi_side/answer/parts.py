@@ -1,16 +1,15 @@
-"""The parts of a disc other than its numbers: chapters, picture stops, lead-in and lead-out, programme status, users'
-codes."""
+"""What a disc has besides numbers: chapters, picture stops, lead-in and lead-out, programme status, users' codes."""
 
 import bisect
 from typing import List, Tuple
 
 from ldvbi import Kind, State, judge_chapters, judge_stops
 from ..judge.believed import Numbers
-from ..judge.chain import chosen, sure_in
+from ..judge.chain import chosen, stretches_of, sure_in
 from ..judge.paces import ChapterPace
 from ..judge.places import Places
-from ..judge.readings import Codes, Fields, Reading, Stray
-from .doubts import Beside, aside_of
+from ..judge.readings import Codes, Fields, Stray
+from .doubts import aside_of
 from .entries import Chapter, Conflict, Doubt, Status, Stop, Stretch, Users, frame_of
 
 LEAST_SHARE = 200  # fields to a chapter code at most: of a disc with chapters each picture has one
@@ -36,29 +35,25 @@ def chapters_of(codes: Codes, places: Places, begin: int) -> Tuple[List[Chapter]
         sure = {field: 100 * bisect.bisect(breaks, field) + chapter for field, chapter in sure.items()}
     sure = _in_order(sure)
     inside = _inside(found, sure)
-    readings = codes.readings({field: values for field, values in found.items() if field not in inside})
-    if breaks:
-        readings = [Reading(field, 100 * bisect.bisect(breaks, field) + chapter, weight, lines)
-                    for field, chapter, weight, lines, _ in readings]
+    readings = [one._replace(number=100 * bisect.bisect(breaks, one.field) + one.number) for one in codes.readings(
+        {field: values for field, values in found.items() if field not in inside})]
     believed = chosen(readings, ChapterPace(), sure)
     if LEAST_SHARE * (len(believed) + len(inside)) < len(codes.fields.words):
         believed, readings = [], codes.readings(found)
     chapters = [one._replace(number=one.number % 100) for one in believed]
     readings = [one._replace(number=one.number % 100) for one in readings]
     aside = aside_of(codes, Kind.chapter, readings, {one.field: one.number for one in chapters},
-                     lambda field, is_conflict: Beside("chapter"))
+                     lambda field, is_conflict: ("chapter", None, None))
     return (_chapters(chapters, places, begin), *aside)
 
 
 def _in_order(sure):
     """These chapters by field, without those that stand between two others of which they aren't in order: what is
     misread for the next chapter just before it is believed by the library."""
-    fields, numbers = list(sure), list(sure.values())
-    late = [fields[place] for place, (before, one, after) in enumerate(zip(numbers, numbers[1:], numbers[2:]), 1)
-            if not before <= one <= after and before <= after]
-    for field in late:
-        del sure[field]
-    return sure
+    numbers = list(sure.values())
+    late = {field for field, before, one, after in zip(list(sure)[1:], numbers, numbers[1:], numbers[2:])
+            if not before <= one <= after and before <= after}
+    return {field: number for field, number in sure.items() if field not in late} if late else sure
 
 
 def _inside(found, sure):
@@ -83,36 +78,26 @@ def _chapters(believed, places, begin):
 
 def padding_of(fields: Fields) -> List[Stretch]:
     """The stretches of fields that are padding, by the metadata."""
-    found: List[Stretch] = []
-    for field, is_pad in enumerate((fields.pad or ())[:len(fields.words)], 1):
-        if is_pad and found and found[-1].last == field - 1:
-            found[-1] = Stretch(found[-1].first, field, found[-1].count_ + 1)
-        elif is_pad:
-            found.append(Stretch(field, field, 1))
-    return found
+    padding = [field for field, is_pad in enumerate((fields.pad or ())[:len(fields.words)], 1) if is_pad]
+    return [Stretch(first, end - 1, end - first) for first, end in stretches_of(padding)]
 
 
 def ends_of(codes: Codes, kind: Kind, numbers: Numbers) -> Tuple[List[Stretch], List[Stray]]:
     """The stretches of fields with a code of lead-in or lead-out, and the lines on which that code is stray. A stretch
-    ends before a believed number, before more than two fields with a number or a chapter, or before a hundred fields
-    without its code. Such a code is stray in a field with a number, or between two numbers that fit each other. Two
-    minutes that fit leave room for a lead-in: between them a single field with the code is stray."""
+    ends before a believed number, before more than `FEW` fields with another code, or before `APART` fields without its
+    own. Such a code is stray in a field with a number, or between two numbers that fit each other. Two minutes that fit
+    leave room for a lead-in: between them a single field with the code is stray."""
     others = sorted(set().union(*(codes.kinds[one] for one in _OTHERS)))
-
-    def is_one_with(last: int, field: int, place: int) -> bool:
-        between = bisect.bisect_left(others, field) - bisect.bisect(others, last)
-        return field - last <= APART and between <= FEW and bisect.bisect(numbers.fields, last) == place
-
     found: List[Stretch] = []
     stray: List[int] = []
-    is_minute = numbers.unit.name == "minute"
     for field in sorted(codes.kinds[kind]):
-        place = bisect.bisect(numbers.fields, field)
-        has_number = place > 0 and numbers.fields[place - 1] == field
-        if has_number or numbers.fit(numbers.around(field)) and not is_minute:
+        first, last, count = found[-1] if found else (field, -APART, 0)
+        between = bisect.bisect_left(others, field) - bisect.bisect(others, last)
+        if field in numbers.taken or numbers.unit.name != "minute" and numbers.fit(numbers.around(field)):
             stray.append(field)
-        elif found and is_one_with(found[-1].last, field, place):
-            found[-1] = Stretch(found[-1].first, field, found[-1].count_ + 1)
+        elif field - last <= APART and between <= FEW and bisect.bisect(numbers.fields, last) == (
+                bisect.bisect(numbers.fields, field)):
+            found[-1] = Stretch(first, field, count + 1)
         else:
             found.append(Stretch(field, field, 1))
     single = {one.first for one in found if one.count_ == 1 and numbers.fit(numbers.around(one.first))}
@@ -121,15 +106,19 @@ def ends_of(codes: Codes, kind: Kind, numbers: Numbers) -> Tuple[List[Stretch], 
 
 # ---- Stops and other codes
 
-def stops_of(codes: Codes, places: Places, begin: int) -> Tuple[List[Stop], List[Stray]]:
-    """The fields with a picture stop that the library believes, each with its picture, and the lines of others, as
-    stray ones. `begin` is the first field that begins a frame."""
+def stops_of(codes: Codes, places: Places, begin: int) -> Tuple[List[Stop], List[Stop], List[Stray]]:
+    """The fields with a picture stop that the library believes, each with its picture; those of which line 16 or 17 has
+    one that was recovered, where the library doesn't believe it; and the lines of others, as stray ones. `begin` is the
+    first field that begins a frame."""
     stops = codes.kinds[Kind.picture_stop]
     states = judge_stops(codes.fields.packed) if stops else []
     believed = {field for field in stops if states[field - 1] == State.believed}
-    found = [Stop(field, frame_of(field, begin), places.number_at(field), sum(stops[field].values(), ()))
-             for field in sorted(believed)]
-    return found, codes.strays(Kind.picture_stop, stops.keys() - believed, "unsure")
+    lines = {field: sum(stops[field].values(), ()) for field in sorted(stops)}
+    recovered = {field for field, ones in lines.items() if field not in believed and all(
+        line < 18 and codes.fields.passes[field - 1][line - 16] == 3 for line in ones)}
+    found, unsure = ([Stop(field, frame_of(field, begin), places.number_at(field), ones)
+                      for field, ones in lines.items() if field in fields] for fields in (believed, recovered))
+    return found, unsure, codes.strays(Kind.picture_stop, stops.keys() - believed - recovered, "unsure")
 
 
 def status_of(codes: Codes) -> List[Status]:

@@ -9,9 +9,10 @@ from .entries import Answer
 from .whole import counted, counted_by, lost_fields_text
 
 
-def said_of(answer: Answer, path: Optional[str] = None, words: Sequence[str] = ()) -> Dict[str, Any]:
+def said_of(answer: Answer, path: Optional[str] = None, words: Sequence[str] = (),
+            marks: Optional[Dict[str, Any]] = None) -> Dict[str, Any]:
     """This part of the answer for a side, as plain data. `path` is the file from which it was read, None for standard
-    input, and `words` are the options with which it was read."""
+    input, `words` are the options with which it was read, and `marks` is what may show of which disc it is."""
     tried = answer.levels and answer.levels.tried
     return {"version": answer.version, "whole": answer.whole, "reasons": entries(answer.reasons),
             "system": answer.system, "format": answer.format, "unit": answer.unit, "fields": answer.fields,
@@ -19,7 +20,8 @@ def said_of(answer: Answer, path: Optional[str] = None, words: Sequence[str] = (
             "leadIn": sum(one.count_ for one in answer.lead_in), "leadOut": sum(one.count_ for one in answer.lead_out),
             "lost": _lost_text(answer), "counts": {why: counted_by(answer, why) for why in ("lost", "unread")},
             "try": options_of(tried) if tried and tried.best else None,
-            "side": os.path.realpath(path) if path else None, "options": list(words)}
+            "side": os.path.realpath(path) if path else None, "options": list(words),
+            "marks": marks}
 
 
 def _lost_text(answer):

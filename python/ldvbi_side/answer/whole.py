@@ -11,6 +11,7 @@ from ..judge.paces import Unit
 from .ends import Begin, begin_of, end_of, is_end_seen, ordinal_of
 from .entries import Answer, Ground
 from .gaps import Between, Gaps, is_outside
+from .last import Last
 
 YES, NO, OPEN = "yes", "no", "can't tell"
 UNITS: Dict[Optional[str], str] = {"picture": "pictures", "time": "times", "minute": "minutes"}
@@ -21,17 +22,18 @@ Found = Iterator[Tuple[str, str]]  # reasons, each by its word and its text
 
 
 def reasons_of(answer: Answer, gaps: Gaps, unit: Unit, is_strict: bool = False, may_end: bool = False,
-               unseen: Sequence[Tuple[int, int]] = ()) -> List[Ground]:
+               unseen: Sequence[Tuple[int, int]] = (), last: Optional[Last] = None) -> List[Ground]:
     """Why a side with this answer and these gaps isn't whole, or why that can't be told, in order of weight. `why` is a
     word for programs, `text` says it, and `whole` is what the reason alone would make of the side. Each reason of the
     library is among them, unless something explains it. Unread numbers whose fields are there are no reason unless
-    `is_strict`, and neither is a lack of lead-in. A lack of lead-out is no reason if it `may_end`. `unseen` are long
-    stretches without a number between two that fit, each by its first field and its last."""
-    begin, is_ended = begin_of(answer, gaps.judged, unit, is_strict), may_end or is_strict and not answer.lead_out
+    `is_strict`, and neither is a lack of lead-in. A lack of lead-out is no reason if it `may_end`, or its `last` number
+    is known. `unseen` are long stretches without a number between two that fit, by their first and last fields."""
+    begin, may_end = begin_of(answer, gaps.judged, unit, is_strict), may_end or last is not None
+    is_ended = may_end or is_strict and not answer.lead_out
     known = (*_lacking(answer), *_disordered(answer, gaps.judged, begin),
              *(_unseen(answer, may_end) if is_strict else ()), *_of_another(answer, gaps))
-    open_ = (*_in_gaps(answer, gaps), *_undecided(answer, gaps), *_empty(answer, begin, unseen),
-             *_unsure(answer, gaps.judged, is_ended))
+    open_ = (*_in_gaps(answer, gaps), *_undecided(answer, gaps), *_empty(answer, begin, unseen, last),
+             *_beyond(answer, last), *_unsure(answer, gaps.judged, is_ended))
     return [Ground(why, whole, text) for whole, found in ((NO, known), (OPEN, open_)) for why, text in found]
 
 
@@ -63,10 +65,9 @@ def counted_by(answer: Answer, why: str) -> int:
 
 
 def lost_fields_text(answer: Answer) -> str:
-    """How many fields are lost for sure; empty if none is. For film, and minutes alone, only the least count is known.
-    """
+    """How many fields are lost for sure; empty if none is."""
     lost = [one for one in answer.lost if one.by != "undecided"]
-    least = "at least " if answer.unit == "minute" or answer.pace == "film" else ""
+    least = "at least " * any(one.or_more for one in lost)
     more = " or more" if any(one.fields is None for one in lost) else ""
     return least + counted(sum(one.fields or 1 for one in lost), "field") + more if lost else ""
 
@@ -146,7 +147,8 @@ def _of_another(answer: Answer, gaps: Gaps) -> Found:
     expected = answer.metadata_fields
     if expected is not None and expected > answer.fields:
         yield "metadata", "%s of %d that the metadata has" % (counted(answer.fields, "field"), expected)
-    if answer.cut_field:
+    shown = answer.showings[-1].last if answer.showings else answer.fields
+    if answer.cut_field and not any(one.last > shown for one in answer.lead_out):  # after which no number is
         yield "cut", "field %d is cut" % answer.cut_field.field
 
 
@@ -177,6 +179,8 @@ def _in_gaps(answer: Answer, gaps: Gaps) -> Found:
             counted(one.fields, "field"), "lost" if one.kind == "lost" else "too many", one.after)
         why = ("fields are swapped there" if judged and is_outside(judged, one) else
                "the disc's clock left out %s" % _left_out(one) if answer.unit == "time" else
+               "the player stood still there" if one.kind == "held" and any(
+                   still.first <= one.before and one.after <= still.last for still in answer.stills) else
                "lines 17 and 18 count apart there" if answer.pace != "film" else
                "the film is cut there" if one.fields == 1 else "the disc has video there")
         yield "open", "%s%s, or %s" % (what, _and_more(opened), why)
@@ -187,15 +191,13 @@ def _in_gaps(answer: Answer, gaps: Gaps) -> Found:
 
 
 def _left_out(gap):
-    """What the clock may have left out in an open gap. There are no fields for it, or, if they are too many, there are.
-    """
+    """What the clock may have left out in an open gap, without fields for it, or with them if they are too many."""
     return "no number" if gap.kind == "held" else "a number" if gap.fields < 4 else "two numbers"
 
 
 def _undecided(answer: Answer, gaps: Gaps) -> Found:
     """Two fields in a row with the same isFirstField where the numbers go on; numbers that don't count to each other,
-    and no gap says where that comes from: a field may be lost, or the film cut; numbers that are undecided elsewhere
-    than in open gaps."""
+    without a gap: a field may be lost, or the film cut; numbers that are undecided elsewhere than in open gaps."""
     again = [one.before for one in answer.lost if one.is_again()]
     if again:
         yield "parity", "a field was shown again, or lost, before field %d%s" % (again[0], _and_more(again))
@@ -212,15 +214,25 @@ def _undecided(answer: Answer, gaps: Gaps) -> Found:
         yield "undecided", "%s undecided" % counted(count, answer.unit)
 
 
-def _empty(answer: Answer, begin: Optional[Begin], unseen: Sequence[Tuple[int, int]]) -> Found:
+def _empty(answer: Answer, begin: Optional[Begin], unseen: Sequence[Tuple[int, int]], last: Optional[Last]) -> Found:
     """Long stretches without a number: between two that fit as many fields may be lost there as are too many. One at an
     end of the side may have no field: then the numbers before the next field aren't there, but the clock may leave out
-    these."""
+    these. After the disc's last number there are none."""
     if unseen:
         yield "unseen", "no number in fields %d to %d%s" % (*unseen[0], _and_more(unseen))
-    for first, last in filter(None, (begin and begin.unread, end_of(answer))):
-        yield "ends", ("no number in fields %d to %d" % (first, last) if first <= last else
+    end = None if last and last.number == last.greatest else end_of(answer)
+    for first, to in filter(None, (begin and begin.unread, end)):
+        yield "ends", ("no number in fields %d to %d" % (first, to) if first <= to else
                        "numbers before field %d may be lost, or the disc's clock left them out" % first)
+
+
+def _beyond(answer: Answer, last: Optional[Last]) -> Found:
+    """A number that was given as the last one and isn't: greater ones are there, or it is none of the side's."""
+    if last and last.beyond:
+        yield "last", "it ends at %s, after %s that was given as the last" % (
+            answer.numbers.greatest, answer.given_last)
+    elif answer.given_last and not last and answer.showings:
+        yield "last", "%s, given as the last, is none of its numbers" % answer.given_last
 
 
 def _unsure(answer: Answer, judged: Optional[JudgedSide], is_ended: bool) -> Found:
@@ -263,8 +275,8 @@ def _set_aside(answer, judged):
 
 def _out_of_order(answer):
     """On film the first of each two fields of which one has a number one field before or after its place, while those
-    around it go on as before. Either they are swapped, or the film is cut twice within three pictures. Two pictures of
-    film have five fields, so each even number is compared with even ones, and each odd one with odd ones."""
+    around it go on: they are swapped, or the film is cut twice within three pictures. Two pictures of film have five
+    fields, so each even number is compared with even ones, and each odd one with odd ones."""
     begins, known = [one.before for one in answer.breaks], {one.field for one in answer.swapped}
     rows = defaultdict(list)
     for number, field, _ in answer.showings:

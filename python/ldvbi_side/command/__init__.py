@@ -1,7 +1,7 @@
 """The command `ldvbi-side`: its options, and what each of them writes from the judge's answer. Read in this order:
 
-statuses, parser, faults, summary, tables, map, chapters, outputs, folders, progress, reading, join, into, write,
-processes, rows, parsers, scan, main
+statuses, parser, faults, summary, tables, outputs, map, chapters, folders, progress, reading, join, into, write,
+processes, rows, sides, parsers, written, scan, main
 
 `statuses` has the exit statuses, `parser` what reads words, with the options that commands share, and `faults` the
 words of what goes wrong. `summary`, `tables`, `map`, `chapters` and `join` make the texts of `--summary`, of `--csv`

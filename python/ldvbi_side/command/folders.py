@@ -10,7 +10,7 @@ TBC, DOCUMENT = ".tbc", ".vbi.json"
 MOST_OF_NAME = 200  # bytes; a name with all that comes to it may have 255
 # A compressed TBC file is a side that can't be read.
 _PACKED = tuple(TBC + end for end in ENDS)
-_OTHERS = {"index.html"}  # which is no side's
+INDEX = "index.html"  # of a folder of pages; it is no side's
 
 
 class Found(NamedTuple):
@@ -22,16 +22,22 @@ class Found(NamedTuple):
 
 
 class Task(NamedTuple):
-    """A side to read: its file and its name; the page to write and the copy of its metadata, each or None; whether that
-    copy gets the words as they were read; whether the file was named, and so may be a pipe; and the options with which
-    it is read, as words."""
+    """A side to read: its file and its name; the page to write, the copy of its metadata, its map and its chapters,
+    each or None; whether that copy gets the words as they were read; whether the file was named, and so may be a pipe;
+    and the options with which it is read, as words."""
     path: str
     name: str
     page: Optional[str]
     copy: Optional[str]
+    map: Optional[str]
+    chapters: Optional[str]
     as_read: bool
     is_named: bool
     words: Sequence[str]
+
+    def outputs(self) -> Dict[str, Optional[str]]:
+        """What is written of the side, by the options that name it."""
+        return {"--html": self.page, "--into": self.copy, "--map": self.map, "--chapters": self.chapters}
 
 
 def sides_in(paths: Iterable[str]) -> List[Found]:
@@ -76,7 +82,7 @@ def page_names(sides: Iterable[Tuple[str, str]], known: Mapping[str, Optional[st
     that it has. `known` are the pages that are there already, each with the real path of its side, or None if that
     isn't known. A new page is named after its side, followed by a number if there is such a page."""
     own = {side: name for name, side in sorted(known.items(), reverse=True) if side}
-    taken, names = set(map(str.casefold, known)) | _OTHERS, []
+    taken, names = set(map(str.casefold, known)) | {INDEX}, []
     for side, name in sides:
         page = own.get(side) or next(page for page in _candidates(name) if page.casefold() not in taken)
         taken.add(page.casefold())
@@ -86,12 +92,17 @@ def page_names(sides: Iterable[Tuple[str, str]], known: Mapping[str, Optional[st
 
 def _candidates(name):
     """How a side's page may be called."""
-    end = next((end for end in (DOCUMENT, *_PACKED, TBC) if name.endswith(end)), "")
-    name = name[:len(name) - len(end)].replace(os.sep, "-")
+    name = base_of(name).replace(os.sep, "-")
     begin = os.fsdecode(os.fsencode(name)[:MOST_OF_NAME]) or "side"
     yield begin + ".html"
     for number in itertools.count(2):
         yield "%s-%d.html" % (begin, number)
+
+
+def base_of(name: str) -> str:
+    """The name of a side without what shows that it is one."""
+    end = next((end for end in (DOCUMENT, *_PACKED, TBC) if name.endswith(end)), "")
+    return name[:len(name) - len(end)]
 
 
 def files_of(path: str) -> List[str]:

@@ -91,15 +91,17 @@ def copies_in(folder: Optional[str], paths: Sequence[str], sides: Sequence[str])
     """The copy of each of these sides, which a scan found by these paths, in a folder. The copies are arranged there as
     the sides are in the folder that has all of them. A side without metadata beside it has none; there are none at all
     if no folder is named."""
+    return arranged_in(folder, paths, [beside(side) if side.endswith(".tbc") else None for side in sides])
+
+
+def arranged_in(folder: Optional[str], paths: Sequence[str], files: Sequence[Optional[str]]) -> List[Optional[str]]:
+    """These files beside the sides of a scan by these paths, arranged likewise in a folder; None for each if no folder
+    is named."""
     if not folder:
-        return [None] * len(sides)
+        return [None] * len(files)
     above = os.path.commonpath([os.path.abspath(path if os.path.isdir(path) else os.path.dirname(path))
                                 for path in paths])
-    copies: List[Optional[str]] = []
-    for side in sides:
-        metadata = beside(side) if side.endswith(".tbc") else None
-        copies.append(metadata and os.path.join(folder, os.path.relpath(metadata, above)))
-    return copies
+    return [file and os.path.join(folder, os.path.relpath(file, above)) for file in files]
 
 
 def make_folders(copies: Iterable[Optional[str]]) -> None:

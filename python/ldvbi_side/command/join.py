@@ -1,9 +1,7 @@
 """The command `join`: what several captures of one disc's side have together, and which to take each number from."""
 
 import argparse
-import csv
 import json
-import sys
 from typing import Any, Dict, Iterator, List, Optional, Tuple
 
 from ..draw.marks import SKIPPED, fields_text
@@ -14,19 +12,22 @@ from ..outside import printable, say
 from ..side import Side
 from ..write import told
 from ..write.joined import join
+from .chapters import LABELS, joined_spans, write_chapters
 from .faults import naming
-from .folders import files_of
-from .outputs import refuse_inputs, whole_file
+from .folders import INDEX, files_of
+from .map import COLUMNS as MAP_COLUMNS, SOURCE, joined_rows
+from .outputs import STANDARD_OUTPUT, refuse_inputs, whole_file
 from .parser import Parser, add_settings
 from .reading import loaded, source_of
-from .statuses import statuses_text
+from .statuses import OF_SIDE, statuses_text
 from .summary import listed, named
+from .tables import print_rows
 
-DESCRIPTION = """Joins two or more captures of one side by their numbers. It says which numbers they have together,
-which of these each one lacks and who has them, which of them one capture shows better than others, which all lack,
-where two of them disagree about a number, and what the command write would take from which. A number that none of
-several TBC files reads is read together, if their lines say it as one pile. Captures that can't be of one disc are
-refused. """ + statuses_text("join")
+DESCRIPTION = """Joins two or more captures of one side by their numbers. It says whether they are whole together,
+which numbers they have, which of these each one lacks and who has them, which of them one capture shows better than
+others, which all lack, where two of them disagree about a number, and what the command write would take from which. A
+number that none of several TBC files reads is read together, if their lines say it as one pile. Captures that can't
+be of one disc are refused. """ + statuses_text("join")
 NOTHING_SHOWS = "nothing but their numbers shows that these are one disc"
 TAKEN_COLUMNS = ("number", "source", "field", "frame", "how")
 RANGE_COLUMNS = ("first", "last", "source", "first field", "last field", "how")
@@ -36,9 +37,14 @@ def join_options(program: str, words: List[str]) -> argparse.Namespace:
     """The options of these words, which write over no file that is read."""
     parser = parser_of_join(program)
     options = parser.parse_args(words)
-    if "" in (options.html, options.meta):
+    files = [options.html, options.map, options.chapters]
+    if "" in (*files, options.meta):
         parser.error("a file has to have a name")
-    refuse_inputs([1, options.html], [*(file for path in options.sides for file in files_of(path)), options.meta])
+    options.is_printed = options.csv or options.ranges or options.json
+    if files.count(STANDARD_OUTPUT) + options.is_printed > 1 and STANDARD_OUTPUT in files:
+        parser.error("standard output takes one thing")
+    refuse_inputs([1, *(None if file == STANDARD_OUTPUT else file for file in files)],
+                  [*(file for path in options.sides for file in files_of(path)), options.meta])
     return options
 
 
@@ -57,23 +63,38 @@ def loaded_capture(options: argparse.Namespace) -> Tuple[Side, Capture, bool]:
     return side, capture, not isinstance(source, Side)
 
 
-def print_joined(options: argparse.Namespace, captures: List[Capture]) -> None:
-    """Prints and draws what these captures have together, as the options ask for it."""
+def print_joined(options: argparse.Namespace, captures: List[Capture]) -> int:
+    """Prints and draws what these captures have together, as the options ask for it. The answer is the exit status, by
+    whether they are whole together if that is what is asked."""
     joined = join(captures)
-    if options.html:
-        from ..draw.together import page_of_joined
-        with whole_file(options.html) as file:
-            file.write(page_of_joined(joined, joined_text(joined)))
+    is_alone = not (options.is_printed or _write_files(options, joined, captures))
     if (options.csv or options.ranges) and not joined.shown_by:
         say(NOTHING_SHOWS)  # which all other forms have in themselves
     if options.csv:
-        _print_rows(TAKEN_COLUMNS, joined.taken)
+        print_rows(TAKEN_COLUMNS, joined.taken)
     elif options.ranges:
-        _print_rows(RANGE_COLUMNS, range_rows(joined))
+        print_rows(RANGE_COLUMNS, range_rows(joined))
     elif options.json:
         print(json.dumps(as_json(joined)))
-    elif not options.html:
+    elif is_alone:
         print(*map(printable, joined_text(joined)), sep="\n")
+    return OF_SIDE[joined.whole] if is_alone else 0
+
+
+def _write_files(options, joined, captures):
+    """Writes each file that the options name beside what is printed; whether there is any."""
+    if options.html:
+        from ..draw.index import links_beside
+        from ..draw.together import page_of_joined
+        links = links_beside(options.html, options.sides, INDEX)
+        with whole_file(options.html) as file:
+            file.write(page_of_joined(joined, joined_text(joined), *links))
+    if options.map:
+        with whole_file(options.map) as file:
+            print_rows((*MAP_COLUMNS, SOURCE), joined_rows(joined, captures), file)
+    if options.chapters:
+        write_chapters(joined.system, list(joined_spans(joined)), options.chapters)
+    return bool(options.html or options.map or options.chapters)
 
 
 def parser_of_join(program: str) -> argparse.ArgumentParser:
@@ -91,6 +112,11 @@ def parser_of_join(program: str) -> argparse.ArgumentParser:
     output.add_argument("--json", action="store_true", help="print all that they have together, as JSON")
     parser.add_argument("--html", metavar="FILE", help="write a page into this file on which the captures are bars, "
                         "one above the other; print only what another option asks for")
+    parser.add_argument("--map", metavar="FILE", help="write into this file where each number, chapter and picture "
+                        "stop is, in the capture that it is taken from; print only what another option asks for")
+    parser.add_argument("--chapters", metavar="FILE", help="write the chapters of the file that write makes into this "
+                        "file, as ffmpeg's metadata or, if its name ends with %s, as Audacity's labels; print only "
+                        "what another option asks for" % LABELS)
     return parser
 
 
@@ -101,12 +127,6 @@ class _TwoOrMore(argparse.Action):
         if len(values) < 2:
             parser.error("two captures or more are joined")
         setattr(namespace, self.dest, values)
-
-
-def _print_rows(columns, rows):
-    table = csv.writer(sys.stdout, lineterminator="\n")
-    table.writerow(columns)
-    table.writerows(rows)
 
 
 def range_rows(joined: Joined) -> Iterator[Tuple[Any, ...]]:
@@ -120,6 +140,8 @@ def range_rows(joined: Joined) -> Iterator[Tuple[Any, ...]]:
 def joined_text(joined: Joined) -> Iterator[str]:
     """What was joined, as lines: lists in the disc's order, four places of each at most."""
     unit, missing = joined.unit, joined.missing
+    reasons = "; ".join(one.text for one in joined.reasons)
+    yield "together: whole: " + joined.whole + (": " + reasons if reasons else "")
     found = ["%d %s" % (count, why) for why, count in _counts(missing).items()] or ["none lost"]
     yield "together: %s, %s" % (named(unit, *joined.numbers[1:]), ", ".join(found))
     if not joined.shown_by:

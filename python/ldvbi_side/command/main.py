@@ -1,11 +1,10 @@
 """The command `ldvbi-side`: what the words of a side mean."""
 
 import contextlib
-import csv
 import json
 import os
 import sys
-from typing import List, Optional
+from typing import Any, Dict, List, Optional
 
 from ldvbi import Stream, field_bytes
 from ldvbi.document import write_document, write_recovered
@@ -13,10 +12,11 @@ from ldvbi.metadata import beside
 from ldvbi.stream import cut_of
 from ..outside import NAME, drop_standard_output, flush, flush_or_drop, printable, raise_lost, say
 from ..seek import seek, text_of, why_not
-from ..answer.entries import Answer
+from ..join.heads import head_of_side
 from ..side import Side
+from .chapters import chapter_spans, write_chapters
 from .faults import fault_text, naming
-from .folders import Task
+from .folders import INDEX, Task
 from .into import Into
 from .map import COLUMNS as MAP_COLUMNS, head_rows, map_rows
 from .outputs import STANDARD_OUTPUT, refuse_inputs, whole_file
@@ -26,7 +26,7 @@ from .progress import Progress
 from .reading import is_of_another, loaded, name_of, refuse_settings, settings_given, source_of
 from .statuses import FAULT, OF_SIDE, of_many
 from .summary import summary
-from .tables import BAD_LINE_COLUMNS, FIELD_COLUMNS, bad_line_rows, field_rows
+from .tables import BAD_LINE_COLUMNS, FIELD_COLUMNS, bad_line_rows, field_rows, print_rows
 
 
 def _print_document(options, stream):
@@ -43,12 +43,6 @@ def _print_line(options, stream):
     from ..draw.plotting import plot_line
     with naming(options.side):
         print(plot_line(stream, options.side, *options.plot_line), end="")
-
-
-def _print_table(columns, rows, file=None):
-    table = csv.writer(file or sys.stdout, lineterminator="\n")
-    table.writerow(columns)
-    table.writerows(rows)
 
 
 def _cut_status(cut, system, name):
@@ -70,26 +64,17 @@ def _write_files(side, options, is_tbc, into):
     if options.map:
         with whole_file(options.map) as file:
             answer = side.analysis.answer
-            _print_table(MAP_COLUMNS, [*head_rows(answer, side.levels), *map_rows(answer)], file)
+            print_rows(MAP_COLUMNS, [*head_rows(answer, side.levels), *map_rows(answer)], file)
     if options.chapters:
-        _write_chapters(side.analysis.answer, options.chapters)
+        write_chapters(side.system.name, list(chapter_spans(side.analysis.answer)), options.chapters)
     if options.html:
         from ..draw.page import page_of
         from ..draw.plotting import plotter
         with whole_file(options.html) as file:
             file.write(page_of(side, options.title, summary(side.analysis.answer),
                                plotter(side, options.side) if is_tbc else None,
-                               None if options.side == "-" else options.side, options.words))
-
-
-def _write_chapters(answer, path):
-    """Writes the chapters, if there are any: a program that gets a file without one would take its own away."""
-    from .chapters import chapters_text
-    if not answer.chapters:
-        say("no chapter of the side is believed: %s isn't written" % path)
-        return
-    with whole_file(path) as file:
-        file.write(chapters_text(answer, path))
+                               None if options.side == "-" else options.side, options.words,
+                               options.index))
 
 
 def _files(options):
@@ -152,6 +137,7 @@ def _options(words, settings=None):
     is_open = options.into or None in settings_given(options)
     options.waits = True  # if the side is a pipe
     options.is_alone = settings is None  # not one of several
+    options.index = None  # the page of all sides, beside that of this one
     options.title, options.words = os.path.basename(options.side), words_of(options)
     options.is_beside = not options.meta and is_open and options.side.endswith(".tbc")
     if options.is_beside:
@@ -171,24 +157,22 @@ def _join(words):
         captures.append(capture)
         statuses.append(_cut_status(side.cut, side.system, path))
     refuse_settings(given, given.sides[0], is_tbc)
-    print_joined(given, captures)
-    return of_many(statuses)
+    return of_many([*statuses, print_joined(given, captures)])
 
 
 def _scan(words):
     """Prints a row for each of many sides."""
     from .scan import scan
-    return scan(words, answer_of)
+    return scan(words, scanned)
 
 
-def answer_of(task: Task) -> Answer:
-    """The answer for a side of a scan. Its page and the copy of its metadata are written if they are named. A side that
-    nobody named has to be a file."""
-    named = [word for option, name in (("--html", task.page), ("--into", task.copy)) if name
-             for word in (option, name)]
+def scanned(task: Task) -> Dict[str, Any]:
+    """What the head of the page of a side of a scan says. What else is written of it is written if it is named. A side
+    that nobody named has to be a file."""
+    named = [word for option, name in task.outputs().items() if name for word in (option, name)]
     options = _options([*task.words, *named, "--", task.path])
-    options.waits, options.title, options.is_alone = task.is_named, task.name, False
-    options.as_read = task.as_read
+    options.waits, options.title = task.is_named, task.name
+    options.as_read, options.index = task.as_read, INDEX
     into = _into(options)
     source, metadata = source_of(options, *_listeners(into))
     if into:
@@ -197,7 +181,7 @@ def answer_of(task: Task) -> Answer:
             into.write_read(source)
     side = loaded(source, metadata, options, _is_asked(options))
     _write_files(side, options, not isinstance(source, Side), into)
-    return side.analysis.answer
+    return head_of_side(side)
 
 
 def _print_place(answer, wanted):
@@ -255,9 +239,9 @@ def _answer(options):
         json.dump(side.answer, sys.stdout)
         print()
     elif options.bad_lines:
-        _print_table(BAD_LINE_COLUMNS, bad_line_rows(side))
+        print_rows(BAD_LINE_COLUMNS, bad_line_rows(side))
     elif options.csv:
-        _print_table(FIELD_COLUMNS, field_rows(side))
+        print_rows(FIELD_COLUMNS, field_rows(side))
     return _cut_status(side.cut, side.system, name_of(options))
 
 

@@ -1,9 +1,11 @@
 """The map of a side, with which a player seeks without reading the side again. docs/FORMATS.md has its form."""
 
-from typing import Any, Dict, Iterator, Optional, Tuple
+from typing import Any, Dict, Iterator, Optional, Sequence, Tuple
 
 from ldvbi.readings import Levels
 from ..answer.entries import Answer, frame_of
+from ..join.captures import Capture
+from ..join.entries import Joined
 
 # The columns with what they hold, which docs/FORMATS.md has from here
 COLUMNS = {
@@ -11,8 +13,9 @@ COLUMNS = {
     "number": "what `kind` counts, as `--seek` takes it; for `stop` its picture; `-` if it isn't known",
     "field": "the first field, from 1", "frame": "its frame, from 1",
     "how": "`side` for the whole side; `read` if the field shows the number; if it is only due there, `near` if the "
-           "lines' nearest word says it, else `neighbours`",
+           "lines' nearest word says it, else `neighbours`; `unsure` for a stop on one worn line",
 }
+SOURCE = "source"  # the column that a map of several captures has besides
 NONE = "-"  # the number of a stop if no number is near, and a level that isn't known
 
 
@@ -40,5 +43,20 @@ def map_rows(answer: Answer) -> Iterator[Tuple[Any, ...]]:
         yield unit, number, field, frame_of(field, begin), how
     for chapter in answer.chapters:
         yield "chapter", chapter.chapter, chapter.field, chapter.frame, "read"
-    for stop in answer.stops:
-        yield "stop", NONE if stop.number is None else stop.number, stop.field, stop.frame, "read"
+    stops = [(one, "read") for one in answer.stops] + [(one, "unsure") for one in answer.unsure_stops]
+    for stop, how in sorted(stops, key=lambda pair: pair[0].field):
+        yield "stop", NONE if stop.number is None else stop.number, stop.field, stop.frame, how
+
+
+def joined_rows(joined: Joined, captures: Sequence[Capture]) -> Iterator[Tuple[Any, ...]]:
+    """The rows of several captures, each with the name of one at its end: the head of each capture, then each number
+    where it is taken, and where that one's chapters and stops are."""
+    for one in captures:
+        for row in head_rows(one.answer, one.levels):
+            yield (*row, one.name)
+    for taken in joined.taken:
+        yield joined.unit, taken.number, taken.field, taken.frame, taken.how, taken.source
+    for chapter in joined.chapters:
+        yield "chapter", chapter.chapter, chapter.field, chapter.frame, "read", chapter.source
+    for stop in joined.stops:
+        yield "stop", stop.number, stop.field, stop.frame, "read", stop.source

@@ -8,10 +8,11 @@ from typing import IO, Any, List, Optional, Sequence
 from ldvbi import System, __version__
 from ldvbi.library import library_text
 from ..outside import NAME, printable
+from ..seek import wanted_of
 from .statuses import OPEN_END
 
 # The options by which a side is read, those with a value and those without
-_WITH_VALUE, _ALONE = ("meta", "system", "black", "white"), ("no_recover", "strict", "open_end")
+_WITH_VALUE, _ALONE = ("meta", "system", "black", "white", "last"), ("no_recover", "strict", "open_end")
 LEVELS = "the sample of %s, from 0 to 65535, in place of the metadata's; black is below white"
 
 
@@ -53,6 +54,20 @@ def add_settings(parser: argparse.ArgumentParser, tbc: str = "a TBC file") -> No
     parser.add_argument("--strict", action="store_true", help="say that a side without lead-in or lead-out, or with an "
                         "unread number, isn't whole")
     parser.add_argument("--open-end", action="store_true", help=OPEN_END + ". With --strict, too")
+    parser.add_argument("--last", metavar="NUMBER", type=_last, help="the disc ends with this picture, or within this "
+                        "time h:mm, h:mm:ss or h:mm:ss.pp: a side that reaches it needs no lead-out, and what one "
+                        "doesn't reach is lost")
+
+
+def _last(text):
+    """A number, as a side has it, or the part of a time."""
+    try:
+        wanted = wanted_of(text)
+    except ValueError:
+        wanted = None
+    if wanted is None or wanted.kind == "chapter":
+        raise argparse.ArgumentTypeError("neither a picture number nor a time h:mm, h:mm:ss or h:mm:ss.pp: %r" % text)
+    return text
 
 
 def settings_in(options: argparse.Namespace) -> argparse.Namespace:

@@ -7,6 +7,7 @@ from typing import Dict
 from ..seek import wanted_of
 from .chapters import LABELS
 from .parser import Parser, Version, add_settings
+from .sides import COLUMNS as SIDES_COLUMNS
 from .statuses import statuses_text
 from .summary import MOST_LINES
 
@@ -97,6 +98,14 @@ def parser_of_scan(program: str) -> argparse.ArgumentParser:
                         "words, into this folder, whose folders are named as those of the sides; each side is read "
                         "again")
     parser.add_argument("--as-read", action="store_true", help=AS_READ)
+    for option, text in (("map", "map"), ("chapters", "chapters, as ffmpeg's metadata,")):
+        parser.add_argument("--" + option, metavar="FOLDER", help="write the %s of each side into this folder, likewise"
+                            % text)
+    parser.add_argument("--sides", metavar="FILE", help="read single sides by options of their own, from this CSV "
+                        "table with the columns `side` and any of `%s`; or from --csv of an earlier scan, of which "
+                        "`try` has options" % "`, `".join(SIDES_COLUMNS[1:]))
+    parser.add_argument("--write", metavar="FOLDER", help="write one TBC file, as the command write does, of those TBC "
+                        "files that may be of one disc, into this folder, one after the other")
     parser.add_argument("--again", action="store_true", help="read each side, and write its page again")
     return parser
 

@@ -104,7 +104,7 @@ def loaded(source: Source, metadata: Optional[Metadata], options: argparse.Names
     """The side of a source, with what the metadata has of its fields. `is_asked` says that it is to be judged, and not
     among others."""
     side = _side_of(source)
-    side.is_strict, side.may_end = options.strict, options.open_end
+    side.is_strict, side.may_end, side.given_last = options.strict, options.open_end, options.last
     if metadata:
         _add_fields(side, name_of(options), metadata, isinstance(source, Side) and is_asked)
     return side
@@ -113,7 +113,7 @@ def loaded(source: Source, metadata: Optional[Metadata], options: argparse.Names
 def _add_fields(side, name, metadata, is_all):
     """Adds what the metadata has of the fields to the side, which has this name. `is_all` says that nothing else is
     wanted of it."""
-    side.expected = metadata.fields
+    side.expected, side.sequential = metadata.fields, metadata.sequential()
     if is_of_another(metadata, name, len(side.readings), side.cut, side.samples is not None):
         return
     side.first, side.pad = metadata.first, metadata.pad

@@ -5,15 +5,18 @@ import json
 import sys
 from typing import Any, Dict, List, Optional, Sequence
 
+from ..join.discs import OneDisc
 from ..outside import legible, printable, uncontrolled
 
 VERSION = 2  # of the form of the JSON
 # The columns, and the members of a row
 COLUMNS = {"side": "side", "whole": "whole", "lost": "lost", "unread": "unread", "format": "format", "from": "from",
            "to": "to", "last": "last", "lead-in": "leadIn", "lead-out": "leadOut", "fields": "fields", "try": "try",
-           "why": "reasons"}
+           "why": "reasons", "system": "system", "with": "with"}
 FAULT = "fault"  # in the column `whole`, of a side that wasn't read
-_WIDTHS = (10, 6, 6, 7, 10, 10, 10, 7, 8, 7, 13)  # of the columns between the first and the last
+# Of the columns of the text between the first and `why`. It has none for `with`: the lines after the rows say it
+_WIDTHS = {"whole": 10, "lost": 6, "unread": 6, "system": 6, "format": 7, "from": 10, "to": 10, "last": 10,
+           "lead-in": 7, "lead-out": 8, "fields": 7, "try": 13}
 Row = Dict[str, Any]
 
 
@@ -21,22 +24,23 @@ def row_of(path: str, said: Dict[str, Any], page: Optional[str]) -> Row:
     """The row of a side of which its page says this. `page` is None if none is written."""
     numbers, counts = said["numbers"], said["counts"]
     return {"side": path, "whole": said["whole"], "lost": counts["lost"], "unread": counts["unread"],
-            "format": said["format"], "from": numbers["least"], "to": numbers["greatest"], "last": said["last"],
-            "leadIn": said["leadIn"], "leadOut": said["leadOut"], "fields": said["fields"], "try": said["try"],
-            "reasons": [one["text"] for one in said["reasons"]], "fault": None, "page": page}
+            "system": said["system"], "format": said["format"], "from": numbers["least"], "to": numbers["greatest"],
+            "last": said["last"], "leadIn": said["leadIn"], "leadOut": said["leadOut"], "fields": said["fields"],
+            "with": [], "try": said["try"], "reasons": [one["text"] for one in said["reasons"]], "fault": None,
+            "page": page}
 
 
 def fault_row(path: str, fault: str) -> Row:
     """The row of a side that wasn't read, which says why."""
-    return {**dict.fromkeys(COLUMNS.values()), "side": path, "reasons": [], "fault": legible(" ".join(fault.split())),
-            "page": None}
+    return {**dict.fromkeys(COLUMNS.values()), "side": path, "with": [], "reasons": [],
+            "fault": legible(" ".join(fault.split())), "page": None}
 
 
 def _cells(row):
-    """The cells of a row, None if there is nothing to say."""
-    whole = FAULT if row["fault"] is not None else row["whole"]
-    why = row["fault"] if row["fault"] is not None else "; ".join(row["reasons"])
-    return [row["side"], whole, *(row[member] for member in list(COLUMNS.values())[2:-1]), why]
+    """The cells of a row by their columns, None if there is nothing to say."""
+    is_fault = row["fault"] is not None
+    return {**{column: row[member] for column, member in COLUMNS.items()}, "whole": FAULT if is_fault else row["whole"],
+            "with": "; ".join(row["with"]) or None, "why": row["fault"] if is_fault else "; ".join(row["reasons"])}
 
 
 class Table:
@@ -45,8 +49,8 @@ class Table:
     def add(self, row: Row) -> None:
         """Prints a row, or keeps it for the end."""
 
-    def end(self) -> None:
-        """Prints what comes after all rows."""
+    def end(self, discs: Sequence[OneDisc]) -> None:
+        """Prints what comes after all rows. `discs` are the sides that may be captures of one disc."""
 
 
 class Text(Table):
@@ -55,16 +59,19 @@ class Text(Table):
 
     def __init__(self, names: Sequence[str]) -> None:
         self._width = max(len(name) for name in [*names, "side"])
-        self._print(list(COLUMNS))
+        self._print({column: column for column in COLUMNS})
 
     def add(self, row: Row) -> None:
-        self._print(["-" if cell is None else printable(str(cell)) for cell in _cells(row)])
+        self._print({column: "-" if cell is None else printable(str(cell)) for column, cell in _cells(row).items()})
 
     def _print(self, cells):
-        first, second, *others = cells
-        texts = [first.ljust(self._width), second.ljust(_WIDTHS[0])]
-        texts += [text.rjust(width) for text, width in zip(others, _WIDTHS[1:])]
-        print("  ".join(texts + [cells[-1]]).rstrip(), flush=True)
+        texts = [cells["side"].ljust(self._width), cells["whole"].ljust(_WIDTHS["whole"])]
+        texts += [cells[column].rjust(width) for column, width in _WIDTHS.items() if column != "whole"]
+        print("  ".join([*texts, cells["why"]]).rstrip(), flush=True)
+
+    def end(self, discs: Sequence[OneDisc]) -> None:
+        for one in discs:
+            print(printable("%s: %s" % (one.text(), one.command())))
 
 
 class Csv(Table):
@@ -75,8 +82,9 @@ class Csv(Table):
         self._table.writerow(COLUMNS)
 
     def add(self, row: Row) -> None:
-        name, *cells = _cells(row)
-        self._table.writerow([uncontrolled(name), *cells])
+        cells = _cells(row)
+        names = {column: cells[column] and uncontrolled(cells[column]) for column in ("side", "with")}
+        self._table.writerow({**cells, **names}.values())
         sys.stdout.flush()
 
 
@@ -89,5 +97,5 @@ class Json(Table):
     def add(self, row: Row) -> None:
         self._rows.append(row)
 
-    def end(self) -> None:
-        print(json.dumps({"version": VERSION, "sides": self._rows}))
+    def end(self, discs: Sequence[OneDisc]) -> None:
+        print(json.dumps({"version": VERSION, "sides": self._rows, "discs": [one.as_json() for one in discs]}))

@@ -9,7 +9,7 @@ from ..answer.entries import Answer
 from ..answer.whole import UNITS, counted, detour_text, other_file
 from ..levels import options_of
 
-MOST_LINES = 26
+MOST_LINES = 27
 MOST_LISTED = 4  # places in a line
 Item = TypeVar("Item")
 
@@ -22,6 +22,9 @@ def summary(answer: Answer) -> Iterator[str]:
     film = ", film (2 and 3 fields a picture)" if answer.pace == "film" else ""
     yield "system: %s, %s%s" % (answer.system, _FORMATS[answer.format], film)
     yield "fields: %d, cut: %s" % (answer.fields, "field %d, of %d bytes" % cut if cut else "none")
+    said = answer.sequential_fields
+    if said is not None and {said} != {answer.metadata_fields, answer.fields}:
+        yield "metadata: numberOfSequentialFields says %d, and it has %d fields" % (said, answer.metadata_fields or 0)
     for line in LINES:
         yield _line_text(line, answer.lines[line])
     if answer.levels:
@@ -48,9 +51,7 @@ def _line_text(line, rates):
 def _levels_lines(answer):
     """Of a side with few words what its lines show, and what to try."""
     levels = answer.levels
-    own = " of their own" if any(answer.lines[line].near for line in (17, 18)) else ""
-    yield "levels: lines 17 and 18 have %d words%s, %d are bad, %d blank" % (
-        levels.words, own, levels.bad, levels.blank)
+    yield "levels: lines 17 and 18 have %d words, %d are bad, %d blank" % (levels.words, levels.bad, levels.blank)
     if levels.tried and levels.tried.best:
         yield "try: " + _tried_text(levels.tried)
     elif other_file(answer):
@@ -102,16 +103,16 @@ def _number_lines(answer):
 
 
 def _lost_texts(lost, unit):
-    return listed(sum(one.fields or 1 for one in lost), lost, lambda one: _lost_text(one, unit))
+    least = "at least " * any(one.or_more for one in lost)
+    return least + listed(sum(one.fields or 1 for one in lost), lost, lambda one: _lost_text(one, unit))
 
 
 def _lost_text(one, unit):
-    """Lost fields with their place. Those of a minute may be lost anywhere in it, and be more."""
-    least = "at least " if unit == "minute" and one.fields is not None else ""
-    if least and one.after and one.before > one.after + 1:
-        return "at least %d, between fields %d and %d" % (one.fields, one.after + 1, one.before - 1)
+    """Lost fields with their place. Those of a minute may be lost anywhere in it."""
+    if unit == "minute" and one.fields is not None and one.after and one.before > one.after + 1:
+        return "%s, between fields %d and %d" % (one.count_text(), one.after + 1, one.before - 1)
     place = place_text(one.after, one.before)
-    return "lost or shown again " + place if one.is_again() else "%s%s %s" % (least, one.fields or "1 or more", place)
+    return "lost or shown again " + place if one.is_again() else "%s %s" % (one.count_text(), place)
 
 
 def _order_text(answer):
@@ -153,8 +154,8 @@ def _part_lines(answer):
     chapters, stops, stray = answer.chapters, answer.stops, answer.stray
     yield "chapters: " + listed(len(chapters), chapters, lambda one: "chapter %d in field %d" % (
         one.chapter, one.field))
-    yield "picture stops: " + listed(len(stops), stops, lambda one: ("" if one.number is None else "picture %s in " % (
-        one.number)) + "field %d" % one.field)
+    unsure = answer.unsure_stops
+    yield "picture stops: " + _stops_text(stops) + (", unsure: " + _stops_text(unsure) if unsure else "")
     yield ", ".join("%s: %s" % (name, listed(sum(one.count_ for one in stretches), stretches, lambda one: fields_text(
         one.first, one.last))) for name, stretches in (("lead-in", answer.lead_in), ("lead-out", answer.lead_out)))
     yield "unknown words: " + listed(len(answer.unknown), answer.unknown, lambda one: "%06X in field %d line %d" % (
@@ -164,6 +165,11 @@ def _part_lines(answer):
         _words_text(answer.users, lambda one: "%d %s" % (one.digit, one.digits)))
     yield "%s: %s" % (OUT_OF_PLACE, listed(len(stray), stray, lambda one: "%s in field %d line %d" % (
         name_of(one.kind), one.field, one.line)))
+
+
+def _stops_text(stops):
+    return listed(len(stops), stops, lambda one: ("" if one.number is None else "picture %s in " % one.number) +
+                  "field %d" % one.field)
 
 
 def _words_text(words, text_of):

@@ -1,6 +1,8 @@
 """A side as tables: the rows of --csv and of --bad-lines."""
 
-from typing import Any, Dict, Iterator, List, Tuple
+import csv
+import sys
+from typing import IO, Any, Dict, Iterable, Iterator, List, Optional, Sequence, Tuple
 
 from ldvbi import Kind, format_of
 from ldvbi.codes import LINES, code_of, name_of, value_of
@@ -25,6 +27,13 @@ BAD_LINE_COLUMNS = {
     "rival": "how far it is from any other word, likewise",
 }
 NONE = "-"  # of a line to which the row of no word is as near as any
+
+
+def print_rows(columns: Iterable[str], rows: Iterable[Sequence[Any]], file: Optional[IO[str]] = None) -> None:
+    """Prints a table as CSV, to standard output if no file is given."""
+    table = csv.writer(file or sys.stdout, lineterminator="\n")
+    table.writerow(columns)
+    table.writerows(rows)
 
 
 def field_rows(side: Side) -> Iterator[List[Any]]:

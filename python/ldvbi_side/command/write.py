@@ -5,7 +5,7 @@ import csv
 import os
 import re
 import sys
-from typing import IO, Dict, List, NamedTuple, Optional, Sequence, Tuple, Union
+from typing import IO, Callable, Dict, List, NamedTuple, Optional, Sequence, Tuple, Union
 
 from ldvbi import System, field_bytes
 from ldvbi.document import is_document
@@ -82,10 +82,26 @@ def _number(text):
     return int(text) if text.isdecimal() else text
 
 
+class Written(NamedTuple):
+    """What is said of a file that was written, or planned alone, as lines, and the exit status."""
+    lines: List[str]
+    status: int
+
+
 def write_side(program: str, words: Sequence[str]) -> int:
     """Writes the side that these words ask for. The answer is the exit status."""
     options = _options(program, words)
-    opened = [_opened(path, options) for path in options.sides]
+    written = write_captures(options, [settings_in(options)] * len(options.sides))
+    for line in written.lines:
+        print(printable(line))
+    return written.status
+
+
+def write_captures(options: argparse.Namespace, settings: Sequence[argparse.Namespace], others: Sequence[str] = (),
+                   tell: Callable[[str], None] = lambda _: None) -> Written:
+    """Writes the side that these options ask for, of captures that are read by these settings each. `others` are files
+    that stay as they are. Before anything is written, `tell` gets the space that it needs."""
+    opened = [_opened(path, one, options.recovered) for path, one in zip(options.sides, settings)]
     inputs, sources = [one.input for one in opened], [one.source for one in opened]
     refuse_unlike(inputs)
     made = plan(sources, Wanted(options.change, _start(options.start, sources[0].capture), options.ends, options.sure,
@@ -93,18 +109,18 @@ def write_side(program: str, words: Sequence[str]) -> int:
     refuse_wrong(made, sources)
     if options.plan:
         _print_rows(sys.stdout, made, options.sides)
-        return OF_SIDE[outcome_of(made).whole]
+        return Written([], OF_SIDE[outcome_of(made).whole])
     targets = _targets(options.out, inputs)
-    refuse_inputs([1, *targets.values()], [name for one in inputs for name in one.states])
+    refuse_inputs([1, *targets.values()], [*(name for one in inputs for name in one.states), *others])
     _refuse_left(options.out, targets)
-    _refuse_full(options.out, made, inputs)
+    _refuse_full(options.out, made, inputs, tell)
     # the TBC file gets its name last, so that it never stands beside the metadata of an older one
     with whole_files(list(targets.values()), _BESIDE) as parts:
         with naming(options.out):
             _write(dict(zip(targets, parts)), made, opened, options)
         refuse_changed(inputs)
         again, answer = _read_again(dict(zip(targets, parts)), opened[0], options)
-    return _print_outcome(made, answer, differences(made, again), options.sides)
+    return _outcome(made, answer, differences(made, again), options.sides)
 
 
 def _options(program, words):
@@ -129,10 +145,10 @@ def _start(number: Union[int, str, None], capture: Capture) -> Optional[int]:
 
 # ---- Read
 
-def _opened(path: str, options: argparse.Namespace) -> _Opened:
-    """A capture, read and judged."""
+def _opened(path: str, settings: argparse.Namespace, has_recovered: bool) -> _Opened:
+    """A capture, read by these settings and judged."""
     _refuse_document(path)
-    given = options_of(path, settings_in(options))
+    given = options_of(path, settings)
     if not given.meta:
         raise ValueError("%s: %s" % (path, no_metadata(path)))
     states, told = states_of(path, given.meta), Told()
@@ -148,7 +164,7 @@ def _opened(path: str, options: argparse.Namespace) -> _Opened:
         side.may_end = True
         capture = capture_of(side, path)
         return _Opened(Source(capture._replace(samples=None), told.facts(metadata)),
-                       input_of(path, metadata, told, side, states, options.recovered), (source.black, source.white))
+                       input_of(path, metadata, told, side, states, has_recovered), (source.black, source.white))
 
 
 def _refuse_document(path):
@@ -183,7 +199,7 @@ def _refuse_left(out: str, targets: Dict[str, str]) -> None:
             raise ValueError("%s is there, and would be taken for a part of what is written: remove it" % name)
 
 
-def _refuse_full(out: str, made: Plan, inputs: List[Input]) -> None:
+def _refuse_full(out: str, made: Plan, inputs: List[Input], tell: Callable[[str], None]) -> None:
     folder = os.path.dirname(os.path.abspath(out))
     space = os.statvfs(folder)
     share = 0.0  # bytes beside a field's samples
@@ -191,8 +207,10 @@ def _refuse_full(out: str, made: Plan, inputs: List[Input]) -> None:
         share += (sum(sum(sizes) for sizes in one.sizes.values()) + os.path.getsize(one.metadata)) / one.fields
     free, needed = space.f_bavail * space.f_frsize, int(
         made.fields * (field_bytes(System[made.system]) + share / len(inputs)))
+    text = "%d MB are free, and %d MB are needed" % (free // 10 ** 6, -(-needed // 10 ** 6))
     if free < needed:
-        raise ValueError("%s: %d MB are free, and %d MB are needed" % (folder, free // 10 ** 6, -(-needed // 10 ** 6)))
+        raise ValueError("%s: %s" % (folder, text))
+    tell(text)
 
 
 def _write(parts: Dict[str, str], made: Plan, opened: List[_Opened], options: argparse.Namespace) -> None:
@@ -229,12 +247,11 @@ def _read_again(parts: Dict[str, str], first: _Opened, options: argparse.Namespa
         with Progress(len(stream)) as progress:
             side = side_of_stream(stream, progress.over)
         side.first, side.pad, side.expected, side.may_end = metadata.first, metadata.pad, metadata.fields, True
+        side.given_last = options.last
         return capture_of(side, options.out), side.analysis.answer
 
 
-def _print_outcome(made: Plan, answer: Answer, otherwise: List[str], names: Sequence[str]) -> int:
+def _outcome(made: Plan, answer: Answer, otherwise: List[str], names: Sequence[str]) -> Written:
     outcome = outcome_of(made, answer, otherwise)
-    lines = [outcome.text, *written_lines(made, names), *seam_lines(made),
-             *("read otherwise: " + text for text in otherwise)]
-    print(*map(printable, lines), sep="\n")
-    return OF_SIDE[outcome.whole]
+    return Written([outcome.text, *written_lines(made, names), *seam_lines(made),
+                    *("read otherwise: " + text for text in otherwise)], OF_SIDE[outcome.whole])

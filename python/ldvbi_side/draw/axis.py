@@ -1,23 +1,39 @@
-"""The fields of a side along a drawing, shared by bands, curve and lanes."""
+"""The fields of a side along a drawing, shared by bands, curve and lanes, and the forms that a drawing has."""
 
-from typing import Tuple
+from typing import NamedTuple, Tuple
 
-LEFT, WIDTH = 150, 960  # of the axis, in pixels
+
+class Form(NamedTuple):
+    """How wide a drawing is, in pixels: the axis, and what is left and right of it. Further where a text stands that
+    goes up, about how many labels have room along the axis, and how large letters are."""
+    left: int
+    width: int
+    right: int
+    upright: int
+    labels: int
+    letters: int
+
+    def whole(self) -> int:
+        """The width of the whole drawing."""
+        return self.left + self.width + self.right
+
+
+BROAD, NARROW = Form(150, 960, 30, 36, 10, 13), Form(124, 242, 22, 12, 4, 11)
 
 
 class Axis:
     """The fields of a side from left to right. `step` fields share a column of pixels. If these are more than one, they
     are whole pairs, since one of each two fields usually lacks a number."""
 
-    def __init__(self, count: int) -> None:
-        self.left, self.width = LEFT, WIDTH
+    def __init__(self, count: int, form: Form = BROAD) -> None:
+        self.form, self.left, self.width = form, form.left, form.width
         self.count = max(count, 1)
-        fields = -(-self.count // WIDTH)
+        fields = -(-self.count // self.width)
         self.step = fields if fields == 1 else 2 * -(-fields // 2)
 
     def x(self, field: float) -> float:
         """Where a field begins. The field after the last is the end."""
-        return LEFT + WIDTH * (field - 1) / self.count
+        return self.left + self.width * (field - 1) / self.count
 
     def pixel(self, field: int) -> int:
         """The same as a whole pixel, so that nothing shows between two columns."""
@@ -25,5 +41,5 @@ class Axis:
 
     def extent(self, first: int, last: int) -> Tuple[int, int]:
         """The pixels of fields, at least two."""
-        begin = min(self.pixel(first), LEFT + WIDTH - 2)
+        begin = min(self.pixel(first), self.left + self.width - 2)
         return begin, max(self.pixel(last + 1), begin + 2)

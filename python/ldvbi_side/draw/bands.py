@@ -2,25 +2,27 @@
 What it shows there if it isn't blank is noise, not damage."""
 
 from collections import Counter
+from typing import List, Tuple
 
 from ldvbi.codes import LINES
 from ..answer.entries import Answer
 from ..judge.readings import Fields
 from .axis import Axis
+from .colours import BLANK, DARK_BLUE, DARK_BROWN, DARK_CYAN, DARK_PURPLE, DARK_RED, STONE, TEXT, WORD
 from .marks import fields_text
 from .svg import Svg
 
 # What a line can show, from the top of its band to the bottom: its name and its colour
 SHOWN = {
-    "change": "#dc2626",
-    "hold": "#9333ea",
-    "unfinished": "#ea580c",
-    "noise": "#a8a29e",
-    "recovered": "#0891b2",
-    "read only after smoothing": "#eab308",
-    "word": "#86bf91",
-    "blank": "#e2e8f0",
-    "padding": "#1e293b",
+    "change": DARK_RED,
+    "hold": DARK_PURPLE,
+    "unfinished": DARK_BROWN,
+    "noise": STONE,
+    "recovered": DARK_CYAN,
+    "read only after smoothing": DARK_BLUE,
+    "word": WORD,
+    "blank": BLANK,
+    "padding": TEXT,
 }
 _OF_PASSES = {2: "read only after smoothing", 3: "recovered"}
 _NO_DAMAGE = frozenset(["recovered", "read only after smoothing", "word", "blank", "padding"])
@@ -37,17 +39,12 @@ def is_noise(answer: Answer) -> bool:
     return answer.format != "clv" and line.bad() > 0 and FEW * line.words() < answer.fields
 
 
-def draw_legend(svg: Svg, x: int, y: int, answer: Answer) -> None:
-    """The colours with their names, from left to right. Those of recovered words, of noise and of padding are there
-    only if there are some. All of them are within what a page 900 pixels wide shows of the drawing."""
+def legend_of(answer: Answer) -> List[Tuple[str, str]]:
+    """The names with their colours. Those of recovered words, of noise and of padding are there only if there are
+    some."""
     is_there = {"recovered": any(rates.near for rates in answer.lines.values()), "noise": is_noise(answer),
                 "padding": bool(answer.padding)}
-    for name, fill in SHOWN.items():
-        if not is_there.get(name, True):
-            continue
-        svg.box(x, y - 11, 14, 14, fill)
-        svg.text(x + 20, y + 1, name)
-        x += 7 * len(name) + 34
+    return [(name, fill) for name, fill in SHOWN.items() if is_there.get(name, True)]
 
 
 def draw_bands(svg: Svg, fields: Fields, axis: Axis, top: int, has_noise: bool = False) -> None:

@@ -1,26 +1,26 @@
 """Several captures of one side as bars, one above the other, over the numbers that they have together. A bar says which
 numbers its capture has, and which of these are to be taken from it. Below all of them is what none has."""
 
-from typing import Any, Iterable, Iterator, List, Tuple
+from typing import Any, Iterable, Iterator, List, Optional, Tuple
 
 from ..answer.whole import counted
 from ..join.entries import WHOLE, Joined
-from .axis import LEFT, WIDTH, Axis
+from .axis import BROAD, NARROW, Axis, Form
+from .colours import AXIS, DARK_BLUE, DARK_GREEN, DARK_PURPLE, DARK_RED, LANE, PINK, WORD
 from .curve import AXES, Scale
 from .marks import fields_text, span
-from .svg import Svg, shortened, text_width
+from .svg import Svg, shortened
 
-RIGHT = 30
-TITLE_Y, LEGEND_Y, BARS_TOP = 28, 54, 76
-HEIGHT, STEP = 22, 28  # of a bar, and from bar to bar, in pixels
+TITLE_Y, LEGEND_Y, NARROW_LEGEND_Y, BARS_TOP = 28, 54, 14, 76
+HEIGHT, STEP, STRIP = 22, 28, 6  # of a bar, from bar to bar, and of what is taken from it, in pixels
 # What a bar shows, in the order of the legend
 COLOURS = {
-    "taken from here": "#15803d",
-    "taken, unsure": "#84cc16",
-    "here, too": "#bbdfc2",
-    "in another capture alone": "#eab308",
-    "in none": "#dc2626",
-    "disagreement": "#be185d",
+    "taken from here": DARK_GREEN,
+    "taken, unsure": DARK_PURPLE,
+    "here": WORD,
+    "in another capture alone": DARK_BLUE,
+    "in none": DARK_RED,
+    "disagreement": PINK,
 }
 TAKEN, UNSURE, HERE, ELSEWHERE, NOWHERE, DISAGREEMENT = COLOURS
 Stretch = Tuple[int, int, str]  # the first and the last number, and what is said of them
@@ -29,9 +29,9 @@ Stretch = Tuple[int, int, str]  # the first and the last number, and what is sai
 class _Numbers:
     """The numbers along the bars."""
 
-    def __init__(self, joined: Joined) -> None:
+    def __init__(self, joined: Joined, form: Form) -> None:
         self.scale = Scale(str(joined.unit), joined.system, joined.numbers, 0, 0)
-        self.axis = Axis(self.scale.greatest - self.scale.least + 1)
+        self.axis = Axis(self.scale.greatest - self.scale.least + 1, form)
 
     def place(self, number: Any) -> int:
         """The place of a number, from 1."""
@@ -42,15 +42,19 @@ class _Numbers:
         return self.place(one.first), self.place(one.last), "%s: %s" % (span(one.first, one.last), text)
 
 
-def bars_of(joined: Joined) -> str:
+def bars_of(joined: Joined, form: Form = BROAD, class_: Optional[str] = None) -> str:
     """The SVG of what captures have together, as text."""
     names = [one.name for one in joined.captures]
     lanes = len(names) + 2
     axis_top = BARS_TOP + STEP * lanes + 4
-    svg, numbers = Svg(LEFT + WIDTH + RIGHT, axis_top + 56), _Numbers(joined)
-    svg.text(LEFT, TITLE_Y, "%s together" % counted(len(names), "capture"), class_="title", font_size=17,
-             font_weight="bold")
-    _draw_legend(svg)
+    title = "%s together" % counted(len(names), "capture")
+    svg = Svg(form.whole(), axis_top + 56, "%s: %s" % (title, ", ".join(names)), class_, form.letters)
+    numbers = _Numbers(joined, form)
+    if form is NARROW:
+        svg.legend(COLOURS.items(), form.right, form.whole(), NARROW_LEGEND_Y)
+    else:
+        svg.text(form.left, TITLE_Y, title, class_="title", font_size=17, font_weight="bold")
+        svg.legend(COLOURS.items(), form.left, form.whole(), LEGEND_Y)
     lacking = [numbers.stretch(one, "in no capture, " + one.why) for one in joined.missing]
     for row, name in enumerate(names):
         _draw_capture(svg, numbers, joined, BARS_TOP + STEP * row, name, lacking)
@@ -63,18 +67,12 @@ def bars_of(joined: Joined) -> str:
     return svg.render()
 
 
-def _draw_legend(svg):
-    x = LEFT
-    for name, fill in COLOURS.items():
-        svg.box(x, LEGEND_Y - 11, 14, 14, fill)
-        svg.text(x + 20, LEGEND_Y + 1, name)
-        x += int(text_width(name, 13)) + 34
-
-
 def _draw_capture(svg, numbers, joined, y, name, lacking):
-    """The bar of a capture: all numbers, on these what is taken from it, and on top what it hasn't."""
-    svg.text(LEFT - 10, y + HEIGHT / 2 + 5, shortened(name, LEFT - 20, 13), name, text_anchor="end", class_="capture")
-    svg.box(LEFT, y, WIDTH, HEIGHT, COLOURS[HERE])
+    """The bar of a capture: all numbers, below these what is taken from it, and on top what it hasn't."""
+    axis = numbers.axis
+    svg.text(axis.left - 10, y + HEIGHT / 2 + 5, shortened(name, axis.left - 12, axis.form.letters), name,
+             text_anchor="end", class_="capture")
+    svg.box(axis.left, y, axis.width, HEIGHT, COLOURS[HERE])
     taken, unsure = ([numbers.stretch(one, "taken from %s of %s" % (fields_text(one.field, one.last_field), name))
                       for one in joined.ranges if one.source == name and (one.how == WHOLE) == is_sure]
                      for is_sure in (True, False))
@@ -85,14 +83,17 @@ def _draw_capture(svg, numbers, joined, y, name, lacking):
 
 
 def _draw_lane(svg, numbers, y, label, state, stretches):
-    svg.text(LEFT - 10, y + HEIGHT / 2 + 5, label, text_anchor="end", class_="count")
-    svg.box(LEFT, y, WIDTH, HEIGHT, "#f8fafc")
+    axis = numbers.axis
+    svg.text(axis.left - 10, y + HEIGHT / 2 + 5, label, text_anchor="end", class_="count")
+    svg.box(axis.left, y, axis.width, HEIGHT, LANE)
     _draw_stretches(svg, numbers, y, state, stretches)
 
 
 def _draw_stretches(svg, numbers, y, state, stretches):
+    height = STRIP if state in (TAKEN, UNSURE) else HEIGHT
+    name = state.replace(" ", "-").replace(",", "")
     for begin, end, (first, last, text) in _joined(numbers.axis, stretches):
-        svg.box(begin, y, end - begin, HEIGHT, COLOURS[state], text, class_=state.replace(" ", "-").replace(",", ""),
+        svg.box(begin, y + HEIGHT - height, end - begin, height, COLOURS[state], text, class_=name,
                 data_places="%d-%d" % (first, last))
 
 
@@ -120,9 +121,10 @@ def _disagreeing(numbers: _Numbers, joined: Joined) -> Iterator[Stretch]:
 
 
 def _draw_axis(svg, numbers, top):
-    svg.line(LEFT, top, LEFT + WIDTH, top, "#475569")
+    axis = numbers.axis
+    svg.line(axis.left, top, axis.left + axis.width, top, AXIS)
     for count in numbers.scale.ticks():
-        x = numbers.axis.x(count - numbers.scale.least + 1.5)
-        svg.line(x, top, x, top + 5, "#475569")
+        x = axis.x(count - numbers.scale.least + 1.5)
+        svg.line(x, top, x, top + 5, AXIS)
         svg.text(x, top + 20, numbers.scale.text_of(count), text_anchor="middle", class_="number-label")
-    svg.text(LEFT + WIDTH / 2, top + 42, AXES[numbers.scale.unit], text_anchor="middle", class_="axis")
+    svg.text(axis.left + axis.width / 2, top + 42, AXES[numbers.scale.unit], text_anchor="middle", class_="axis")

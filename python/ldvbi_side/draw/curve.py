@@ -7,12 +7,12 @@ from typing import Any, Dict, Iterable, Iterator, List, Optional, Set, Tuple
 from ldvbi import Kind
 from ..answer.entries import Answer, Doubt, Extent
 from .axis import Axis
+from .colours import CURVE, GRID, PINK
 from .marks import doubt_text, fields_text, span
 from .svg import Svg
 
 RATES = {"NTSC": 30, "PAL": 25}  # numbers of a second
 AXES = {"picture": "picture number", "time": "time", "minute": "time"}
-DOUBTFUL_COLOUR = "#be185d"
 MOST_RINGS = 1000  # from here on one stands for those around it
 
 
@@ -75,9 +75,9 @@ def draw_numbers_axis(svg: Svg, axis: Axis, scale: Scale) -> None:
     """Lines across at round numbers, their labels, and what they count, along the side."""
     for count in scale.ticks():
         y = scale.y(count)
-        svg.line(axis.left, y, axis.left + axis.width, y, "#e2e8f0")
+        svg.line(axis.left, y, axis.left + axis.width, y, GRID)
         svg.text(axis.left - 10, y + 4, scale.text_of(count), text_anchor="end", class_="number-label")
-    x, middle = 36, scale.top + scale.height / 2
+    x, middle = axis.form.upright, scale.top + scale.height / 2
     svg.text(x, middle, AXES[scale.unit], text_anchor="middle", transform="rotate(-90 %d %d)" % (x, middle),
              class_="axis")
 
@@ -117,7 +117,7 @@ def _draw_run(svg, axis, scale, run, drawn):
     first, last = run[0], run[-1]
     title = "%s in %s" % (span(first[3], last[3]), fields_text(first[1], last[2]))
     svg.path("M" + "\n".join(lines) + ("h0" if len(points) == 1 else ""), title, class_="run",
-             data_fields="%d-%d" % (first[1], last[2]), fill="none", stroke="#0f172a",
+             data_fields="%d-%d" % (first[1], last[2]), fill="none", stroke=CURVE,
              stroke_width=5 if len(points) == 1 else 3, stroke_linecap="round", stroke_linejoin="round")
 
 
@@ -141,13 +141,9 @@ def _draw_doubt(svg, x, y, beyond, one, more):
     title = doubt_text(one) + ("; and %d more near it" % more if more else "")
     marked = {"title": title, "class_": "doubt", "data_field": one.field}
     if beyond:
-        svg.path("M%.1f %.1fl-5 %dh10z" % (x, y - 5 * beyond, 9 * beyond), fill=DOUBTFUL_COLOUR, **marked)
+        svg.path("M%.1f %.1fl-5 %dh10z" % (x, y - 5 * beyond, 9 * beyond), fill=PINK, **marked)
     else:
-        draw_ring(svg, x, y, **marked)
-
-
-def draw_ring(svg: Svg, x: float, y: float, title: Optional[str] = None, **attributes: Any) -> None:
-    svg.element("circle", title, cx=x, cy=y, r=4, fill="#ffffff", stroke=DOUBTFUL_COLOUR, stroke_width=2, **attributes)
+        svg.ring(x, y, **marked)
 
 
 def round_steps() -> Iterator[int]:

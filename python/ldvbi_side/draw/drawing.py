@@ -2,16 +2,20 @@
 picture stops, the numbers as a curve, and below it a lane for each kind of thing to look at. It draws the answer of
 `answer.analysis`. Each mark has a title with its fields and the reason for it."""
 
+from typing import Optional
+
 from ..answer.whole import counted, other_file
 from ..side import Side
 from . import bands, curve
-from .axis import LEFT, WIDTH, Axis
-from .marks import LANES, PALE, Mark, counts_of, fields_text, lanes_of, marks_of
+from .axis import BROAD, NARROW, Axis, Form
+from .colours import AXIS, BROWN, INDIGO, LANE, NAVY, PAPER, RED, TEAL
+from .marks import LANES, Mark, counts_of, fields_text, lanes_of, marks_of
 from .svg import Svg, shortened, text_width
 
 # The drawing's own measures, in pixels; those of its axis are in axis.py
-RIGHT = 30
-TITLE_Y, SYSTEM_Y, BANDS_LEGEND_Y, LEGEND_Y = 28, 46, 66, 84
+TITLE_Y, SYSTEM_Y, LEGEND_Y = 28, 46, 66
+LEGEND_RIGHT = 850  # which a page shows that is 900 wide
+NARROW_LEGEND_Y = 14  # of a drawing without its head, which is its page's
 BANDS_TOP = 94
 DISC_TOP, DISC_HEIGHT = 200, 18
 STOPS_TOP, STOPS_HEIGHT = 224, 12
@@ -19,16 +23,21 @@ CURVE_TOP, CURVE_HEIGHT = 248, 240
 LANES_TOP, LANE_STEP, LANE_HEIGHT = 502, 18, 12
 MOST_UPRIGHTS = 60  # of a lane, or of chapters: with more of them the curve couldn't be seen
 BREAKING = ("lost", "undecided", "lost fields", "jumps")  # lanes whose marks are where the curve breaks
-END_COLOUR, CHAPTER_COLOURS = "#94a3b8", ("#e0e7ff", "#c7d2fe")
+ENDS, CHAPTER_COLOURS = {"lead-in": TEAL, "lead-out": BROWN}, (INDIGO, NAVY)
 
 
-def drawing_of(side: Side, title: str) -> str:
-    """The SVG of a `ldvbi_side.side.Side`, as text."""
+def drawing_of(side: Side, title: str, form: Form = BROAD, class_: Optional[str] = None) -> str:
+    """The SVG of a `ldvbi_side.side.Side`, as text. The narrow one has no head."""
     answer, fields = side.analysis.answer, side.plain()
     axis_top = LANES_TOP + LANE_STEP * len(lanes_of(marks_of(answer))) + 4
-    svg = Svg(LEFT + WIDTH + RIGHT, axis_top + 56)
-    axis = Axis(answer.fields)
-    _draw_head(svg, answer, title)
+    svg = Svg(form.whole(), axis_top + 56, "%s: %s, whole: %s" % (title, _facts_text(answer), answer.whole), class_,
+              form.letters, "%d %d %d %d" % (form.left, form.width, BANDS_TOP, axis_top) if class_ else None)
+    axis = Axis(answer.fields, form)
+    if form is not NARROW:
+        svg.text(form.left, TITLE_Y, shortened(title, form.width, 17), title, class_="title", font_size=17,
+                 font_weight="bold")
+        svg.text(form.left, SYSTEM_Y, _facts_text(answer), class_="system")
+    _draw_legend(svg, answer, form)
     bands.draw_bands(svg, fields, axis, BANDS_TOP, bands.is_noise(answer))
     _draw_disc(svg, axis, answer)
     _draw_stops(svg, axis, answer)
@@ -41,14 +50,13 @@ def drawing_of(side: Side, title: str) -> str:
         curve.draw_doubts(svg, axis, scale, answer)
     else:
         _draw_lanes(svg, axis, answer)
-        _draw_no_numbers(svg, answer)
+        _draw_no_numbers(svg, axis, answer)
     _draw_fields_axis(svg, axis, answer.fields, axis_top)
     return svg.render()
 
 
-def _draw_head(svg, answer, title):
-    """The side's name, its system and format, the colours of the bands, and what else is drawn."""
-    svg.text(LEFT, TITLE_Y, shortened(title, WIDTH, 17), title, class_="title", font_size=17, font_weight="bold")
+def _facts_text(answer):
+    """The side's system and format, its fields and numbers."""
     cut = answer.cut_field
     parts = [answer.system, {"neither": "no code of CAV or CLV"}.get(answer.format, answer.format.upper())]
     parts += ["film (2 and 3 fields a picture)"] if answer.pace == "film" else []
@@ -57,15 +65,19 @@ def _draw_head(svg, answer, title):
     count, least, greatest = answer.numbers
     if count:
         parts.append("%s, %s to %s" % (counted(count, answer.unit), least, greatest))
-    svg.text(LEFT, SYSTEM_Y, ", ".join(parts), class_="system")
-    bands.draw_legend(svg, LEFT, BANDS_LEGEND_Y, answer)
-    svg.box(LEFT, LEGEND_Y - 11, 14, 14, END_COLOUR)
-    svg.text(LEFT + 20, LEGEND_Y + 1, "lead-in, lead-out")
-    curve.draw_ring(svg, LEFT + 167, LEGEND_Y - 4)
-    svg.text(LEFT + 180, LEGEND_Y + 1, "doubtful number")
+    return ", ".join(parts)
 
 
-def _draw_no_numbers(svg, answer):
+def _draw_legend(svg, answer, form):
+    """The colours of the bands, and what else is drawn."""
+    entries = [*bands.legend_of(answer), *ENDS.items(), ("doubtful number", None)]
+    if form is NARROW:
+        svg.legend(entries, form.right, form.whole(), NARROW_LEGEND_Y)
+    else:
+        svg.legend(entries, form.left, LEGEND_RIGHT, LEGEND_Y)
+
+
+def _draw_no_numbers(svg, axis, answer):
     """What is said in the place of the curve, if there is none."""
     texts = ["no picture number and no time" + (" is believed" if answer.unit else "")]
     levels = answer.levels
@@ -74,14 +86,14 @@ def _draw_no_numbers(svg, answer):
         texts.append("lines 17 and 18 have %d words, %d are bad, %d blank: %s" % (
             levels.words, levels.bad, levels.blank, asked))
     y = CURVE_TOP + CURVE_HEIGHT / 2
-    for place, text in enumerate(texts):
-        svg.text(LEFT + WIDTH / 2, y + 24 * place, text, text_anchor="middle", class_="empty")
+    for place, text in enumerate(texts[:1] if axis.form is NARROW else texts):
+        svg.text(axis.left + axis.width / 2, y + 24 * place, text, text_anchor="middle", class_="empty")
 
 
 def _draw_disc(svg, axis, answer):
     """A strip with lead-in, chapters and lead-out, in the order of the disc."""
-    svg.text(LEFT - 10, DISC_TOP + 14, "disc", text_anchor="end")
-    svg.box(LEFT, DISC_TOP, WIDTH, DISC_HEIGHT, "#f8fafc")
+    svg.text(axis.left - 10, DISC_TOP + 14, "disc", text_anchor="end")
+    svg.box(axis.left, DISC_TOP, axis.width, DISC_HEIGHT, LANE)
     stretches = [("lead-in", "lead-in", one.first, one.last, "") for one in answer.lead_in]
     stretches += [("lead-out", "lead-out", one.first, one.last, "") for one in answer.lead_out]
     for chapter in answer.chapters:
@@ -89,10 +101,8 @@ def _draw_disc(svg, axis, answer):
         stretches.append(("chapter", "chapter %d" % chapter.chapter, chapter.field, chapter.last, place))
     chapters = 0
     for kind, name, first, last, place in sorted(stretches, key=lambda stretch: stretch[2]):
-        fill = END_COLOUR
-        if kind == "chapter":
-            fill = CHAPTER_COLOURS[chapters % 2]
-            chapters += 1
+        fill = ENDS.get(kind, CHAPTER_COLOURS[chapters % 2])
+        chapters += kind == "chapter"
         begin, end = axis.extent(first, last)
         title = "%s: %s%s" % (name, fields_text(first, last), place)
         svg.box(begin, DISC_TOP, end - begin, DISC_HEIGHT, fill, title, class_=kind,
@@ -101,11 +111,11 @@ def _draw_disc(svg, axis, answer):
         label = next((text for text in (name, short) if text_width(text, 11) + 6 <= end - begin), None)
         if label:
             svg.text((begin + end) / 2, DISC_TOP + 13, label, text_anchor="middle", font_size=11, class_="disc-label",
-                     pointer_events="none")
+                     pointer_events="none", fill=PAPER)
 
 
 def _draw_stops(svg, axis, answer):
-    svg.text(LEFT - 10, STOPS_TOP + 11, "stops: %d" % len(answer.stops), text_anchor="end", class_="count")
+    svg.text(axis.left - 10, STOPS_TOP + 11, "stops: %d" % len(answer.stops), text_anchor="end", class_="count")
     drawn = set()
     for one in answer.stops:
         x = axis.x(one.field + 0.5)
@@ -115,14 +125,14 @@ def _draw_stops(svg, axis, answer):
             lines = ("lines " if len(one.lines) > 1 else "line ") + " and ".join(map(str, sorted(one.lines)))
             title = "picture stop%s in field %d, %s" % (number, one.field, lines)
             svg.path("M%.1f %dl4 6l-4 6l-4 -6z" % (x, STOPS_TOP), title, class_="stop", data_field=one.field,
-                     fill="#b91c1c")
+                     fill=RED)
 
 
 def _draw_chapter_lines(svg, axis, answer):
     """An upright at each chapter's begin, below the strip that names it, if these are few."""
     pixels = sorted({axis.pixel(one.field) for one in answer.chapters})
     for x in pixels if len(pixels) <= MOST_UPRIGHTS else []:
-        svg.line(x, CURVE_TOP, x, CURVE_TOP + CURVE_HEIGHT, "#94a3b8", class_="chapter-line", stroke_dasharray="2 4")
+        svg.line(x, CURVE_TOP, x, CURVE_TOP + CURVE_HEIGHT, AXIS, class_="chapter-line", stroke_dasharray="2 4")
 
 
 def _draw_lanes(svg, axis, answer):
@@ -132,9 +142,9 @@ def _draw_lanes(svg, axis, answer):
     for place, lane in enumerate(lanes_of(marks)):
         y = LANES_TOP + LANE_STEP * place
         count, colour = counts[lane], LANES[lane]
-        svg.text(LEFT - 10, y + 11, "%s: %d" % (lane, count), text_anchor="end", class_="count",
-                 fill=colour if count and lane not in PALE else "#64748b", font_weight="bold" if count else None)
-        svg.box(LEFT, y, WIDTH, LANE_HEIGHT, "#f8fafc")
+        svg.text(axis.left - 10, y + 11, "%s: %d" % (lane, count), text_anchor="end", class_="count",
+                 fill=colour if count else AXIS, font_weight="bold" if count else None)
+        svg.box(axis.left, y, axis.width, LANE_HEIGHT, LANE)
         joined = list(_joined(axis, marks[lane]))
         has_uprights = lane in BREAKING and len(joined) <= MOST_UPRIGHTS
         for begin, end, (first, last, text) in joined:
@@ -162,9 +172,9 @@ def _joined(axis, marks):
 
 
 def _draw_fields_axis(svg, axis, count, top):
-    svg.line(LEFT, top, LEFT + WIDTH, top, "#475569")
-    for field in curve.ticks(1, count, 10, curve.round_steps()):
+    svg.line(axis.left, top, axis.left + axis.width, top, AXIS)
+    for field in curve.ticks(1, count, axis.form.labels, curve.round_steps()):
         x = axis.x(field + 0.5)
-        svg.line(x, top, x, top + 5, "#475569")
+        svg.line(x, top, x, top + 5, AXIS)
         svg.text(x, top + 20, str(field), text_anchor="middle")
-    svg.text(LEFT + WIDTH / 2, top + 42, "field", text_anchor="middle", class_="axis")
+    svg.text(axis.left + axis.width / 2, top + 42, "field", text_anchor="middle", class_="axis")

@@ -17,11 +17,11 @@ LISTS = {
     "leftOut": SKIPPED, "breaks": "breaks", "detours": "detours", "stills": "stills", "repeated": "shown again",
     "padding": "padding", "swapped": "swapped fields", "speeds": "other speeds", "doubtful": "doubtful, set aside",
     "conflicts": "lines 17 and 18 differ", "chapterConflicts": "chapters of lines 17 and 18 differ",
-    "secondRows": "second rows of numbers", "chapters": "chapters", "stops": "picture stops", "leadIn": "lead-in",
-    "leadOut": "lead-out", "stray": OUT_OF_PLACE, "unknown": "unknown words", "programmeStatus": "programme status",
-    "users": "users' codes", "badLines": "bad lines", "completed": "fields whose minute is another field's",
-    "confirmed": "fields whose due number is the nearest word of their lines",
-    "showings": "numbers as they come by",
+    "secondRows": "second rows of numbers", "chapters": "chapters", "stops": "picture stops",
+    "unsureStops": "picture stops that aren't sure", "leadIn": "lead-in", "leadOut": "lead-out",
+    "stray": OUT_OF_PLACE, "unknown": "unknown words", "programmeStatus": "programme status", "users": "users' codes",
+    "badLines": "bad lines", "completed": "fields whose minute is another field's",
+    "confirmed": "fields whose due number is the nearest word of their lines", "showings": "numbers as they come by",
 }
 _COLUMNS = {"completed": ("field",), "confirmed": ("field",), "showings": ("number", "first", "last")}
 # What rows of one group have in common, as far as a list has it, and where a row has its field
@@ -29,20 +29,17 @@ _ALIKE, _PLACES = ("line", "cause", "kind", "why", "pass", "by"), ("field", "aft
 
 
 def folds_of(answer: Answer, plain: Dict[str, Any]) -> Iterator[str]:
-    """The lists of this answer, which is `plain` as plain data. Lists that a later answer may have are included,
-    too."""
-    for name in LISTS:
-        yield _fold(name, plain[name], answer)
-    for name, ones in plain.items():
-        if isinstance(ones, list) and name not in LISTS and name != "reasons":
-            yield _fold(name, ones, answer)
+    """The lists of this answer that aren't empty; `plain` has them as plain data. Lists that a later answer may have
+    are included, too."""
+    others = [name for name, ones in plain.items() if isinstance(ones, list) and name not in (*LISTS, "reasons")]
+    for name in (*LISTS, *others):
+        if plain[name]:
+            yield _fold(name, plain[name], answer)
 
 
 def _fold(name, ones, answer):
     """A list under its name and how many rows it has."""
     title = "%s: %d" % (LISTS.get(name, name), len(ones))
-    if not ones:
-        return "<p>%s</p>" % escaped(title)
     columns = _COLUMNS.get(name) or list(ones[0])
     parts = []
     if len(ones) > MOST_ROWS:

@@ -4,6 +4,7 @@ import contextlib
 import html
 import json
 import os
+import time
 from collections import Counter
 from html.parser import HTMLParser
 from typing import Any, Dict, Iterable, List, NamedTuple, Optional, Sequence, Tuple
@@ -12,16 +13,21 @@ from urllib.parse import quote
 from ldvbi.regular import regular
 from ..answer.analysis import VERSION
 from ..answer.whole import NO, OPEN, YES, counted
-from .page import CLASSES, MARK, STYLE
+from ..join.marks import Marks, marks_in
+from .discs import discs_of, is_gone
+from .page import MARK
 from .sorting import SCRIPT, looks_of
-from .svg import escaped, policy
+from .style import STYLE
+from .svg import breakable, escaped, policy
 
 FIRST, PART = 2048, 65536  # characters of a page that are read at once: at first, for most heads are short, and at most
 MOST_PARTS = 64  # in which the head of a page has an end
 FAULTS = "ldvbi-faults"  # what an index says of sides without a page, for the next one
-FAULT, GONE = "fault", "gone"  # of a side that wasn't read, and of a page whose side isn't there any longer
+FAULT, GONE = "not read", "gone"  # of a side without a page, and of a page whose side isn't there any longer
 ORDER = (NO, FAULT, OPEN, YES, GONE)  # of the rows
-COLUMNS = ("side", "whole", "fields", "numbers", "lost", "try", "why")
+CLASSES = {NO: "no", FAULT: "fault", OPEN: "open", YES: "yes", GONE: "gone"}
+COLUMNS = ("side", "whole", "why", "lost", "unread", "try", "system", "format", "from", "to", "lead-in", "lead-out",
+           "scanned on")
 
 
 class Fault(NamedTuple):
@@ -32,14 +38,14 @@ class Fault(NamedTuple):
 
 
 class Row(NamedTuple):
-    """What the index says of a side: its name, the link to its page or None, one of ORDER, the other cells, and the
-    values by which these are sorted."""
+    """What the index says of a side: its name, the link to its page or None, one of ORDER, why, the cells after that,
+    and how many numbers are lost, by which the first of these is sorted."""
     name: str
     link: Optional[str]
     whole: str
-    cells: Sequence[Any] = ("", "", "", "")
-    keys: Sequence[Any] = (-1, -1, -1, "")
-    why: str = ""
+    why: str
+    cells: Sequence[Any] = ("",) * len(COLUMNS[3:])
+    lost: int = -1
 
 
 # ---- Pages that are there
@@ -95,12 +101,14 @@ def _is_said(said):
     try:
         numbers, counts = said["numbers"], said["counts"]
         known = [numbers["count"], said["fields"], counts["lost"], counts["unread"], said["leadIn"], said["leadOut"]]
-        texts = [said["format"], said["lost"], *said["options"], *(one["text"] for one in said["reasons"])]
-        perhaps = [said["try"], said["side"]]
+        texts = [said["system"], said["format"], said["lost"], *said["options"]]
+        texts += [one["text"] for one in said["reasons"]]
+        perhaps = [said["try"], said["side"], said["unit"]]
         return (said["whole"] in (NO, OPEN, YES) and {"least", "greatest"} <= numbers.keys() and "last" in said
                 and all(type(one) is int for one in known) and all(isinstance(one, str) for one in texts)
-                and all(one is None or isinstance(one, str) for one in perhaps))
-    except (AttributeError, KeyError, TypeError):
+                and all(one is None or isinstance(one, str) for one in perhaps)
+                and isinstance(marks_in(said, ""), (Marks, type(None))))
+    except (AttributeError, KeyError, TypeError, ValueError):
         return False
 
 
@@ -131,23 +139,40 @@ def sides_of(folder: str) -> Dict[str, Optional[str]]:
     return {name: _side_of(os.path.join(folder, name)) for name in os.listdir(folder) if name.endswith(".html")}
 
 
-def _side_of(page):
+def name_kept(side: str) -> str:
+    """The text of a file that keeps its name for the page of a side, by the real path of that."""
+    return '<!DOCTYPE html>\n<meta name="%s" content="%s">\n' % (MARK, escaped(json.dumps({"side": side})))
+
+
+def _said_in(page, name):
+    """What a page says under this name, or None, as if there is no page."""
     try:
-        said = _head_in(page, MARK).said
+        return _head_in(page, name).said
     except (OSError, ValueError):
         return None
+
+
+def _side_of(page):
+    said = _said_in(page, MARK)
     side = said.get("side") if isinstance(said, dict) else None
     return side if isinstance(side, str) else None
 
 
 def faults_in(index: str) -> List[Fault]:
     """The sides without a page for which an index says why, if the index is there."""
-    try:
-        said = _head_in(index, FAULTS).said
-    except (OSError, ValueError):
-        return []
+    said = _said_in(index, FAULTS)
     return [Fault(*one) for one in said if isinstance(one, list) and list(map(type, one)) == [str] * 3
             ] if isinstance(said, list) else []
+
+
+def links_beside(path: str, sides: Iterable[str], index: str) -> Tuple[Dict[str, str], Optional[str]]:
+    """The links from a page that is written to `path` to those of these sides in the same folder, by the paths of the
+    sides as they are given, and to the index there, which has this name, or None if there is none."""
+    folder, pages = os.path.dirname(os.path.abspath(path)), {}
+    if os.path.isdir(folder):
+        pages = {side: quote(os.fsencode(name)) for name, side in sides_of(folder).items() if side}
+    links = {side: pages[os.path.realpath(side)] for side in sides if os.path.realpath(side) in pages}
+    return links, index if isinstance(_said_in(os.path.join(folder, index), FAULTS), list) else None
 
 
 # ---- The index
@@ -157,46 +182,57 @@ def index_of(path: str, pages: Iterable[str], faults: Sequence[Fault] = (), name
     without one, in the order of ORDER. With `names_gone` it says for which pages the side isn't there any longer."""
     found = [(page, *head_of(page)) for page in pages]
     names = Counter([title for _, title, _ in found] + [fault.name for fault in faults])
-    rows = [Row(fault.side if names[fault.name] > 1 else fault.name, None, FAULT, why=fault.text) for fault in faults]
+    rows = [Row(fault.side if names[fault.name] > 1 else fault.name, None, FAULT, fault.text) for fault in faults]
     for page, title, said in found:
         link = quote(os.fsencode(os.path.relpath(page, os.path.dirname(os.path.abspath(path)))))
         name = said["side"] if names[title] > 1 and said["side"] else title
-        is_gone = names_gone and said["side"] is not None and not os.path.exists(said["side"])
-        rows.append(_row_of(name, link, said, is_gone))
+        rows.append(_row_of(name, link, said, names_gone and said["side"] is not None and is_gone(said["side"]),
+                            os.stat(page).st_mtime))
     rows.sort(key=lambda row: (ORDER.index(row.whole), row.name.split("/")))
+    counts = Counter(row.whole for row in rows)
     return ('<!DOCTYPE html>\n<html lang="en"><head><meta charset="utf-8"><title>LaserDisc sides</title>\n'
             '%s<meta name="viewport" content="width=device-width, initial-scale=1">\n<meta name="%s" content="%s">\n'
-            '<style>%s%s</style></head><body>\n<h1>%s</h1>\n<p id="filter" hidden="hidden"><label>Rows with '
-            '<input type="search"/></label> <output></output></p>\n'
-            '<div class="wide"><table><thead><tr>%s</tr></thead>\n<tbody>%s</tbody></table></div>\n'
-            "<script>%s</script></body></html>\n" % (
-                policy(SCRIPT), FAULTS, escaped(json.dumps(faults)), STYLE, looks_of(COLUMNS), _counts_text(rows),
-                "".join('<th scope="col">%s</th>' % name for name in COLUMNS), "\n".join(map(_text_of, rows)), SCRIPT))
+            "<style>%s%s</style></head><body>\n<h1>%s</h1>\n%s"
+            '<div class="wide"><table role="table"><thead role="rowgroup"><tr role="row">%s</tr></thead>\n'
+            '<tbody role="rowgroup">%s</tbody></table></div>\n%s<script>%s</script></body></html>\n' % (
+                policy(SCRIPT), FAULTS, escaped(json.dumps(faults)), STYLE, looks_of(COLUMNS), _counts_text(counts),
+                _filter_of(counts), "".join('<th role="columnheader" scope="col">%s</th>' % name for name in COLUMNS),
+                "\n".join(map(_text_of, rows)), discs_of(said for _, _, said in found), SCRIPT))
 
 
-def _row_of(name, link, said, is_gone):
-    numbers, lost = said["numbers"], said["counts"]["lost"]
-    span = "%(count)d, %(least)s to %(greatest)s" % numbers if numbers["count"] else "none"
+def _row_of(name, link, said, isnt_there, scanned):
+    numbers = said["numbers"]
     reasons = "; ".join(one["text"] for one in said["reasons"])
-    if is_gone:
+    if isnt_there:
         reasons = "%s isn't there any longer; whole: %s%s" % (said["side"], said["whole"], reasons and "; " + reasons)
-    return Row(name, link, GONE if is_gone else said["whole"], (said["fields"], span, said["lost"], said["try"] or ""),
-               (said["fields"], numbers["count"], lost, said["try"] or ""), reasons)
+    span = [numbers["least"], numbers["greatest"]] if numbers["count"] else ["", ""]
+    return Row(name, link, GONE if isnt_there else said["whole"], reasons, (
+        said["lost"], said["counts"]["unread"], said["try"] or "", said["system"], said["format"], *span,
+        said["leadIn"], said["leadOut"], time.strftime("%Y-%m-%d", time.localtime(scanned))), said["counts"]["lost"])
 
 
-def _counts_text(rows):
+def _counts_text(counts):
     """How many sides there are of each kind."""
-    counts = Counter(row.whole for row in rows)
-    text = "%s, whole: %s" % (counted(len(rows), "side"), ", ".join(
-        "%d %s" % (counts[one], html.escape(one)) for one in (YES, NO, OPEN)))
-    text += ", " + counted(counts[FAULT], "fault") if counts[FAULT] else ""
-    return text + (", %d gone" % counts[GONE] if counts[GONE] else "")
+    kinds = (YES, NO, OPEN, *(one for one in (FAULT, GONE) if counts[one]))
+    return "%s, whole: %s" % (counted(sum(counts.values()), "side"), ", ".join(
+        "%d %s" % (counts[one], html.escape(one)) for one in kinds))
+
+
+def _filter_of(counts):
+    """A button for each kind of row, and a box for words; the script shows them."""
+    kinds = (YES, NO, OPEN, FAULT, *((GONE,) if counts[GONE] else ()))
+    return ('<p id="filter" hidden="hidden"><span role="group" aria-label="whole">%s</span> <label>Rows with '
+            '<input type="search"/></label> <output></output></p>\n' % " ".join(
+                '<button type="button" value="%s" aria-pressed="false">%s: %d</button>' % (
+                    CLASSES[one], html.escape(one), counts[one]) for one in kinds))
 
 
 def _text_of(row):
-    name = escaped(row.name)
+    name = breakable(row.name)
     link = '<a href="%s">%s</a>' % (escaped(row.link), name) if row.link else name
-    others = "".join('<td data-key="%s">%s</td>' % (escaped(key), escaped(cell))
-                     for cell, key in zip(row.cells, row.keys))
-    return '<tr><td>%s</td><td class="%s" data-key="%d">%s</td>%s<td>%s</td></tr>' % (
-        link, CLASSES.get(row.whole, row.whole), ORDER.index(row.whole), escaped(row.whole), others, escaped(row.why))
+    lost, *others = row.cells
+    cells = [' data-key="%d">%s' % (row.lost, escaped(lost)), *(">" + escaped(cell) for cell in others)]
+    return ('<tr role="row"><td role="cell">%s</td><td role="cell" class="%s" data-key="%d">%s</td>'
+            '<td role="cell">%s</td>%s</tr>' % (
+                link, CLASSES[row.whole], ORDER.index(row.whole), escaped(row.whole), escaped(row.why),
+                "".join('<td role="cell"%s</td>' % cell for cell in cells)))

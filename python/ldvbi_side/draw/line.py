@@ -6,6 +6,7 @@ import itertools
 from typing import List, NamedTuple, Optional, Sequence, Tuple
 
 from ldvbi import Cause, Reading, System
+from .colours import AXIS, CURVE, DARK_BLUE, GREEN, PALE_BLUE, PALE_GREY, PALE_RED, RED
 from .svg import Svg, shortened
 
 # Samples of a microsecond, which is the length of a drawn half cell
@@ -13,7 +14,7 @@ MICROSECOND = {System.NTSC: 315 / 22, System.PAL: 709379 / 40000}
 # Pixels
 LEFT, TOP, WIDTH, HEIGHT, BOTTOM = 70, 96, 1000, 180, 50
 MOST_TITLE = 1000  # of a title, whose middle is left out
-ONE, ZERO, MARKED, FIRST_HOPELESS = "#dbeafe", "#f1f5f9", "#fca5a5", "#fecaca"
+STRIP = 5  # at the foot of a column that is marked, where no sample is drawn
 _SAID = {Cause.blank: "blank (no sample is high)", Cause.unfinished: "unfinished (a longer line could still show one)"}
 
 
@@ -44,10 +45,10 @@ def line_of(data: bytes, system: System, black: int, white: int, reading: Readin
 def plot_of(line: Line, title: str, row: Optional[Row] = None, columns: Optional[Tuple[int, int]] = None) -> str:
     """The drawing of a line, with the row of a word if one is given. `columns` are the first and the last one that are
     seen, if not all are."""
-    plot = _Plot(line, columns or (0, len(line.samples) - 1))
+    plot = _Plot(line, columns or (0, len(line.samples) - 1), "%s: %s" % (title, shown_text(line.reading)))
     said = _draw_row(plot, line, row) if row else _draw_shown(plot, line)
     _draw_axes(plot, line)
-    plot.steps(line.samples, stroke="#0f172a", stroke_width=1.5)
+    plot.steps(line.samples, stroke=CURVE, stroke_width=1.5)
     plot.svg.text(LEFT, 24, shortened(title, MOST_TITLE, 17), font_size=17, font_weight="bold", class_="title")
     plot.svg.text(LEFT, 46, said, class_="said")
     return plot.svg.render()
@@ -63,8 +64,8 @@ def shown_text(reading: Reading) -> str:
 class _Plot:
     """A drawing in which some columns of a line are seen, and all of its samples have room."""
 
-    def __init__(self, line, columns):
-        self.svg = Svg(LEFT + WIDTH + 20, TOP + HEIGHT + BOTTOM)
+    def __init__(self, line, columns, label):
+        self.svg = Svg(LEFT + WIDTH + 20, TOP + HEIGHT + BOTTOM, label)
         self.first, self.last = columns
         least, greatest = min(line.black, *line.samples), max(line.white, *line.samples)
         room = (greatest - least) / 10
@@ -83,6 +84,12 @@ class _Plot:
     def box(self, start, end, fill, **more):
         if self.x(start) < self.x(end):
             self.svg.box(self.x(start), TOP, self.x(end) - self.x(start), HEIGHT, fill, **more)
+
+    def mark(self, column):
+        """Marks a column: it is pale behind the samples, and red below them."""
+        self.box(column, column + 1, PALE_RED, class_="marked")
+        if self.is_seen(column, column + 1):
+            self.svg.box(self.x(column), TOP + HEIGHT - STRIP, self.x(column + 1) - self.x(column), STRIP, RED)
 
     def upright(self, column, stroke, above=0, **more):
         if self.is_seen(column):
@@ -105,14 +112,14 @@ class _Plot:
 
 def _draw_axes(plot, line):
     """Black, white, the level between them, and the columns."""
-    for sample, name, stroke, dashes in ((line.black, "black", "#cbd5e1", None), (line.white, "white", "#cbd5e1", None),
-                                         ((line.black + line.white) / 2, "middle", "#2563eb", "6 4")):
+    for sample, name, stroke, dashes in ((line.black, "black", AXIS, "1 3"), (line.white, "white", AXIS, "1 3"),
+                                         ((line.black + line.white) / 2, "middle", DARK_BLUE, "6 4")):
         y = plot.y(sample)
         plot.svg.line(LEFT, y, LEFT + WIDTH, y, stroke, stroke_dasharray=dashes)
         plot.svg.text(LEFT - 8, y + 4, name, text_anchor="end")
     step, bottom = 50 if plot.last - plot.first > 300 else 10, TOP + HEIGHT
     for column in range(-(-plot.first // step) * step, plot.last + 1, step):
-        plot.svg.line(plot.x(column), bottom, plot.x(column), bottom + 5, "#475569")
+        plot.svg.line(plot.x(column), bottom, plot.x(column), bottom + 5, AXIS)
         plot.svg.text(plot.x(column), bottom + 20, str(column), text_anchor="middle")
     plot.svg.text(LEFT + WIDTH / 2, bottom + 40, "column, from 0", text_anchor="middle")
 
@@ -128,7 +135,7 @@ def _draw_shown(plot, line):
     _draw_word(plot, reading.word, _boundaries(smooth, reading.word, MICROSECOND[line.system]))
     for column, (level, kept) in enumerate(zip(levels, smooth)):
         if level != kept:
-            plot.box(column, column + 1, MARKED, class_="marked")
+            plot.mark(column)
     return shown_text(reading) + (
         ", by the samples as they are (pass 1)" if reading.pass_ == 1 else
         ", by the smoothed levels (pass 2); what was smoothed away is red")
@@ -139,10 +146,10 @@ def _draw_no_word(plot, reading):
     if reading.cause in _SAID:
         return _SAID[reading.cause]
     column, text = reading.column, shown_text(reading)
-    plot.box(column, column + 1, FIRST_HOPELESS, class_="marked")
-    plot.upright(column, "#dc2626", 14, stroke_width=2)
+    plot.mark(column)
+    plot.upright(column, RED, 14, stroke_width=2)
     if plot.is_seen(column):
-        plot.svg.text(plot.x(column) + 6, TOP - 6, text, fill="#dc2626")
+        plot.svg.text(plot.x(column) + 6, TOP - 6, text, fill=RED)
     return text + " (from this column on no continuation could show one)"
 
 
@@ -151,11 +158,11 @@ def _draw_word(plot, word, starts):
     for cell in range(24):
         start, middle, end = starts[2 * cell:2 * cell + 3]
         bit = word >> (23 - cell) & 1
-        plot.box(start, end, ONE if bit else ZERO)
+        plot.box(start, end, PALE_BLUE if bit else PALE_GREY)
         plot.between(start, end, 8, str(bit), class_="bit")
-        plot.upright(start, "#64748b", 4, class_="cell")
-        plot.upright(middle, "#94a3b8", stroke_dasharray="2 3")
-    plot.upright(starts[-1], "#64748b", 4, class_="cell")
+        plot.upright(start, AXIS, 4, class_="cell")
+        plot.upright(middle, AXIS, stroke_dasharray="2 3")
+    plot.upright(starts[-1], AXIS, 4, class_="cell")
     for digit, text in enumerate("%06X" % word):
         plot.between(starts[8 * digit], starts[8 * digit + 8], 28, text, font_weight="bold", class_="digit")
 
@@ -211,9 +218,9 @@ def _draw_row(plot, line, row):
     _draw_word(plot, row.word, starts)
     for column, (level, drawn) in enumerate(zip(line.levels(), levels)):
         if level != drawn:
-            plot.box(column, column + 1, MARKED, class_="marked")
+            plot.mark(column)
     drawn = [line.white if level else line.black for level in levels]
-    plot.steps(drawn, stroke="#16a34a", stroke_width=3)
+    plot.steps(drawn, stroke=GREEN, stroke_width=3)
     column = line.white - line.black
     most = (7 * column + 9) // 10  # as ldvbi_nearest counts
     distance = sum(min(abs(sample - other), most) for sample, other in zip(line.samples, drawn)) / column

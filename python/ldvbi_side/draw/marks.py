@@ -6,25 +6,25 @@ from typing import Any, Dict, List, NamedTuple
 from ldvbi.codes import name_of
 from ..answer.entries import Answer, Doubt
 from ..answer.whole import counted_by, detour_text
+from .colours import AMBER, AXIS, BROWN, INDIGO, ORANGE, PINK, RED, ROSE, SKY, TEAL, VIOLET
 
 # What a reader is told of the answer's `leftOut` and `stray`
 SKIPPED, OUT_OF_PLACE = "skipped by the disc itself", "codes out of place"
 # The lanes with their colours, and those that few sides have
 LANES = {
-    "lost": "#dc2626",
-    "unread": "#fca5a5",
-    "undecided": "#d97706",
-    "lost fields": "#ea580c",
-    "jumps": "#0f766e",
-    "swapped fields": "#7c3aed",
-    "other speeds": "#a16207",
-    "stills": "#0284c7",
-    "shown again": "#6366f1",
-    "doubtful": "#be185d",
-    "out of place": "#64748b",
+    "lost": RED,
+    "unread": ROSE,
+    "undecided": AMBER,
+    "lost fields": ORANGE,
+    "jumps": TEAL,
+    "swapped fields": VIOLET,
+    "other speeds": BROWN,
+    "stills": SKY,
+    "shown again": INDIGO,
+    "doubtful": PINK,
+    "out of place": AXIS,
 }
 _RARE = ("undecided", "swapped fields", "other speeds")
-PALE = ("unread",)  # of these the colour is too light for text
 _MISSING = {
     "lost": "no field is there for it",
     "unread": "fields are there for it, and none shows it",
@@ -128,8 +128,8 @@ def _missing(one):
 
 
 def _lost(one, unit):
-    """Lost fields, where the numbers go on. Those of a minute may be lost anywhere in it, and be more."""
-    count = "one or more fields" if one.fields is None else "%d field%s" % (one.fields, "s" * (one.fields > 1))
+    """Lost fields, where the numbers go on. Those of a minute may be lost anywhere in it."""
+    count = "%s field%s" % (one.count_text(), "s" * (one.fields != 1))
     after, before = one.after, one.before
     if one.is_again():
         return Mark(before, before, "lost or shown again: a field between fields %d and %d, by isFirstField" % (
@@ -138,7 +138,7 @@ def _lost(one, unit):
         return Mark(before, before, "lost: %s before field %d, %s" % (count, before, _LOST[one.by]))
     if unit == "minute" and before > after + 1:
         first, last = after + 1, before - 1
-        return Mark(first, last, "lost: at least %s between fields %d and %d, by the minute's length" % (
+        return Mark(first, last, "lost: %s between fields %d and %d, by the minute's length" % (
             count, first, last))
     return Mark(before, before, "lost: %s between fields %d and %d, %s" % (count, after, before, _LOST[one.by]))
 

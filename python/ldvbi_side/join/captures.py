@@ -6,13 +6,16 @@ from typing import Any, Dict, Iterable, Iterator, List, NamedTuple, Optional, Se
 
 from ldvbi import Clock, Kind, Stream
 from ldvbi.codes import LINES, code_of
-from ..answer.ends import fields_after, fields_there, ordinal_of
+from ldvbi.readings import Levels
+from ..answer.ends import Begin, fields_after, fields_there, ordinal_of
 from ..answer.entries import Answer
 from ..judge.paces import MINUTE_FIELDS, RATES, Unit
 from ..judge.places import Break
 from ..side import Side
+from .marks import CHAPTER, STATUS, Marks, ranges_of, said_beside
 
 NUMBERS = (Kind.picture, Kind.time, Kind.clv_picture)
+OF_TWO = "video", "film"  # the paces at which a picture has two fields at least, of which one has its number
 DUE = "unread"  # why a number is missing that is due in a field
 READ, NEAR, TOGETHER, NEIGHBOURS = "read", "near", "together", "neighbours"
 
@@ -45,18 +48,21 @@ class Facts(NamedTuple):
 class Capture(NamedTuple):
     """A capture under its name. `breaks` are where its numbers and fields don't go on together; there are more of them
     than the library reports. `places` are in the order of its fields; `first` has the first place of each number.
-    `said` has, for each kind of code, by its name, what is beside which number. `samples` is the stream from which
-    words were recovered; None if it isn't at hand. `clock` is the clock of the disc, as far as the library found it.
-    `facts` is what is known of its fields."""
+    `marks` are what may show of which disc it is; None if it has no numbers. `samples` is the stream from which words
+    were recovered; None if it isn't at hand. `clock` is the clock of the disc, as far as the library found it. `facts`
+    is what is known of its fields. `begin` says how it begins if its first number isn't the disc's, and `levels` how
+    its samples were read; each is None if there is nothing to say."""
     name: str
     answer: Answer
     breaks: List[Break]
     places: List[Place]
     first: Dict[int, Place]
-    said: Dict[str, Dict[int, Any]]
+    marks: Optional[Marks]
     samples: Optional[Stream]
     clock: Clock
     facts: Facts
+    begin: Optional[Begin]
+    levels: Optional[Levels]
 
     def kind(self) -> Tuple[Optional[str], str]:
         """What its numbers count, and its system."""
@@ -81,12 +87,6 @@ class Capture(NamedTuple):
         yield from range(first.number - (before + each - 1) // each, first.number)
         yield from range(last.number + 1, last.number + 1 + (after + each - 1) // each)
 
-    def lasts(self, number: int) -> Optional[int]:
-        """How many fields there are from a number to the next one, if each comes first; None if either isn't
-        there."""
-        one, after = self.first.get(number), self.first.get(number + 1)
-        return after.field - one.field if one and after else None
-
 
 def capture_of(side: Side, name: str) -> Capture:
     """The capture that a side is."""
@@ -94,10 +94,9 @@ def capture_of(side: Side, name: str) -> Capture:
     first: Dict[int, Place] = {}
     for place in places:
         first.setdefault(place.number, place)
-    answer, breaks, clock = side.analysis
-    return Capture(name, answer, breaks, places, first, {
-        "chapter": _chapters(answer, first), "programme status": _status(side, first)}, side.samples, clock,
-        Facts(side.first, pad=side.pad))
+    answer, breaks, clock, begin = side.analysis
+    return Capture(name, answer, breaks, places, first, marks_of(side, name), side.samples, clock,
+                   Facts(side.first, pad=side.pad), begin, side.levels)
 
 
 # ---- Places
@@ -120,18 +119,24 @@ def _shown(answer):
 
 
 def _places(side):
-    answer, breaks, _ = side.analysis
-    doubtful = answer.aside()
-    is_of_two = answer.pace in ("video", "film")
-    spans = [(one.after, one.before) for one in answer.lost] + [(one.after, one.before) for one in breaks]
-    before_break = {field for first, last in spans for field in range(first, last)}
-    shown = _shown(answer)
-    for one, after in itertools.zip_longest(shown, shown[1:]):
-        is_torn = one.field in before_break or is_of_two and after is not None and after.number == one.number
-        last = _last_of(answer, one, after, is_torn)
+    doubtful, is_of_two = side.analysis.answer.aside(), side.analysis.answer.pace in OF_TWO
+    for one, last, is_torn in _spans(side):
         is_whole = not is_torn and (last > one.field or not is_of_two)
         lines, sure = {NEAR: (0, 0), NEIGHBOURS: (-1, 0)}.get(one.how) or _read_on(side, one.field, doubtful)
         yield Place(one.number, one.field, last, one.how, is_whole, lines, sure)
+
+
+def _spans(side):
+    """What a side shows, by field, each with its last field, and whether a field of its picture may be lost, or be
+    another's."""
+    answer, breaks = side.analysis[:2]
+    spans = [(one.after, one.before) for one in answer.lost] + [(one.after, one.before) for one in breaks]
+    before_break = {field for first, last in spans for field in range(first, last)}
+    shown = _shown(answer)
+    for one, after in itertools.zip_longest(shown, itertools.islice(shown, 1, None)):
+        is_torn = one.field in before_break or (
+            answer.pace in OF_TWO and after is not None and after.number == one.number)
+        yield one, _last_of(answer, one, after, is_torn), is_torn
 
 
 def _read_on(side, field, doubtful):
@@ -153,26 +158,55 @@ def _last_of(answer, one, after, is_torn):
     return one.last if pace == "both" else min(one.field + 1, answer.fields)
 
 
-# ---- What stands beside the numbers
+# ---- What may show of which disc it is
 
-def _chapters(answer, first):
-    """The chapter that each number is in, if its picture has one."""
+def marks_of(side: Side, name: str) -> Optional[Marks]:
+    """What a side may show of its disc; None if it has no numbers."""
+    answer = side.analysis.answer
+    first: Dict[int, Tuple[int, int]] = {}
+    for one, last, _ in _spans(side):
+        first.setdefault(one.number, (one.field, last))
+    if not first:
+        return None
+    each, places = 3 if answer.pace == "film" else 2, sorted(first.items())
+    lasting = (number for (number, (field, _)), (after, (end, _)) in zip(places, itertools.islice(places, 1, None))
+               if (after, end) == (number + 1, field + each))
+    return Marks(name, answer.system, answer.unit, answer.pace, {
+        CHAPTER: said_beside(_chapters(answer, places)),
+        STATUS: said_beside(_status(side.readings.words_on(LINES[0]), places))},
+        ranges_of(lasting), sorted((one.digit, one.digits) for one in answer.users), *_extent(answer))
+
+
+def _chapters(answer, places):
+    """The chapter that each number is in, if its picture has one. Of each number the first and the last field are
+    given."""
     stretches = answer.chapters
     begins = [one.field for one in stretches]
-    found = {}
-    for number, place in first.items():
-        at = bisect.bisect(begins, place.last) - 1
-        if at >= 0 and place.field <= stretches[at].last:
-            found[number] = stretches[at].chapter
-    return found
+    for number, (field, last) in places:
+        at = bisect.bisect(begins, last) - 1
+        if at >= 0 and field <= stretches[at].last:
+            yield number, stretches[at].chapter
 
 
-def _status(side, first):
-    """The programme status that line 16 has in the fields of each number, as six digits."""
-    found = {}
-    for number, place in first.items():
-        for readings in side.readings[place.field - 1:place.last]:
-            code = code_of(readings.first.word)
-            if code and code.kind in (Kind.cx_on, Kind.cx_off):
-                found[number] = "%06X" % readings.first.word
-    return found
+def _status(words, places):
+    """The programme status, as six digits, that line 16, of which all words are given, has in the fields of each
+    number."""
+    codes = {word: code_of(word) for word in set(words)}
+    texts = {word: "%06X" % word for word, code in codes.items() if code and code.kind in (Kind.cx_on, Kind.cx_off)}
+    for number, (field, last) in places:
+        found = next((texts[word] for word in reversed(words[field - 1:last]) if word in texts), None)
+        if found:
+            yield number, found
+
+
+def _extent(answer):
+    """The numbers of which one comes first after the lead-in, or last before the lead-out; None if it isn't shown."""
+    rate, each = RATES[answer.system], MINUTE_FIELDS[answer.system][0] if answer.unit == "minute" else 2
+    (first, field, _), (last, _, end) = answer.showings[0], answer.showings[-1]
+    first, last = ordinal_of(first, rate), ordinal_of(last, rate)
+    begins = ends = None
+    if any(one.last < field for one in answer.lead_in):
+        begins = first - fields_there(answer, field) // each, first
+    if any(one.first > end for one in answer.lead_out):
+        ends = last, last + fields_after(answer, end) // each
+    return begins, ends

@@ -3,7 +3,7 @@ plain.py gives them those of share/schema/ldvbi-join.schema.json. Numbers are as
 
 from typing import Any, List, NamedTuple, Optional
 
-from ..answer.entries import Extent
+from ..answer.entries import Extent, Ground
 
 
 WHOLE, UNSURE = "whole", "unsure"  # how the numbers of a range stand there
@@ -85,11 +85,33 @@ class Range(NamedTuple):
     how: str
 
 
+class ChapterAt(NamedTuple):
+    """A chapter that begins, and where: its number, the capture that this is taken from, the field and its frame there,
+    and the field of the file that `write` makes."""
+    chapter: int
+    number: Any
+    source: str
+    field: int
+    frame: int
+    written: int
+
+
+class StopAt(NamedTuple):
+    """A number with a picture stop, and where, likewise."""
+    number: Any
+    source: str
+    field: int
+    frame: int
+
+
 class Joined(NamedTuple):
-    """All that captures have together: the numbers that any of them has, those between them that none has, those that
-    the disc leaves out, and so on. `shown_by` has the kinds of codes which show that they are of one disc, and
-    `written` whether the file that `write` makes of them is whole by its plan, and why not."""
+    """All that captures have together: whether that is the whole side, and the reasons if it isn't known to be; the
+    numbers that any of them has, those between them, and up to the given last one, that none has, those that the disc
+    leaves out, and so on. `shown_by` has the kinds of codes which show that they are of one disc, and `written` whether
+    the file that `write` makes of them, which has `written_fields`, is whole by its plan, and why not."""
     version: int
+    whole: str
+    reasons: List[Ground]
     system: str
     format: str
     unit: Optional[str]
@@ -105,4 +127,7 @@ class Joined(NamedTuple):
     disagreements: List[Dispute]
     taken: List[Source]
     ranges: List[Range]
+    chapters: List[ChapterAt]
+    stops: List[StopAt]
     written: str
+    written_fields: int

@@ -12,5 +12,6 @@ def as_json(joined: Joined) -> Dict[str, Any]:
         joined, captures=[entry(one, numbers=entry(one.numbers)) for one in joined.captures],
         numbers=entry(joined.numbers), missing=entries(joined.missing), leftOut=entries(joined.left_out),
         lacks=entries(joined.lacks), alone=entries(joined.alone), better=entries(joined.better),
-        alike=entries(joined.alike), taken=list(map(list, joined.taken)), ranges=entries(joined.ranges),
+        alike=entries(joined.alike), reasons=entries(joined.reasons), chapters=entries(joined.chapters),
+        stops=entries(joined.stops), taken=list(map(list, joined.taken)), ranges=entries(joined.ranges),
         disagreements=[entry(one, between=entries(one.between)) for one in joined.disagreements])

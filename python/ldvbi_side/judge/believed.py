@@ -6,7 +6,7 @@ import functools
 import math
 import operator
 import types
-from typing import Dict, FrozenSet, Iterator, List, Mapping, NamedTuple, Optional, Sequence, Set, Tuple, Union
+from typing import Dict, FrozenSet, List, Mapping, NamedTuple, Optional, Sequence, Set, Tuple, Union
 
 from ldvbi import Clock, JudgedSide
 from .clock import NO_CLOCK, left_out_below
@@ -16,6 +16,7 @@ from .readings import Reading
 APART = 100  # fields from one reading of a stretch to the next, at most
 SLOW = 6  # fields of a number that is shown for three pictures
 _USUAL = (2, 1)  # fields and numbers from one reading of video to the next
+_NORMAL = (1, 2)  # the same, as a line has them: the disc's own speed
 Around = Tuple[Optional[Reading], Optional[Reading]]
 _NONE: Mapping[int, int] = types.MappingProxyType({})
 
@@ -34,10 +35,6 @@ class Line(NamedTuple):
         """Whether a reading is on the line."""
         is_begin = (reading.field - reading.variant - self.field) % 2 == 0
         return is_begin and self.number_at(reading.field) == reading.number
-
-    def is_normal(self) -> bool:
-        """Whether these are the disc's own numbers, one after the other."""
-        return (self.step, self.fields) == (1, 2)
 
     def name(self) -> str:
         """How many numbers a picture has."""
@@ -64,10 +61,9 @@ class _Numbers(NamedTuple):
 
 class Numbers(_Numbers):  # so that it can keep what was found of it
     """The believed readings of a side by field, what they count, and the pace at which they go on. `completed` are the
-    fields whose minute is another field's. `others` are the fields in which no number is due, since their lines show a
-    code that stands there instead. `swapped` are the fields with a number that a capture has written one field off,
-    each with the field in which that is due. `speeds` are the stretches at another speed. `judged` is the library's
-    answer for the side, None for minutes alone."""
+    fields whose minute is another field's, `others` those in which no number is due, since their lines show a code that
+    stands there instead. `swapped` are the fields with a number that a capture has written one field off, each with the
+    field in which that is due. `speeds` are stretches at another speed. `judged` is the library's answer."""
 
     @functools.cached_property
     def fields(self) -> List[int]:
@@ -93,10 +89,6 @@ class Numbers(_Numbers):  # so that it can keep what was found of it
         """How many numbers the clock leaves out from one on to before another one; negative if that is less."""
         return left_out_below(self.clock, end) - left_out_below(self.clock, begin)
 
-    def believing(self, readings: List[Reading]) -> "Numbers":
-        """The same with these readings in place of those that were believed."""
-        return self._replace(believed=readings)
-
     @functools.cached_property
     def odd_places(self) -> Sequence[int]:
         """The places of the believed readings that may be anything but the next number of video in its own place, two
@@ -107,38 +99,24 @@ class Numbers(_Numbers):  # so that it can keep what was found of it
                     map(operator.sub, self.values[1:], self.values))
         found = [place for place, step in enumerate(steps, 1) if step != _USUAL]
         if self.swapped:
-            places = {place for field in self.swapped for place in [bisect.bisect_left(self.fields, field)]}
-            found = sorted(places.union([place + 1 for place in places], found).intersection(
-                range(1, len(self.fields))))
+            swaps = [bisect.bisect_left(self.fields, field) for field in self.swapped]
+            near = {place + after for place in swaps for after in (0, 1) if 0 < place + after < len(self.fields)}
+            found = sorted(near.union(found))
         return found
 
     def aside(self, readings: List[Reading]) -> List[Reading]:
         """Those of these readings whose fields have no believed reading."""
         return [one for one in readings if one.field not in self.taken]
 
-    def rest_of(self, readings: List[Reading]) -> List[Reading]:
-        """Those of these readings that aren't believed."""
-        get = self.taken.get
-        return [one for one in readings if get(one.field) != one.number]
+    def places_in(self, first: int, last: int) -> slice:
+        """The places of the believed readings of these fields."""
+        return slice(bisect.bisect_left(self.fields, first), bisect.bisect(self.fields, last))
 
-    def beside(self, aside: List[Reading]) -> Iterator[Tuple[Reading, Optional[Reading], Optional[Reading]]]:
-        """These readings, each with the believed ones before and after it, or None. They ascend by field, and their
-        fields have no believed reading."""
-        fields, believed, place = self.fields + [math.inf], self.believed + [None], 0
-        for one in aside:
-            while fields[place] < one.field:
-                place += 1
-            yield one, believed[place - 1], believed[place]
-
-    def believed_in(self, first: int, last: int) -> List[Reading]:
-        """The believed readings of these fields."""
-        return self.believed[bisect.bisect_left(self.fields, first):bisect.bisect(self.fields, last)]
-
-    def around(self, field: int) -> Around:
-        """The believed readings before and after a field, or None."""
-        before, after = bisect.bisect_left(self.fields, field), bisect.bisect(self.fields, field)
-        return (self.believed[before - 1] if before else None,
-                self.believed[after] if after < len(self.fields) else None)
+    def around(self, first: int, last: Optional[int] = None) -> Around:
+        """The believed readings before a field and after it, or after a later one; each may be None."""
+        inside = self.places_in(first, first if last is None else last)
+        return (self.believed[inside.start - 1] if inside.start else None,
+                self.believed[inside.stop] if inside.stop < len(self.fields) else None)
 
     def off(self, before: Reading, after: Reading) -> Optional[int]:
         """How many fields are too many (or, negative, too few) between two readings; None if the number stays."""
@@ -147,9 +125,7 @@ class Numbers(_Numbers):  # so that it can keep what was found of it
             if off is not None:
                 return off
         assert self.pace is not None
-        apart = after.field - before.field
-        if self.swapped:
-            apart = self.place_of(after) - self.place_of(before)
+        apart = self.place_of(after) - self.place_of(before)
         off = self.pace.off(apart, before.number, after.number - before.number, before.variant, after.variant)
         return off if off is None else off + 2 * self.left_out(before.number, after.number)
 
@@ -179,22 +155,15 @@ def stretch_at(speeds: Tuple[Stretch, ...], field: int) -> Optional[Stretch]:
 
 def line_from(numbers: Numbers, reading: Reading, is_before: bool) -> Line:
     """The line on which the numbers go on from a reading, or on which they lead to it."""
-    place = bisect.bisect_left(numbers.speeds, (reading.field + is_before,)) - 1
-    if place >= 0 and reading.field + is_before <= numbers.speeds[place].last:
-        return numbers.speeds[place].line
-    return Line(1, 2, reading.field - reading.variant, reading.number)
+    begin = reading.field if is_before else reading.field - 1
+    stretch = stretch_at(numbers.speeds, begin)
+    return stretch.line if stretch and begin < stretch.last else Line(
+        1, 2, reading.field - reading.variant, reading.number)
 
 
 def _lines_between(numbers, before, after):
-    """The line on which the numbers go on from a reading, and the one on which they come to another; None if neither
-    of these is in a stretch."""
-    speeds = numbers.speeds
-    place = bisect.bisect(speeds, (after.field, math.inf)) - 1
-    if place < 0 or speeds[place].last < before.field:
-        return None  # as most are
-    if speeds[place].first <= before.field and after.field <= speeds[place].last:
-        return speeds[place].line, speeds[place].line
-    one, other = stretch_at(speeds, before.field), stretch_at(speeds, after.field)
+    """The lines on which the numbers go on from a reading and come to another; None if neither is in a stretch."""
+    one, other = stretch_at(numbers.speeds, before.field), stretch_at(numbers.speeds, after.field)
     if one and other and one.line[:2] == other.line[:2]:  # fields may be lost in between
         return one.line, other.line
     return (line_from(numbers, before, True), line_from(numbers, after, False)) if one or other else None
@@ -207,9 +176,9 @@ def off_at_speed(numbers: Numbers, before: Reading, after: Reading) -> Optional[
     if lines is None:
         return None
     line, other = lines
-    if line.is_normal() and other.is_normal() or not line.has(before) or not other.has(after):
+    if line[:2] == other[:2] == _NORMAL or not line.has(before) or not other.has(after):
         return None
-    if line.step != other.step or line.fields != other.fields:
+    if line[:2] != other[:2]:
         return None if meeting(line, other, before, after) is None else 0
     if line.has(after):
         return 0
@@ -233,8 +202,7 @@ def passed_between(numbers: Numbers, before: Reading, after: Reading) -> List[Tu
 
 
 def meeting(line: Line, other: Line, before: Reading, after: Reading) -> Optional[int]:
-    """The first field of the picture in which two lines have the same number, between two readings that are near each
-    other."""
+    """The first field of the picture in which two lines have the same number, between two readings near each other."""
     if after.field - before.field > APART or (line.field - other.field) % 2:
         return None
     return next((field for field in range(before.field - before.variant, after.field + 1, 2)

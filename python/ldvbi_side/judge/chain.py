@@ -12,7 +12,7 @@ its variant, is found last. docs/SIDES.md has the rules."""
 
 import contextlib
 import functools
-from typing import Dict, List, Mapping
+from typing import Dict, Iterator, List, Mapping, Tuple
 
 from ldvbi import ClockKind, Counted, JudgedSide, Number, Pace as JudgedPace, State, complete_times, judge_side
 from .clock import DROP_FRAME, is_dropped
@@ -34,15 +34,15 @@ FEWER = 2 ** -20  # of breaks that cost as much those of fewer fields are taken
 
 def judged_of(fields: Fields, counted: Counted) -> JudgedSide:
     """The library's answer for the side, for times of NTSC by the clock that it finds. A few minutes don't show enough
-    of drop-frame: if none is found, that is taken if it leaves fewer gaps, and none of its numbers is shown. An older
-    library knows of no clock."""
+    of drop-frame: if none is found, that is taken if it leaves fewer gaps, and none of its numbers is shown."""
     completed = complete_times(fields.packed, fields.system) if counted == Counted.times else None
     judge = functools.partial(judge_side, fields.packed, fields.system, counted, may_end=fields.may_end,
                               completed=completed)
     if counted == Counted.times and fields.system == "NTSC":
-        with contextlib.suppress(OSError):
+        with contextlib.suppress(OSError):  # an older library knows of no clock
             found = judge(clock="find")
-            if found.clock.kind != ClockKind.plain or not found.gaps or any(map(is_dropped, _believed(found.numbers))):
+            numbers = sure_in(found.numbers).values()
+            if found.clock.kind != ClockKind.plain or not found.gaps or any(map(is_dropped, numbers)):
                 return found
             return min(found, judge(clock=DROP_FRAME), key=lambda one: len(one.gaps))
     found = judge()
@@ -57,19 +57,13 @@ def _is_on_both(numbers):
     return 2 * again > len(shown) - shown.count(None)
 
 
-def _believed(numbers):
-    """The numbers that the library believes."""
-    return [number for number, state in numbers if state is State.believed]
-
-
 def pace_of(judged: JudgedSide) -> Pace:
     """The pace that the library found."""
     return Pace("film" if judged.pace == JudgedPace.film else "both" if judged.on_both else "video")
 
 
 def anchored(readings: List[Reading], pace: Pace, judged: JudgedSide) -> List[Reading]:
-    """The readings that are believed, each with its variant. These, like those given, ascend by field, and the library
-    answered for these fields."""
+    """The readings that are believed, each with its variant. They ascend by field, as do those given."""
     sure = sure_in(judged.numbers)
     believed = chosen(readings, pace, sure)
     return _with_variants(believed, pace) if pace.variants > 1 else believed
@@ -89,7 +83,7 @@ def chosen(readings: List[Reading], pace: AnyPace, sure: Mapping[int, int]) -> L
     these the best chain from one to the next. They ascend by field."""
     get, found, begin = sure.get, [], 0
     kept = [one for one in readings if get(one.field, one.number) == one.number]
-    for first, last in _stretches([place for place, one in enumerate(kept) if one.field not in sure]):
+    for first, last in stretches_of([place for place, one in enumerate(kept) if one.field not in sure]):
         found += kept[begin:first]
         around = kept[max(first - 1, 0):last + 1]
         is_still = len(found) > 1 and found[-2].number == found[-1].number
@@ -110,11 +104,10 @@ def _is_noise(part, pace):
     return DENSE * sum([row in before for row, *before in around]) < len(part)
 
 
-def _stretches(places):
+def stretches_of(places: List[int]) -> Iterator[Tuple[int, int]]:
     """The stretches of these places, which ascend: of each the first one, and the one after the last."""
-    begins = [one for one, before in zip(places, [None] + places) if before is None or one - before > 1]
-    ends = [one for one, after in zip(places, places[1:] + [None]) if after is None or after - one > 1]
-    return zip(begins, [one + 1 for one in ends])
+    known = set(places)
+    return zip([one for one in places if one - 1 not in known], [one + 1 for one in places if one + 1 not in known])
 
 
 def chain(readings: List[Reading], pace: AnyPace) -> List[Reading]:
@@ -180,19 +173,18 @@ def _cost(pace, before, after, is_still=False):
 def _without_ties(readings, places, pace):
     """The readings of these places, but those beside which another one of their field is worth as much."""
     kept = []
-    for before, place, after in zip([None] + places, places, places[1:] + [None]):
-        one = readings[place]
-        rivals = [readings[near] for near in (place - 1, place + 1)
-                  if 0 <= near < len(readings) and readings[near].field == one.field]
-        around = [readings[near] if near is not None else None for near in (before, after)]
-        if not rivals or max(_worth(pace, rival, *around) for rival in rivals) < _worth(pace, one, *around):
+    taken = [readings[place] for place in places]
+    for before, place, after in zip([None, *taken], places, [*taken[1:], None]):
+        one, *rivals = [readings[near] for near in (place, place - 1, place + 1)
+                        if 0 <= near < len(readings) and readings[near].field == readings[place].field]
+        if not rivals or max(_worth(pace, before, rival, after) for rival in rivals) < _worth(pace, before, one, after):
             kept.append(one)
     return kept
 
 
-def _worth(pace, one, before, after):
+def _worth(pace, before, one, after):
     """What a reading is worth between these."""
-    return one.weight - sum(_cost(pace, *pair) for pair in ((before, one), (one, after)) if None not in pair)
+    return one.weight - (_cost(pace, before, one) if before else 0) - (_cost(pace, one, after) if after else 0)
 
 
 # ---- Variants
@@ -202,21 +194,18 @@ def _with_variants(believed, pace):
     costs, origins = [0.0] * pace.variants, []
     for one, other in zip(believed, believed[1:]):
         steps = _steps(pace, other.field - one.field, other.number - one.number, one.number % pace.period)
-        best = [min((costs[before] + cost, before) for before, cost in enumerate(ways)) for ways in steps]
-        costs = [cost for cost, _ in best]
-        origins.append([before for _, before in best])
-    variant = costs.index(min(costs))
-    found = [one._replace(variant=variant) for one in believed[-1:]]
-    for one, origin in zip(believed[-2::-1], origins[::-1]):
-        variant = origin[variant]
-        found.append(one._replace(variant=variant))
-    return found[::-1]
+        costs, origin = zip(*[min((costs[before] + cost, before) for before, cost in enumerate(ways))
+                              for ways in steps])
+        origins.append(origin)
+    variants = [costs.index(min(costs))]
+    for origin in origins[::-1]:
+        variants.append(origin[variants[-1]])
+    return [one._replace(variant=variant) for one, variant in zip(believed, variants[::-1])]
 
 
 @functools.lru_cache(maxsize=1 << 14)
 def _steps(pace, apart, step, number):
-    """What it costs to go on by so many fields and numbers from a number that is so much modulo the pace's period: to
-    each variant, from each."""
+    """What it costs to go on from a number, modulo the pace's period, by so much: to each variant, from each."""
     return [[price(off) + FEWER * abs(off) + (one != other) * pace.change for one in range(pace.variants)
              for off in [pace.off(apart, number, step, one, other)] for off in [apart if off is None else off]]
             for other in range(pace.variants)]

@@ -12,7 +12,7 @@ rules that out (`open_in`): rule 9 of docs/SIDES.md."""
 
 import itertools
 from collections import Counter
-from typing import List, NamedTuple, Set, Tuple
+from typing import List, Set
 
 from ldvbi import Clock, ClockKind
 
@@ -24,13 +24,6 @@ TENTH_MINUTE = 10 * MINUTE
 # Fewer numbers may not show three places if one more is hidden: of one number in 1,000 or 1,001, and of two a minute
 SHORT = 4000
 SHORT_MINUTES = 5 * MINUTE
-
-
-class Gap(NamedTuple):
-    """The numbers from the first to the last that no field shows, in whose place so many pictures are too few."""
-    first: int
-    last: int
-    pictures: int
 
 
 def left_out_below(clock: Clock, number: int) -> int:
@@ -62,36 +55,31 @@ def _with_rest(period, rest, first, last):
     return range(first + (rest - first) % period, last + 1, period)
 
 
-def open_in(gaps: List[Gap], runs: List[Tuple[int, int]]) -> Set[int]:
-    """The numbers of gaps that a clock may have left out, though the library found none. `runs` are the first and the
-    last of numbers that go on from one to the next. A gap of one number, or of two at the start of a minute, is a loss
-    only if enough was played to know, and each clock that may have made it is ruled out."""
-    played = sum(last - first + 1 for first, last in runs + [one[:2] for one in gaps])
-    singles = [one for one in gaps if one.pictures == 1]
-    pairs = [one for one in gaps if one.pictures == 2 == len(left_out_in(DROP_FRAME, one.first, one.last))]
-    shown = sum(len(left_out_in(DROP_FRAME, first + 1, last - 1)) // 2 for first, last in runs)
-    found = _numbers_of(pairs) if played < SHORT_MINUTES or shown < len(pairs) else set()
-    if played < SHORT:
-        return found | _numbers_of(singles)
-    ruled_out = [(period, _ruled_out(period, singles, runs)) for period in PERIODS]
-    return found | {number for number in _numbers_of(singles)
-                    if any(number % period not in rests for period, rests in ruled_out)}
-
-
-def _numbers_of(gaps):
-    """The numbers of these gaps."""
-    return {number for one in gaps for number in range(one.first, one.last + 1)}
+def open_in(singles: List[range], pairs: List[range], runs: List[range]) -> Set[int]:
+    """The numbers of gaps that a clock may have left out, though the library found none. `singles` and `pairs` are the
+    numbers of gaps in which fields for one are too few, or for two, and `runs` are numbers that go on from one to the
+    next. A gap of one number, or of two at the start of a minute, is a loss only if enough was played to know, and each
+    clock that may have made it is ruled out."""
+    played = sum(map(len, singles + pairs + runs))
+    pairs = [one for one in pairs if len(left_out_in(DROP_FRAME, one.start, one.stop - 1)) == 2]
+    shown = sum(len(left_out_in(DROP_FRAME, run.start + 1, run.stop - 2)) // 2 for run in runs)
+    found = set().union(*pairs) if played < SHORT_MINUTES or shown < len(pairs) else set()
+    open_ = set().union(*singles)
+    if played >= SHORT:
+        ruled_out = [(period, _ruled_out(period, singles, runs)) for period in PERIODS]
+        open_ = {number for number in open_ if any(number % period not in rests for period, rests in ruled_out)}
+    return found | open_
 
 
 def _ruled_out(period, singles, runs):
     """The rests of this period that numbers of as many places have as of gaps, or more. A clock that isn't quite even
     is none that the library knows, but no loss either: so the gaps near a rest count for it."""
-    alone = [one.first for one in singles if one.first == one.last]
+    alone = [one.start for one in singles if len(one) == 1]
     gone = Counter((number + off) % period for number in alone for off in range(-OFF, OFF + 1))
-    steps = [0] * (period + 1)
-    for first, last in runs:
-        whole, more = divmod(max(last - first - 1, 0), period)  # a number at an end shows nothing
-        begin = (first + 1) % period
+    steps = [0] * (period + 1)  # what a rest has more than the one before it
+    for run in runs:
+        whole, more = divmod(max(len(run) - 2, 0), period)  # a number at an end shows nothing
+        begin = (run.start + 1) % period
         steps[0] += whole
         for low, high in ((begin, min(begin + more, period)), (0, begin + more - period)):
             if low < high:

@@ -16,8 +16,7 @@ KINDS = (GapKind.inserted, GapKind.replaced)  # of gaps, in pairs of neighbours
 
 
 class Detour(NamedTuple):
-    """A run of numbers (counts, or as the answer has them), and its fields, up to the number after it. `kind` is
-    `inserted` or `replaced`."""
+    """A run of numbers, as counts or as texts, `inserted` or `replaced`, and its fields, up to the number after it."""
     kind: str
     first: int
     last: int
@@ -31,8 +30,7 @@ def detour_of(one: Gap, other: Gap) -> Detour:
 
 
 def pairs_of(gaps: Iterable[Gap]) -> List[Tuple[Gap, Gap]]:
-    """The gaps that are detours, each with the one after it. If a number stays at one of the two, the player stood
-    still."""
+    """The gaps that are detours, in pairs. If a number stays at one of the two, the player stood still."""
     ones = [gap for gap in gaps if gap.kind in KINDS]
     return [(one, other) for one, other in zip(ones[::2], ones[1::2])
             if one.from_ != one.to and other.from_ != other.to]
@@ -92,8 +90,7 @@ class _Rows:
 
 
 def without_rows(readings: List[Reading], detours: List[Detour], judged: JudgedSide, pace: Pace) -> List[Reading]:
-    """These readings without those of detours that are set aside: the numbers that the library has there, and those
-    that go on with them."""
+    """These readings without the numbers that the library has in these detours, and those that go on with them."""
     rows: Dict[int, int] = {field: pace.row(one.first, one.from_) for one in detours
                             for field in range(one.first, one.last + 1)}
     return [one for one in readings if one.field not in rows or judged.numbers[one.field - 1].number != one.number and

@@ -1,15 +1,11 @@
 """The numbers of a side that are believed: pictures of a CAV disc, times of a CLV disc, or its minutes alone. A time is
-joined of the minutes on lines 17 and 18 and of the second and picture on line 16. The steps are the same for both:
+joined of the minutes on lines 17 and 18 and of the second and picture on line 16.
 
-1. The codes become readings: a number of a field, with its weight.
-2. The library says at which pace the numbers go on, and which it believes (`judged_of`). Numbers in the place of others
-   are set aside (detours.py).
-3. `anchored` takes these, and chooses among the other readings, each in its own field.
-4. `with_speeds`, `with_turned` and `with_swaps` find what the chain takes for stills or breaks, or sets aside. Speeds
-   come before swaps: a swap is found between two numbers that fit, and those of another speed fit only then.
-
-Each step returns new `Numbers`. All later modules ask `Numbers.off` or `Numbers.fit` (believed.py) how two numbers
-stand to each other. docs/SIDES.md has the rules."""
+The library says at which pace the numbers go on, and which it believes; numbers in the place of others are set aside
+(detours.py). `anchored` chooses among the other readings, each in its own field. `with_speeds`, `with_turned` and
+`with_swaps` then find what this takes for stills or breaks, or sets aside. Speeds come before swaps: a swap is found
+between two numbers that fit, and those of another speed fit only then. Each step returns new `Numbers`, whose `off` and
+`fit` say how two numbers stand to each other. docs/SIDES.md has the rules."""
 
 from typing import Dict, List, NamedTuple, Optional
 
@@ -19,7 +15,7 @@ from .chain import anchored, chain, judged_of, pace_of
 from .detours import without_replaced, without_rows
 from .order import with_speeds, with_swaps, with_turned
 from .paces import RATES, MinutePace, Unit
-from .readings import WEIGHTS, ByField, Codes, Lines, Reading
+from .readings import ByField, Codes, Reading
 
 CARRIED = 1  # seconds that are lost at most if a minute is carried over although others were read
 
@@ -35,32 +31,23 @@ class Times(NamedTuple):
 
     def joined(self) -> List[Reading]:
         """Each second and picture with the minutes of its field, or else of the field after or before it."""
-        readings, passes = [], self.codes.fields.passes
-        known: Dict[Lines, Lines] = {}
+        readings = []
         for field, part in sorted(self.parts.items()):
-            near = field
-            if field not in self.minutes:
-                near = field + 1 if field + 1 in self.minutes else field - 1
-            most = WEIGHTS[passes[field - 1][0]]
+            near = next((near for near in (field, field + 1) if near in self.minutes), field - 1)
             for value, lines in self.minutes.get(near, {}).items():
                 # a number that is joined of two is as sure as the less sure one
-                weight = min(self.codes.weight(near, lines), most)
-                joined = known.setdefault(lines, (16,) + lines) if near == field else (16,)
-                readings.append(Reading(field, value * self.whole + part, weight, joined))
+                weight = min(self.codes.weight(near, lines), self.codes.weight(field, (16,)))
+                readings.append(Reading(field, value * self.whole + part, weight,
+                                        (16,) + lines if near == field else (16,)))
         return readings
 
     def with_voted(self, readings: List[Reading], judged: JudgedSide) -> List[Reading]:
         """These readings, and the times of fields without a minute to which the library gave one by vote."""
-        known = {one.field for one in readings}
         more = [Reading(field, number, self.codes.weight(field, (16,)), (16,))
-                for field in self.parts.keys() - known for number, state in [judged.numbers[field - 1]]
+                for field in self.parts.keys() - {one.field for one in readings}
+                for number, state in [judged.numbers[field - 1]]
                 if number is not None and state in (State.believed, State.doubtful)]
         return sorted(readings + more) if more else readings
-
-    def nearest(self, due: int, field: int) -> int:
-        """The time with this field's second and picture that is nearest to the one that is due."""
-        half = self.whole // 2
-        return due + (self.parts[field] - due + half) % self.whole - half
 
     def of_line(self, line: Line, fields: List[int]) -> List[Reading]:
         """The times of these fields of a line, in which only the second and the picture were read."""
@@ -88,19 +75,23 @@ def numbers_of(codes: Codes) -> Found:
 
 def _pictures_of(codes):
     """The picture numbers of a CAV side, or of one without codes of either format."""
-    system = codes.fields.system
     judged, detours = without_replaced(judged_of(codes.fields, Counted.pictures))
     known = codes.readings(codes.kinds[Kind.picture])
     if not known:
-        return Found(Numbers(Unit(None, RATES[system]), None, [], set(), judged=judged), [])
+        return _nothing(codes.fields, judged)
     pace = pace_of(judged)
     readings = without_rows(known, detours, judged, pace)
     # a field with a chapter is the second one of its picture, unless both have the number
     others = set() if pace.kind == "both" else codes.sure_fields(Kind.chapter)
-    unit, believed = Unit("picture", RATES[system]), anchored(readings, pace, judged)
+    unit, believed = Unit("picture", RATES[codes.fields.system]), anchored(readings, pace, judged)
     numbers = Numbers(unit, pace, believed, others, judged=judged)
     numbers = with_turned(with_speeds(numbers, readings), readings)
     return Found(with_swaps(numbers, readings, {reading.field for reading in readings}), known)
+
+
+def _nothing(fields, judged, times=None):
+    """What is found of a side without a number."""
+    return Found(Numbers(Unit(None, RATES[fields.system]), None, [], set(), judged=judged), [], times)
 
 
 # ---- Times
@@ -117,15 +108,11 @@ def _times_of(codes):
 
 def _minutes_alone(times):
     """The minutes of a side without a second that can be joined to one."""
-    codes, system = times.codes, times.codes.fields.system
-    readings = [Reading(field, value, codes.weight(field, lines), lines)
-                for field, values in times.minutes.items() for value, lines in values.items()]
+    fields, readings = times.codes.fields, times.codes.readings(times.minutes)
     if not readings:
-        return Found(Numbers(Unit(None, RATES[system]), None, [], set(),
-                             judged=judged_of(codes.fields, Counted.times)), [], times)
-    pace = MinutePace(system)
-    numbers = Numbers(Unit("minute", RATES[system]), pace, chain(readings, pace), set())
-    return Found(numbers, readings, times)
+        return _nothing(fields, judged_of(fields, Counted.times), times)
+    pace = MinutePace(fields.system)
+    return Found(Numbers(Unit("minute", times.rate), pace, chain(readings, pace), set()), readings, times)
 
 
 def _believed(times, readings):
@@ -141,20 +128,20 @@ def _believed(times, readings):
     numbers = Numbers(Unit("time", times.rate), pace, believed, others, judged=judged)
     more = _completions(times, numbers, known)
     if more:
-        numbers = numbers.believing(anchored(sorted(known + more, key=lambda one: one.field), pace, judged))
+        numbers = numbers._replace(believed=anchored(sorted(known + more, key=lambda one: one.field), pace, judged))
     numbers = with_swaps(with_speeds(numbers, known, times.of_line), known, times.parts)
     completed = frozenset(reading.field for reading in numbers.believed if reading.lines == (16,))
     return Found(numbers._replace(completed=completed), readings, times)
 
 
 def _completions(times, numbers, readings):
-    """The times of fields whose minute isn't believed: each second and picture with the minute that brings it nearest
-    to a believed time beside it."""
+    """The times of fields whose minute isn't believed, with the minute that brings them nearest to one beside them."""
     more, said = [], {(reading.field, reading.number) for reading in readings}
+    most = CARRIED * times.rate
     for field in sorted(times.parts.keys() - numbers.taken.keys()):
         dues = [near.number + (field - near.field) // 2 for near in numbers.around(field) if near]
-        found = {number for due in dues for number in [times.nearest(due, field)]
-                 if abs(number - due) <= CARRIED * times.rate}
+        found = {due - most + off for due in dues for off in [(times.parts[field] - due + most) % times.whole]
+                 if off <= 2 * most}
         more += [Reading(field, number, times.completed_weight(field, number), (16,)) for number in sorted(found)
                  if number >= 0 and (field, number) not in said]
     return more

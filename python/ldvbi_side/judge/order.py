@@ -1,9 +1,9 @@
 """Numbers that the chain sets aside, or takes for stills or breaks, since they come in another order than the disc's:
-turned by hand; in stretches that were played at another speed, whose numbers go by in other steps, backwards, or three
-times each; and in fields that a capture has written in each other's place, so that a number stands one field before or
-after its own."""
+turned by hand; played at another speed, in other steps, backwards, or three times each; and in fields that a capture
+has written in each other's place, so that a number stands one field before or after its own."""
 
 import bisect
+import itertools
 import math
 import operator
 from collections import Counter
@@ -26,36 +26,33 @@ def with_turned(numbers: Numbers, readings: List[Reading]) -> Numbers:
     """These numbers, and those that a disc showed while it was turned by hand: near those before and after them, among
     breaks that are as near. The chain passes over them if two others fit by chance."""
     aside = numbers.aside(readings) if numbers.believed else []
-    near = [one for one, before, after in numbers.beside(aside) if _is_turned(one, before, after)]
+    near = [one for one in aside if _is_turned(one, *numbers.around(one.field))]
     if not near:
         return numbers
     marks = sorted([one.field for one in near] + _turns(numbers))
     more = {one.field: one for one in near if
             bisect.bisect(marks, one.field + TURNED) - bisect.bisect_left(marks, one.field - TURNED) > SIGNS}
-    return numbers.believing(sorted(numbers.believed + list(more.values()), key=lambda one: one.field)
-                             ) if more else numbers
+    return numbers._replace(believed=sorted([*numbers.believed, *more.values()])) if more else numbers
 
 
 def _turns(numbers):
     """The fields of believed readings that don't go on from the one before, and whose numbers are near."""
-    turns, last = [], None
+    turns, still = [], None  # the place of the last number that stayed
     for place in numbers.odd_places:
         before, after = numbers.believed[place - 1:place + 1]
         off = numbers.off(before, after)
-        is_still = last == place - 1
-        if abs(after.number - before.number) <= TURN and (off or off is None and not is_still):
+        if abs(after.number - before.number) <= TURN and (off or off is None and still != place - 1):
             turns.append(after.field)
-        last = place if off is None else None
+        still = place if off is None else None
     return turns
 
 
-def _is_turned(one, before, after):
-    """Whether a number is near the believed ones around it, and is read in pass 1 or on two lines, or is one of
-    these."""
-    for other in (before, after):
-        if other and (abs(one.field - other.field) > TURNED or abs(one.number - other.number) > TURN):
-            return False
-    return one.weight >= WEIGHTS[1] or any(other and one.number == other.number for other in (before, after))
+def _is_turned(one, *around):
+    """Whether a number is near those believed around it, and is read in pass 1 or on two lines, or is one of these."""
+    others = [other for other in around if other]
+    return all(abs(one.field - other.field) <= TURNED and abs(one.number - other.number) <= TURN
+               for other in others) and (
+        one.weight >= WEIGHTS[1] or any(one.number == other.number for other in others))
 
 
 # ---- Other speeds
@@ -71,14 +68,14 @@ def with_speeds(numbers: Numbers, readings: List[Reading],
     lines = _lines(loose, kind == "both") + _slow_lines(stays)
     if not lines:
         return numbers
-    fields, numbers = [one.field for one in readings], numbers.believing(list(numbers.believed))
+    fields, numbers = [one.field for one in readings], numbers._replace(believed=list(numbers.believed))
     for line, ones in sorted(lines, key=lambda found: -sum(one.weight for one in found[1])):
         first, last = _extent(numbers, line, ones)
         if _is_free(numbers.speeds, first, last):
             near = readings[bisect.bisect_left(fields, first):bisect.bisect(fields, last)]
-            ones = _on_line(line, near, kind == "both")
-            known = {one.field for one in near}
-            ones += complete(line, [field for field in range(first, last + 1, 2) if field not in known])
+            read = {one.field for one in near}
+            ones = _on_line(line, near, kind == "both") + complete(
+                line, [field for field in range(first, last + 1, 2) if field not in read])
             numbers = _with_stretch(numbers, Stretch(first, last, line), sorted(ones, key=lambda one: one.field))
     return numbers._replace()
 
@@ -92,19 +89,18 @@ def _is_free(speeds, first, last):
 def _with_stretch(numbers, stretch, ones):
     """These numbers, with those readings of a stretch, if they weigh more than what was believed in its fields and two
     changes of the speed cost. Their lists are changed: to copy these for each stretch would take long."""
-    inside = numbers.believed_in(stretch.first, stretch.last)
-    fields = {one.field for one in ones}
-    if 2 * sum(one.weight for one in inside if one.field not in fields) > sum(one.weight for one in ones):
+    places = numbers.places_in(stretch.first, stretch.last)
+    inside, fields = numbers.believed[places], [one.field for one in ones]
+    known = set(fields)
+    if 2 * sum(one.weight for one in inside if one.field not in known) > sum(one.weight for one in ones):
         return numbers  # as when a disc is turned by hand: it showed other numbers, too
-    before, after = numbers.around(stretch.first)[0], numbers.around(stretch.last)[1]
+    before, after = numbers.around(stretch.first, stretch.last)
     place = bisect.bisect(numbers.speeds, stretch)
     changed = numbers._replace(speeds=numbers.speeds[:place] + (stretch,) + numbers.speeds[place:])
     if _worth(changed, before, ones, after) - 2 * price(1) <= _worth(numbers, before, inside, after):
         return numbers
-    begin, end = bisect.bisect_left(numbers.fields, stretch.first), bisect.bisect(numbers.fields, stretch.last)
-    changed.believed[begin:end] = ones
     changed.fields = numbers.fields
-    changed.fields[begin:end] = [one.field for one in ones]
+    changed.believed[places], changed.fields[places] = ones, fields
     return changed
 
 
@@ -119,51 +115,39 @@ def _worth(numbers, before, ones, after):
 
 
 def _loose(numbers, readings):
-    """The readings that fit neither the one before nor the one after at the disc's own speed, and the believed ones
-    whose number stays."""
+    """The readings that fit no neighbour at the disc's own speed, and the believed ones whose number stays."""
     believed = numbers.believed
     begins, values = [one.field - one.variant for one in believed], numbers.values
     goes_on = [step != 0 and apart == 2 * step for apart, step in
                zip(map(operator.sub, begins[1:], begins), map(operator.sub, values[1:], values))]
     fits = {field for field, before, after in zip(numbers.fields, [False] + goes_on, goes_on + [False])
             if before or after}
-    stays = set()
-    for place in [place for place, is_fit in enumerate(goes_on) if not is_fit]:
-        one, other = believed[place:place + 2]
-        if one.number == other.number and other.variant <= one.variant:
-            stays |= {place, place + 1}
-    return [one for one in readings if one.field not in fits], [believed[place] for place in sorted(stays)]
+    pairs = [believed[place:place + 2] for place, is_fit in enumerate(goes_on) if not is_fit]
+    stays = {one for pair in pairs if pair[0].number == pair[1].number and pair[1].variant <= pair[0].variant
+             for one in pair}
+    return [one for one in readings if one.field not in fits], sorted(stays)
 
 
 def _lines(loose, is_both):
     """The lines on which enough of these readings are, each with its readings."""
-    found, rows = [], []
-    for phase in (0, 1) if len(loose) >= LEAST else ():
+    found = []
+    for step, phase in itertools.product(STEPS, (0, 1)) if len(loose) >= LEAST else ():
         # if both fields of a picture have its number, it begins with an odd one or with an even one
         near = loose if is_both else [one for one in loose if one.field % 2 == phase]
-        rows.append((phase, near, [one.number for one in near], [(one.field - phase) // 2 for one in near]))
-    for step in STEPS:
-        for phase, near, numbers, pictures in rows:
-            for ones in _groups(near, list(map(operator.sub, numbers, map(step.__mul__, pictures)))):
-                begin = ones[0].field - (ones[0].field - phase) % 2
-                found.append((Line(step, 2, begin, ones[0].number), ones))
+        for ones in _groups(near, [one.number - step * ((one.field - phase) // 2) for one in near]):
+            found.append((Line(step, 2, ones[0].field - (ones[0].field - phase) % 2, ones[0].number), ones))
     return found
 
 
 def _groups(readings, keys):
     """The readings that are on a line, as those with the same key are, in groups that are large enough."""
-    counts = Counter(keys)
-    is_often = max(counts.values(), default=0) >= LEAST
-    often = {key for key, count in counts.items() if count >= LEAST} if is_often else ()
+    often = {key for key, count in Counter(keys).items() if count >= LEAST}
     last, groups = {}, []
-    for one, key in zip(readings, keys) if often else ():
-        if key not in often:
-            continue
-        ones = last.get(key)
-        if ones is None or one.field - ones[-1].field > APART:
-            last[key] = ones = []
-            groups.append(ones)
-        ones.append(one)
+    for one, key in [pair for pair in zip(readings, keys) if pair[1] in often] if often else ():
+        if key not in last or one.field - last[key][-1].field > APART:
+            last[key] = []
+            groups.append(last[key])
+        last[key].append(one)
     return [ones for ones in groups if _is_enough(ones)]
 
 
@@ -173,7 +157,7 @@ def _is_enough(ones):
 
 def _slow_lines(stays):
     """The lines of numbers that are shown for three pictures each, among the readings that stay."""
-    found, low, high = [], 0, 0
+    found, low, high = [], 0, 0  # the first and the last field in which 0 would begin
     for one in stays:
         begin = one.field - one.variant - SLOW * one.number
         if found and one.field - found[-1][-1].field <= APART and max(high, begin) - min(low, begin) < SLOW:
@@ -182,18 +166,15 @@ def _slow_lines(stays):
         else:
             low = high = begin
             found.append([one])
-    lines = []
-    for ones in found:
-        if _is_enough(ones):
-            begin = min(one.field - one.variant - SLOW * one.number for one in ones)
-            lines.append((Line(1, SLOW, begin + SLOW * ones[0].number, ones[0].number), ones))
-    return lines
+    begins = [min(one.field - one.variant - SLOW * one.number for one in ones) for ones in found]
+    return [(Line(1, SLOW, begin + SLOW * ones[0].number, ones[0].number), ones)
+            for begin, ones in zip(begins, found) if _is_enough(ones)]
 
 
 def _extent(numbers, line, ones):
     """The fields of a stretch with these readings, up to the pictures in which the speed changes."""
     first, last = ones[0].field, ones[-1].field
-    before, after = numbers.around(first)[0], numbers.around(last)[1]
+    before, after = numbers.around(first, last)
     if line.fields == SLOW:
         return first, last
     if before:
@@ -208,12 +189,8 @@ def _extent(numbers, line, ones):
 
 def _on_line(line, readings, is_both):
     """The readings that are on the line."""
-    ones = []
-    for one in readings:
-        variant = (one.field - line.field) % 2 if is_both else 0
-        if line.has(one._replace(variant=variant)):
-            ones.append(one._replace(variant=variant))
-    return ones
+    found = [one._replace(variant=(one.field - line.field) % 2 if is_both else 0) for one in readings]
+    return [one for one in found if line.has(one)]
 
 
 # ---- Swapped fields
@@ -231,19 +208,17 @@ def with_swaps(numbers: Numbers, readings: List[Reading], shown: Collection[int]
         return numbers
     kept = [one for one in numbers.believed if one.field not in found] + [one for one, _ in found.values()]
     swapped = {field: due for field, (_, due) in found.items() if field != due}
-    return numbers.believing(sorted(kept, key=lambda one: one.field))._replace(swapped=swapped)
+    return numbers._replace(believed=sorted(kept), swapped=swapped)
 
 
 def _off_by_one(numbers, aside):
     """The numbers that stand one field off between two that fit each other, each with the field in which it is due."""
     believed = numbers.believed
-    threes = [believed[place - 1:place + 2] for place in numbers.odd_places if place + 1 < len(believed)]
-    threes = [(before, one, after) for before, one, after in threes
+    places = [place for place in numbers.odd_places if place + 1 < len(believed)]
+    threes = [(one, before, after) for before, one, after in (believed[place - 1:place + 2] for place in places)
               if one.field - before.field != 2 * (one.number - before.number)]
-    threes += [(before, one, after) for one, before, after in numbers.beside(aside)
-               if before and after and before.number < one.number < after.number]
-    for before, one, after in threes:
-        if before.number < one.number < after.number and before.variant == after.variant and (
+    for one, before, after in threes + [(one, *numbers.around(one.field)) for one in aside]:
+        if before and after and before.number < one.number < after.number and before.variant == after.variant and (
                 numbers.fit((before, after))):
             due = before.field + numbers.pace.between(before.number, one.number - before.number, 0, after.variant)
             if abs(due - one.field) == 1:
@@ -258,12 +233,13 @@ def _of_both(numbers, readings):
         if other.number != one.number - 1 or other.field != one.field + 1 or (
                 min(one.weight, other.weight) < WEIGHTS[1]):
             continue
-        before, after = numbers.around(one.field - 1)[0], numbers.around(other.field + 1)[1]
+        around = one.field - 1, other.field + 1
+        before, after = numbers.around(*around)
         if not numbers.fit((before, after)):
             continue
         begin = before.field - before.variant
         places = {one.field: one.field + 1, other.field: one.field}
-        ones = [near for near in numbers.believed_in(one.field - 1, other.field + 1) if near.field not in places]
+        ones = [near for near in numbers.believed[numbers.places_in(*around)] if near.field not in places]
         ones = [(near, places.get(near.field, near.field)) for near in ones + [one, other]]
         if all(near.number == before.number + (due - begin) // 2 for near, due in ones) and (one.field - begin) % 2:
             found.update((near.field, (near._replace(variant=(due - begin) % 2), due)) for near, due in ones)

@@ -2,7 +2,7 @@
 fewer. Numbers that are equal modulo a pace's `period` are placed in the same way."""
 
 import functools
-from typing import Any, NamedTuple, Optional, Union
+from typing import Any, Callable, NamedTuple, Optional, Union
 
 RATES = {"NTSC": 30, "PAL": 25}  # numbers of a second
 # Fields of a minute: at least, in the middle, at most. NTSC has 59.94 in a second, and its clock isn't exact.
@@ -38,8 +38,7 @@ def minute_text(minutes: int) -> str:
 
 
 def price(off: Optional[int]) -> int:
-    """The cost of a break: 1 and the binary digits of the count of fields that are too many or too few. No break costs
-    nothing."""
+    """The cost of a break: 1 and the binary digits of the count of fields that are too many or too few, or nothing."""
     return 1 + abs(off).bit_length() if off else 0
 
 
@@ -86,21 +85,25 @@ class Pace:
         return (2 * fields + 1) // 5 if self.kind == "film" else fields // 2
 
 
-class MinutePace:
-    """The pace of minutes, each of which stands on all its fields. A minute has about `fields` of them, at least
-    `shortest` and at most `longest`."""
-    kind, variants, change, period, least, steps = "minute", 1, 0, 1, 1, (0, -1)
-
-    def __init__(self, system: str) -> None:
-        self.shortest, self.fields, self.longest = MINUTE_FIELDS[system]
+class _LongPace:
+    """A pace of numbers that stay for many fields. Its members are as those of `Pace`."""
+    steps, variants = (0, -1), 1
+    off: Callable[..., int]
 
     def row(self, field: int, number: int) -> int:
-        """As `Pace` has it."""
         return number
 
     def least_off(self, fields: int, number: int, step: int) -> int:
-        """As `Pace` has it."""
         return self.off(fields, number, step)
+
+
+class MinutePace(_LongPace):
+    """The pace of minutes, each of which stands on all its fields. A minute has about `fields` of them, at least
+    `shortest` and at most `longest`."""
+    kind, least = "minute", 1
+
+    def __init__(self, system: str) -> None:
+        self.shortest, self.fields, self.longest = MINUTE_FIELDS[system]
 
     def off(self, fields: int, number: int, step: int, variant: int = 0, other: int = 0) -> int:
         return fields - step * self.fields if step < 0 or self.least_wrong(fields, step) else 0
@@ -115,23 +118,13 @@ class MinutePace:
         return min(fields - few, 0) or max(fields - many, 0)
 
 
-class ChapterPace:
+class ChapterPace(_LongPace):
     """The pace of chapters, which have any length. The next chapter is no break. Each one that is passed over counts as
     a picture would. Going back counts as all 80 would, since that can't be without a break of the pictures' numbers.
-    One chapter that is passed over in many fields may have been there without being read. The numbers here are 100
-    times the count of breaks up to the field, plus the chapter: at such a break any chapter may follow, for the least
-    price."""
-    kind, variants, change, period, steps = "chapter", 1, 0, 100, (0, -1)
+    One chapter that is passed over in many fields may have been there without being read. A number here is 100 times
+    the count of breaks up to its field, plus the chapter: at a break any chapter may follow, for the least price."""
     ALL = 80  # chapters, 0 to 79
     MANY = 18  # fields
-
-    def row(self, field: int, number: int) -> int:
-        """As `Pace` has it."""
-        return number
-
-    def least_off(self, fields: int, number: int, step: int) -> int:
-        """As `Pace` has it."""
-        return self.off(fields, number, step)
 
     def off(self, fields: int, number: int, step: int, variant: int = 0, other: int = 0) -> int:
         chapters = (number + step) % 100 - number % 100

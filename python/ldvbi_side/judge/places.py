@@ -2,14 +2,13 @@
 one side and the start of another."""
 
 import bisect
-import functools
 import operator
 from collections import Counter
-from typing import Any, Callable, Dict, Iterable, List, NamedTuple, Set, Tuple, cast
+from typing import Any, Dict, List, NamedTuple, Set, Tuple
 
 from ldvbi import ClockKind, Kind
 from .believed import Numbers, off_at_speed, passed_between
-from .clock import Gap, left_out_in, open_in
+from .clock import left_out_in, open_in
 from .paces import MinutePace, Pace
 from .readings import Codes, Reading
 
@@ -36,22 +35,13 @@ class Break(NamedTuple):
     fields: int
 
 
-_showing = cast(Callable[[Iterable[Any]], Showing], functools.partial(tuple.__new__, Showing))
-
-
-def showings_of(numbers: Iterable[Any], firsts: Iterable[int], lasts: Iterable[int]) -> List[Showing]:
-    """The showings of these numbers, from these fields to these. There are many."""
-    return list(map(_showing, zip(numbers, firsts, lasts)))
-
-
 class Places(NamedTuple):
     """Where the numbers of a side are. `showings`, `breaks` and `stills` have them as counts. `joins` are the readings
     between which another side begins. `due` are pairs of a number that isn't there and the field that it belongs in.
-    `without_field` are missing numbers whose field is unknown although no field was lost. `open` are missing numbers in
-    whose place only other codes were seen, or which an unknown clock may leave out. `unshown` are those that the disc
-    doesn't show, and `left_out` those that its clock leaves out. `number_of` has the number of each field that shows
-    one or in which one is due. `confirmed` are the fields whose number was due and counts as shown, since it is the
-    nearest word of their lines."""
+    `without_field` are missing numbers whose field is unknown although no field was lost. Of those that are `open` only
+    other codes were seen in their place, or an unknown clock may leave them out; `unshown` are those that the disc
+    doesn't show, `left_out` those that its clock leaves out. `number_of` has the number of each field that shows one or
+    in which one is due. `confirmed` are the fields whose number was due and is the nearest word of their lines."""
     numbers: Numbers
     showings: List[Showing]
     breaks: List[Break]
@@ -99,11 +89,6 @@ def places_of(numbers: Numbers, codes: Codes) -> Places:
     away = {step.place for step in joined if step.after.number >= step.before.number}
     steps = [step._replace(kind="join") if step.place in away else step for step in steps]
     due, without_field, unshown, unseen = _due(numbers, steps, codes)
-    # if both lines show another number surely, none is due
-    others = {one: said for one in due for said in [codes.sure_picture(one[1])] if said is not None}
-    for (number, field), said in others.items():
-        (unseen if _is_played(codes, field, said) else without_field).add(number)
-    due = [one for one in due if one not in others] if others else due
     unseen |= _open(numbers, steps) if codes.fields.system == "NTSC" and numbers.unit.name == "time" else set()
     showings = _showings(numbers, steps)
     breaks = [_break(numbers, step.before, step.after, step.off) for step in steps if step.kind == "break"]
@@ -111,8 +96,8 @@ def places_of(numbers: Numbers, codes: Codes) -> Places:
         breaks += _minute_breaks(numbers.pace, showings, ends)
     number_of = {**{field: number for number, field in due}, **numbers.taken}
     return Places(numbers, showings, sorted(breaks, key=lambda one: one.after),
-                  [(step.before, step.after) for step in joined], _stills(steps), due, without_field, unseen, unshown,
-                  _left_out(numbers, steps), number_of)
+                  [(step.before, step.after) for step in joined], _stills(showings, steps), due, without_field, unseen,
+                  unshown, _left_out(numbers, steps), number_of)
 
 
 def _begin_of_last(values):
@@ -140,58 +125,57 @@ def _step(numbers, place):
 
 
 def _showings(numbers, steps):
-    showings = showings_of(numbers.values, numbers.fields, numbers.fields)
-    same = [step.place for step in steps if step.kind == "same"]
-    for place in reversed(same):
-        number, first, _ = showings[place - 1]
-        showings[place - 1] = _showing((number, first, showings[place].last))
-    again = set(same)
-    return [one for place, one in enumerate(showings) if place not in again] if again else showings
+    same, fields = {step.place for step in steps if step.kind == "same"}, numbers.fields
+    begins = [place for place in range(len(fields)) if place not in same]
+    firsts, lasts = fields, fields
+    if same:
+        firsts, lasts = ([fields[place] for place in places] for places in (
+            begins, [place - 1 for place in begins[1:] + [len(fields)]]))
+    return list(map(Showing, [numbers.values[place] for place in begins], firsts, lasts))
 
 
-def _stills(steps):
+def _stills(showings, steps):
     """The numbers that stand still, each with its fields."""
-    stills, begin, last = [], None, None  # the first field of the last showing, and the place of its step
-    for step in steps:
-        if last != step.place - 1:
-            begin = step.before.field
-        is_still = bool(stills) and stills[-1].last == step.before.field
-        if is_still and step.kind in ("same", "still"):
-            stills[-1] = stills[-1]._replace(last=step.after.field)
-        elif step.kind == "still":
-            stills.append(Showing(step.after.number, begin, step.after.field))
-        if step.kind != "same":
-            begin = step.after.field
-        last = step.place
+    stays, stills = {step.after.field for step in steps if step.kind == "still"}, []
+    for before, one in zip(showings, showings[1:]) if stays else ():
+        if one.first in stays and stills and stills[-1].last == before.last:
+            stills[-1] = stills[-1]._replace(last=one.last)
+        elif one.first in stays:
+            stills.append(Showing(one.number, before.first, one.last))
     return stills
 
 
 def _due(numbers, steps, codes):
     """The numbers between those that fit, each with the field in which it is due; those that no field is for; those
     that the disc doesn't show; and those in whose place nothing was seen but other codes."""
-    found, spacing = [], _spacing_of(numbers)
+    found, due, spacing = [], [], _spacing_of(numbers)
     without_field, unshown, unseen = set(), set(), set()
     for _, before, after, kind, _ in steps:
         if kind == "speed":
             found += passed_between(numbers, before, after)
         elif kind == "next" and after.number - before.number > 1:
             if isinstance(numbers.pace, Pace):
-                due = _due_between(numbers, before, after)
+                between = _due_between(numbers, before, after)
                 if spacing > 1:
-                    empty = {number for number, field in due if (number - before.number) % spacing and
+                    empty = {number for number, field in between if (number - before.number) % spacing and
                              codes.fields.causes[field - 1][0] == "blank"}
                     unshown |= empty
-                    due = [one for one in due if one[0] not in empty]
+                    between = [one for one in between if one[0] not in empty]
                 # film that is turned by hand fits by chance more often, as its pictures have 2 fields or 3
                 if numbers.pace.kind == "film" and numbers.others.issuperset(range(before.field + 1, after.field)):
-                    unseen.update(number for number, _ in due)
+                    unseen.update(number for number, _ in between)
                 else:
-                    found += due
+                    found += between
             else:  # of a minute that wasn't read no field is the first one
                 without_field.update(range(before.number + 1, after.number))
-    # a field that shows a code in the place of a number has none
-    without_field.update(number for number, field in found if field in numbers.others)
-    return [one for one in found if one[1] not in numbers.others], without_field, unshown, unseen
+    for number, field in found:
+        # none is due if both lines show another number surely, or the field a code in the place of a number
+        said, is_other = codes.sure_picture(field), field in numbers.others
+        if said is None and not is_other:
+            due.append((number, field))
+        else:
+            (unseen if not is_other and _is_played(codes, field, said) else without_field).add(number)
+    return due, without_field, unshown, unseen
 
 
 def _is_played(codes, field, said):
@@ -223,14 +207,15 @@ def _left_out(numbers, steps):
 
 def _open(numbers, steps):
     """The numbers of gaps that a clock may have left out, if none was found."""
-    gaps = [Gap(before.number + 1, after.number - 1, -off // 2) for _, before, after, kind, off in steps
-            if kind == "break" and after.number > before.number and off in (-2, -4)]
-    if not gaps or numbers.clock.kind != ClockKind.plain:
+    singles, pairs = ([range(before.number + 1, after.number) for _, before, after, kind, off in steps
+                       if kind == "break" and after.number > before.number and off == few] for few in (-2, -4))
+    if not singles and not pairs or numbers.clock.kind != ClockKind.plain:
         return set()
     ends = [(step.before.number, step.after.number) for step in steps if step.kind not in ("same", "next")]
-    # the first and the last number of each stretch of believed ones that go on from one to the next
-    return open_in(gaps, list(zip([numbers.values[0], *(after for _, after in ends)],
-                                  [*(before for before, _ in ends), numbers.values[-1]])))
+    # from the first to the last number of each stretch of believed ones that go on from one to the next
+    return open_in(singles, pairs, list(map(
+        range, [numbers.values[0], *(after for _, after in ends)],
+        [*(before + 1 for before, _ in ends), numbers.values[-1] + 1])))
 
 
 def _break(numbers, before, after, off):
@@ -258,8 +243,7 @@ def _spacing_of(numbers: Numbers) -> int:
 
 def _minute_breaks(pace: MinutePace, showings: List[Showing], ends: List[int]) -> List[Break]:
     """The minutes that show more fields than they have, and those that have room for fewer: between two others, or of
-    minute 0 between lead-in and minute 1. `ends` are the fields with lead-in or lead-out: another side may begin there.
-    """
+    minute 0 between lead-in and minute 1. At `ends`, fields with lead-in or lead-out, another side may begin."""
     found: List[Break] = []
     for number, first, last in showings:
         many = last - first + 1 - pace.longest

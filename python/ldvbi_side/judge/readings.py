@@ -20,11 +20,12 @@ class Fields(NamedTuple):
     """The whole fields of a side as plain data: the words, passes and causes of lines 16, 17 and 18 of each field, as
     the document of `ldvbi extract` has them, and all of them as the library takes them, in `packed`. A recovered word
     has pass 3, and the cause for which its line shows no word of its own. `cut` is the field in which the side was cut.
-    `first` says of each field whether it is the first one of its frame (`isFirstField` of ld-decode's metadata), or is
-    None if that isn't known. `expected` is the number of fields that the metadata has, or None. `is_strict` says that a
-    side without lead-in or lead-out, or with an unread number, isn't whole, and `may_end` that it may end without
-    lead-out. `nearest_word` finds the nearest words of lines if their samples are at hand, and `try_levels` what other
-    levels would read. `pad` says of each field whether it is padding, or is None if none is."""
+    `first` says of each field whether it is the first one of its frame (`isFirstField`), and `pad` whether it is
+    padding. `expected` is the number of fields that the metadata has. `is_strict` says that a side without lead-in or
+    lead-out, or with an unread number, isn't whole, and `may_end` that it may end without lead-out. If the samples are
+    at hand, `nearest_word` finds the nearest words of lines, and `try_levels` what other levels would read.
+    `given_last` is the number with which the disc is said to end, or the part of a time, as text.
+    `sequential` is the number of fields by the metadata's videoParameters."""
     system: str
     words: List[Tuple[int, int, int]]
     passes: List[Tuple[int, int, int]]
@@ -38,11 +39,12 @@ class Fields(NamedTuple):
     nearest_word: Optional[NearestWord] = None
     try_levels: Optional[Callable[[], Any]] = None
     pad: Optional[List[bool]] = None
+    given_last: Optional[str] = None
+    sequential: Optional[int] = None
 
 
 class Reading(NamedTuple):
-    """A number that a field's lines say, the lines that say it, and what that weighs. `variant` is what a pace leaves
-    open about a number."""
+    """A number that a field's lines say, these lines, and their weight. `variant` is what a pace leaves open of it."""
     field: int
     number: int
     weight: int
@@ -69,9 +71,8 @@ class Unknown(NamedTuple):
 
 
 class Codes(NamedTuple):
-    """The codes of a side. `kinds` has for each kind its fields, and for each of these the values with their lines;
-    `format` is `cav`, `clv` or `neither`; `stray` are the codes that stand where no disc has them, `unknown` the words
-    that are no code."""
+    """The codes of a side: `kinds` has for each kind its fields, and for each of these the values with their lines;
+    `format` is `cav`, `clv` or `neither`; `stray` stand where no disc has them, and `unknown` words are no codes."""
     fields: Fields
     kinds: Dict[Kind, ByField]
     format: str
@@ -95,12 +96,9 @@ class Codes(NamedTuple):
 
     def sure_fields(self, kind: Kind) -> Set[int]:
         """The fields that have a code of this kind on a line of pass 1, or on two lines."""
-        passes, found = self.fields.passes, set()
-        for field, values in self.kinds[kind].items():
-            lines = sum(values.values(), ()) if len(values) > 1 else next(iter(values.values()))
-            if _weight(passes[field - 1], lines) >= WEIGHTS[1]:
-                found.add(field)
-        return found
+        passes = self.fields.passes
+        return {field for field, values in self.kinds[kind].items()
+                if _weight(passes[field - 1], sum(values.values(), ())) >= WEIGHTS[1]}
 
     def readings(self, found: ByField) -> List[Reading]:
         """The values of these fields as readings."""
@@ -121,12 +119,11 @@ class Codes(NamedTuple):
                       key=lambda one: one[2])
 
     def minutes(self) -> ByField:
-        """The minutes of CLV times: the values of each field with their lines. Minutes that no clock shows are left
-        out."""
-        shown = {field: values if None not in values else {
-            value: lines for value, lines in values.items() if value is not None}
-                 for field, values in self.kinds[Kind.time].items()}
-        return {field: values for field, values in shown.items() if values}
+        """The minutes of CLV times that a clock shows: the values of each field with their lines."""
+        shown = self.kinds[Kind.time]
+        kept = {field: {value: lines for value, lines in values.items() if value is not None}
+                for field, values in shown.items() if None in values}
+        return {field: values for field, values in {**shown, **kept}.items() if values}
 
 
 @functools.lru_cache(maxsize=None)
@@ -142,10 +139,11 @@ def codes_of(fields: Fields) -> Codes:
     stray = [_stray(fields, field, line, "line") for field, line, is_code in aside if is_code]
     unknown = [Unknown(field, line, *_said(fields, field, line)) for field, line, is_code in aside if not is_code]
     name, others = _format_of(kinds)
+    codes = Codes(fields, kinds, name, stray, unknown)
     for kind in others:
-        stray += Codes(fields, kinds, name, [], []).strays(kind, kinds[kind], "format")
+        stray += codes.strays(kind, kinds[kind], "format")
         kinds[kind] = {}
-    return Codes(fields, kinds, name, stray, unknown)
+    return codes
 
 
 class _Known(Dict[int, Any]):
@@ -166,8 +164,7 @@ class _Known(Dict[int, Any]):
 
 
 def _collected(words):
-    """Of each kind its fields with what they say; and the lines whose word stands where no disc has it, each with
-    whether it is a code at all."""
+    """Of each kind its fields with what they say; and the lines whose word no disc has there, and if it is a code."""
     kinds, aside = {kind: {} for kind in STANDARD_LINES}, []
     first, second, third, both = [_Known(kinds, lines) for lines in ((16,), (17,), (18,), (17, 18))]
 
@@ -193,11 +190,7 @@ def _collected(words):
         if number is not None and other is not None:
             pictures[field] = {number: on_both} if number == other else {number: second.lines, other: third.lines}
         elif two and two == three:
-            fields, said, _ = known = both[two]
-            if said is None or field in fields:
-                take(field, known)
-            else:  # of most fields nothing more is to be done
-                fields[field] = said
+            take(field, both[two])
         else:
             if two:
                 take(field, second[two])

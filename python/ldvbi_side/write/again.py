@@ -33,7 +33,7 @@ def _breaks(made: Plan, capture: Capture) -> List[str]:
     for one in capture.breaks:
         if not left_out.isdisjoint(range(capture.ordinal(one.from_) + 1, capture.ordinal(one.to))):
             explained.update(range(one.after, one.before + 1))
-    spans = {(one.after, one.before) for one in capture.answer.lost}
+    spans = {(one.after, one.before) for one in capture.answer.lost if one.before <= made.fields}
     spans.update((one.after, one.before) for one in capture.breaks)
     return ["a break between fields %d and %d" % span for span in sorted(spans)
             if span[0] >= begin and explained.isdisjoint(range(span[0], span[1] + 1))]

@@ -3,6 +3,7 @@
 from typing import Any, Callable, Dict, List, Set
 
 from ..answer.entries import Extent, frame_of
+from ..answer.whole import whole_of
 from ..join import entries
 from ..join.captures import TOGETHER, Capture
 from ..join.disagreements import Part, disagreements_of, disputed_in
@@ -11,11 +12,14 @@ from ..join.lacking import CLOCK, lacking_in, stretches_with
 from ..join.others import refuse_other_discs, shown_by
 from ..join.piles import read_together
 from ..join.standing import ALIKE, ALONE, BETTER, Standing, standings_of
+from ..judge.clock import left_out_in
 from ..judge.paces import Unit
+from .marks import chapters_at, stops_at
 from .plan import Plan, planned, refuse_unwritable
 from .said import outcome_of
 from .sources import Source
 from .taken import Taken, taken_of
+from .whole import grounds_of, lasts_of
 
 VERSION = 1  # of the answer's form
 
@@ -30,19 +34,31 @@ def join(captures: List[Capture]) -> Joined:
     taken, piled = taken_of(made, captures), read_together(captures, disputed)
     standings, left_out = standings_of(captures, disputed), set(made.left_out)
     first, last = taken[0].number, taken[-1].number
+    rows = [entries.Source(unit.text_of(one.number), one.capture.name, one.field,
+                           frame_of(one.field, one.capture.answer.frame_begin),
+                           TOGETHER if one.number in piled else one.how) for one in taken]
+    missing = lacking_in(captures, [*(number for number in made.padded if first < number < last),
+                                    *_beyond(captures, last)])
+    grounds = grounds_of(captures, made, rows, missing)
     return Joined(
-        VERSION, captures[0].answer.system, captures[0].answer.format, unit.name, shown_by(captures),
+        VERSION, whole_of(grounds), grounds, captures[0].answer.system, captures[0].answer.format, unit.name,
+        shown_by(captures),
         [_of_capture(one) for one in captures], Extent(len(taken), unit.text_of(first), unit.text_of(last)),
-        lacking_in(captures, [number for number in made.padded if first < number < last]),
-        _skipped(made, first, last, unit),
+        missing, _skipped(made, first, last, unit),
         [one for capture in captures for one in _lacks(capture, captures, taken, left_out)],
         _shown(ALONE, standings, unit, left_out), _shown(BETTER, standings, unit, left_out),
         [Alike(*one[:3]) for one in _standing_so(ALIKE, standings, lambda _: None, unit, left_out)],
         [Dispute(one.why, [_told(one.one, unit), _told(one.other, unit)]) for one in found],
-        [entries.Source(unit.text_of(one.number), one.capture.name, one.field,
-                        frame_of(one.field, one.capture.answer.frame_begin),
-                        TOGETHER if one.number in piled else one.how) for one in taken],
-        _ranges(made, captures, unit), _written(made, captures))
+        rows, _ranges(made, captures, unit), chapters_at(captures, taken, made), stops_at(captures, taken, unit),
+        _written(made, captures), made.fields)
+
+
+def _beyond(captures: List[Capture], last: int) -> List[int]:
+    """The numbers after this one, up to the one that is given as the disc's last. Those that its clock leaves out
+    aren't among them."""
+    end = min((one.number for one in lasts_of(captures)), default=last)
+    left_out: Set[int] = set().union(*(left_out_in(one.clock, last + 1, end) for one in captures))
+    return [number for number in range(last + 1, end + 1) if number not in left_out]
 
 
 def _written(made: Plan, captures: List[Capture]) -> str:

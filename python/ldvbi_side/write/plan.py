@@ -4,7 +4,7 @@ It is pure: no file is read. docs/ANSWER.md has its rules."""
 from typing import Dict, List, NamedTuple, Optional, Sequence, Set, Tuple
 
 from ldvbi.collector import paused
-from ..answer.ends import first_of
+from ..answer.ends import FIRST
 from ..join.captures import Capture
 from ..join.disagreements import Disagreement, disagreements_of, disputed_in
 from ..join.others import refuse_other_discs
@@ -87,6 +87,7 @@ def planned(sources: Sequence[Source], disagreements: Sequence[Disagreement], wa
     known = Known(ranks, Lengths(following), _extent_of(captures, disputed, ranks, wanted.start),
                   agreed_ends(following, -1), agreed_ends(following, 1))
     runs = _runs_of(following, known, disputed, wanted.sure)
+    del following  # of which a long side has much
     if not runs:
         raise ValueError("no number is sure enough to be taken")
     first = min(run.first() for run in runs)
@@ -102,8 +103,10 @@ def _runs_of(captures: Sequence[Followed], known: Known, disputed: Set[Tuple[str
     found = [runs_of(place, one, known, {field for name, field in disputed if name == one.source.capture.name}, is_sure)
              for place, one in enumerate(captures)]
     runs = [run for ones in found for run in ones]
-    if is_sure or not any(one.aside.sure for one in captures):
+    if is_sure or not runs or not any(one.aside.sure for one in captures):
         return runs
+    # one outside of all others would have padding up to them
+    known = known._replace(extent=range(min(run.first() for run in runs), max(run.end() for run in runs)))
     having = {rank for run in runs for block in run.blocks if not block.lead + block.trail
               for rank in range(block.rank, block.end())}
     return runs + [run for place, one in enumerate(captures)
@@ -138,7 +141,7 @@ def _extent_of(captures: List[Capture], disputed: Set[Tuple[str, int]], ranks: R
     unit = captures[0].unit()
     read = [place.number for capture in captures for place in capture.places
             if (capture.name, place.field) not in disputed]
-    begin = first_of(unit.name, unit.rate) if unit.name != "time" else 0
+    begin = FIRST[unit.name] if unit.name != "time" else 0
     return range(ranks.of(min(begin, min(read), *([] if start is None else [start]))), ranks.of(max(read)) + 1)
 
 

@@ -35,14 +35,19 @@ def outcome_of(made: Plan, answer: Optional[Answer] = None, otherwise: Sequence[
 
 def _of_numbers(made: Plan, numbers: List[int], one: str, several: str) -> List[str]:
     """What is so of these numbers; nothing of none."""
+    return [numbers_text(made, numbers, one, several)] if numbers else []
+
+
+def numbers_text(made: Plan, numbers: List[int], one: str, several: str) -> str:
+    """The same as one text, which is empty for none."""
     if not numbers:
-        return []
+        return ""
     text_of, spans = made.count_unit().text_of, spans_of(sorted(set(numbers)))
     shown = ["%s" % text_of(first) if first == last else "%s to %s" % (text_of(first), text_of(last))
              for first, last in spans[:MOST]]
     shown += ["%d more" % (len(spans) - MOST)] * (len(spans) > MOST)
     count = len(set(numbers))
-    return ["%s %s (%s)" % (counted(count, made.unit), one if count == 1 else several, ", ".join(shown))]
+    return "%s %s (%s)" % (counted(count, made.unit), one if count == 1 else several, ", ".join(shown))
 
 
 def seam_lines(made: Plan) -> Iterator[str]:

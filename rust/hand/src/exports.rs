@@ -4,7 +4,7 @@
 //! it says, or to one value. It may be null only if the length is 0.
 #![allow(clippy::missing_safety_doc)]
 use crate::c::{self, LdvbiClock, LdvbiCode, LdvbiErased, LdvbiFieldReadings, LdvbiNear, LdvbiReading, LdvbiRecord};
-use crate::c::LdvbiSought;
+use crate::c::{LdvbiPlace, LdvbiSought};
 use crate::side::{Capture, Checked, Finding, Gap, Number, Sightings, Stretch};
 use std::mem::size_of;
 use std::slice::{from_raw_parts, from_raw_parts_mut};
@@ -13,7 +13,7 @@ use std::slice::{from_raw_parts, from_raw_parts_mut};
 const MOST: usize = isize::MAX as usize;
 
 // LdvbiSide, as include/ldvbi.h has it. Of the other structs the source says so.
-const _: () = assert!(size_of::<Finding>() == 128);
+const _: () = assert!(size_of::<Finding>() == 152);
 
 unsafe fn values<'a, T>(start: *const T, count: usize) -> &'a [T] {
     if count == 0 {
@@ -106,7 +106,11 @@ exports! {
     fn ldvbi_complete_times(system: u32, readings: &[LdvbiFieldReadings], seen: &mut [Sightings],
         completed: &mut [LdvbiFieldReadings]) -> u32;
     fn ldvbi_judge_chapters(readings: &[LdvbiFieldReadings], seen: &mut [Sightings], chapters: &mut [Number]) -> u32;
+    fn ldvbi_seek_chapter(system: u32, black: u32, white: u32, bytes: &[u8], chapter: u32,
+        place: &mut LdvbiPlace) -> u32;
     fn ldvbi_judge_stops(readings: &[LdvbiFieldReadings], stops: &mut [u32]) -> u32;
+    fn ldvbi_next_stop(system: u32, black: u32, white: u32, bytes: &[u8], field: usize, most: usize,
+        stop: &mut LdvbiPlace) -> u32;
     fn ldvbi_judge_ends(readings: &[LdvbiFieldReadings], ends: &mut [u32]) -> u32;
     fn ldvbi_find_both(numbers: &[Number]) -> u32;
     fn ldvbi_judge_side(system: u32, counted: u32, pace: u32, both: u32, may_end: u32, seen: &[Sightings],

@@ -71,31 +71,20 @@ impl Side<'_> {
         self.told(index).and_then(|told| u32::try_from(told).ok()).filter(|chapter| i64::from(*chapter) < LEAD_OUT)
     }
 
-    /// The first field of the next chapter after that of this field, if halving finds one.
+    /// The field in which the next chapter after that of this field begins, if halving finds one.
     pub fn next_chapter(&self, index: usize) -> Option<Field> {
-        let least = u32::try_from(self.told(index)? + 1).ok()?;
-        self.field(self.first_from(least)?)
+        let (first, _) = self.first_from(u32::try_from(self.told(index)? + 1).ok()?)?;
+        self.field(first)
     }
 
-    /// The first field of the chapter before that of this field, if halving finds one.
+    /// The field in which the chapter before that of this field begins, if halving finds one.
     pub fn previous_chapter(&self, index: usize) -> Option<Field> {
-        let first = self.first_from(self.chapter(index)?)?;
-        let chapter = self.chapter(first.checked_sub(1)?)?;
-        self.field(self.first_from(chapter)?)
+        self.field((0..self.chapter(index)?).rev().find_map(|chapter| self.begin_of(chapter))?)
     }
 
-    /// The first field of this chapter, or of a later one, by halving.
-    pub(crate) fn first_from(&self, least: u32) -> Option<usize> {
-        let (mut low, mut high) = (0, self.len());
-        while low < high {
-            let middle = low + (high - low) / 2;
-            if self.told(middle)? < i64::from(least) {
-                low = middle + 1;
-            } else {
-                high = middle;
-            }
-        }
-        self.chapter(low).map(|_| low)
+    /// The field in which this chapter begins, or the next one that halving finds, and which it is.
+    pub(crate) fn first_from(&self, least: u32) -> Option<(usize, u32)> {
+        (least..LEAD_OUT as u32).find_map(|chapter| Some((self.begin_of(chapter)?, chapter)))
     }
 
     /// What the fields up to this one tell of its chapter.

@@ -34,7 +34,8 @@
 //! assert_eq!(side.seek(Place::Picture(79999)), None);
 //!
 //! // From there the player stops at picture 25.
-//! assert_eq!(side.stops(41).next().map(|field| field.index), Some(50));
+//! assert_eq!(side.next_stop(41, 100).map(|field| field.index), Some(50));
+//! assert_eq!(side.next_stop(41, 9), None);
 //!
 //! // The capture is whole. It may end before the disc does, so it needn't show lead-out.
 //! let options = SideOptions { may_end: true, ..SideOptions::new(Counted::Pictures) };
@@ -123,7 +124,7 @@ pub use crate::near::Near;
 pub use crate::opened::OpenError;
 pub use crate::plans::{check_plan, Layout, PlanFault, Rule, Spacing, Stretch};
 pub use crate::side::{Counted, Tally};
-pub use crate::sides::{Field, Number, Place, Side};
+pub use crate::sides::{Beside, Field, Neighbour, Number, Place, Side};
 pub use crate::whole::{Clock, Gap, GapKind, Reason, SideOptions, Verdict, Whole};
 pub use crate::words::{
     classify, draw_line, format_of, Code, Format, Levels, LevelsFault, Outcome, Reading, System, Word24, WordFault,
@@ -135,5 +136,5 @@ pub use crate::words::{
 pub mod program {
     pub use crate::cli::{do_command, read_words, settle, status, AppFault, Input, Job, Source, WordsFault};
     pub use crate::field::Outlet;
-    pub use crate::meta::META_LIMIT;
+    pub use crate::meta::{MetaFault, META_LIMIT};
 }

@@ -7,7 +7,7 @@
 mod system;
 
 use ldvbi::program::{
-    do_command, read_words, settle, status, AppFault, Input, Job, Outlet, Source, WordsFault, META_LIMIT,
+    do_command, read_words, settle, status, AppFault, Input, Job, MetaFault, Outlet, Source, WordsFault, META_LIMIT,
 };
 use std::fs::File;
 use std::io::{ErrorKind, Read, Write};
@@ -38,7 +38,7 @@ fn run() -> u8 {
     };
     match run_with_files(&job) {
         Ok(status) => status,
-        Err(fault) => complain(fault, 1),
+        Err(fault) => complain(&fault, 1),
     }
 }
 
@@ -51,8 +51,11 @@ fn help(text: &str) -> u8 {
 }
 
 /// Opens what the job names, does the job, and returns the status.
-fn run_with_files(job: &Job) -> Result<u8, &'static str> {
-    let meta = metadata_of(job)?;
+fn run_with_files(job: &Job) -> Result<u8, String> {
+    let beside = name_beside(job);
+    let meta = metadata_of(job, beside.as_deref())?;
+    // A fault is the file's that nobody named only if there is one.
+    let beside = beside.filter(|_| meta.is_some());
     let mut input = match &job.input {
         None => Input::Standard(Stream::input()),
         Some(path) => Input::File(File::open(path).map_err(|_| "cannot open input")?),
@@ -65,19 +68,38 @@ fn run_with_files(job: &Job) -> Result<u8, &'static str> {
         }
         Err(fault) => Err(AppFault::Meta(fault)),
     };
-    if let Err(fault) = &ended {
-        complain(&fault.to_string(), 1);
+    match (&ended, &beside) {
+        (Err(AppFault::Meta(fault)), Some(name)) if is_in_metadata(fault) => {
+            complain(&format!("{name}: {fault}"), 1);
+        }
+        (Err(fault), _) => {
+            complain(&fault.to_string(), 1);
+        }
+        _ => {}
     }
     Ok(status(&ended))
 }
 
+/// Whether a fault may be one of the metadata: of the limit of fields it is one of the options, and memory is no fault
+/// of theirs.
+fn is_in_metadata(fault: &MetaFault) -> bool {
+    !matches!(fault, MetaFault::BadMaxFields | MetaFault::OutOfMemory)
+}
+
+/// The name of the metadata that may be beside the job's input, if the job looks there: that of the input, with
+/// `.json` after it.
+fn name_beside(job: &Job) -> Option<String> {
+    let input = job.input.as_ref().filter(|_| job.looks_beside())?;
+    Some(format!("{input}.json"))
+}
+
 /// The bytes of the metadata file that the job names, else of the one beside its input, if there is one.
-fn metadata_of(job: &Job) -> Result<Option<Vec<u8>>, &'static str> {
-    match (&job.meta, &job.input) {
-        (Some(path), _) => metadata(File::open(path)).map(Some),
-        (None, Some(input)) if job.looks_beside() => match file_at(&format!("{input}.json")) {
+fn metadata_of(job: &Job, beside: Option<&str>) -> Result<Option<Vec<u8>>, String> {
+    match (&job.meta, beside) {
+        (Some(path), _) => Ok(Some(metadata(File::open(path))?)),
+        (None, Some(path)) => match file_at(path) {
             Err(error) if is_absent(&error) => Ok(None),
-            opened => metadata(opened).map(Some),
+            opened => metadata(opened).map(Some).map_err(|fault| format!("{path}: {fault}")),
         },
         _ => Ok(None),
     }

@@ -3,6 +3,7 @@
 use crate::lines::Error;
 use crate::meta::{read_meta, settings, MetaFault, Overrides, META_LIMIT};
 use crate::sides::Side;
+use serde_json::Value;
 use std::fs::File;
 use std::io::{self, Read};
 use std::os::unix::io::AsRawFd;
@@ -24,8 +25,9 @@ pub enum OpenError {
 }
 
 impl Side<'static> {
-    /// Maps a TBC file. System and levels are those of ld-decode's metadata beside it, in JSON: `side.tbc.json` for
-    /// `side.tbc`. It is read as the program reads it, and is held in memory meanwhile.
+    /// Maps a TBC file. System, levels and the [fields of padding](Side::with_padding) are those of ld-decode's metadata
+    /// beside it, in JSON: `side.tbc.json` for `side.tbc`. It is read as the program reads it, and is held in memory
+    /// meanwhile.
     ///
     /// The file stays mapped until the process ends. Nobody may make it shorter before: reading what has gone ends the
     /// process by SIGBUS.
@@ -36,12 +38,19 @@ impl Side<'static> {
         let beside = PathBuf::from(beside);
         let text = bytes_of(&beside).map_err(|fault| OpenError::File { path: beside.clone(), fault })?;
         let none = Overrides { system: None, black: None, white: None, max_fields: None };
-        let config = read_meta(&text).and_then(|value| settings(Some(&value), &none));
-        let config = config.map_err(|fault| OpenError::Metadata { path: beside, fault })?;
+        let read = read_meta(&text).and_then(|value| Ok((settings(Some(&value), &none)?, padding_of(&value))));
+        let (config, padding) = read.map_err(|fault| OpenError::Metadata { path: beside, fault })?;
         let bytes = map(path).map_err(|fault| OpenError::File { path: path.to_owned(), fault })?;
         let side = Side::new(bytes, config.system(), config.levels());
-        side.map_err(|fault| OpenError::Side { path: path.to_owned(), fault })
+        let side = side.map_err(|fault| OpenError::Side { path: path.to_owned(), fault })?;
+        Ok(side.with_padding(padding))
     }
+}
+
+/// The fields that the metadata calls padding, counted from 0.
+fn padding_of(metadata: &Value) -> Vec<usize> {
+    let fields = metadata["fields"].as_array().map_or(&[][..], Vec::as_slice);
+    (0..fields.len()).filter(|field| fields[*field]["pad"] == true).collect()
 }
 
 /// Opens a file that nobody may have named. A pipe in its place would have the process wait.

@@ -1,6 +1,6 @@
 //! Sides: what their fields show, which number each field has, where a place is found, and where a player stops.
 
-use crate::c::{self, LdvbiFieldReadings, LdvbiSought};
+use crate::c::{self, LdvbiFieldReadings, LdvbiNeighbour, LdvbiPlace, LdvbiSought};
 use crate::fields::Each;
 use crate::judged::{Judged, FIND_PACE, NO_NUMBER};
 use crate::lines::{check_lines, done, number_of, reading, recover, rows_of, Error};
@@ -76,6 +76,26 @@ impl Place {
     }
 }
 
+/// A believed number beside one that is sought.
+#[derive(Clone, Copy, Debug, PartialEq, Eq)]
+#[non_exhaustive]
+pub struct Neighbour {
+    /// The picture's number, or the pictures from the disc's beginning.
+    pub number: u32,
+    /// Its field, counted from 0: of a lower number the last, of a higher one the first.
+    pub field: usize,
+}
+
+/// The nearest lower and the nearest higher number of the fields in which a number was looked for, if they tell one.
+#[derive(Clone, Copy, Debug, PartialEq, Eq)]
+#[non_exhaustive]
+pub struct Beside {
+    /// The nearest lower one.
+    pub before: Option<Neighbour>,
+    /// The nearest higher one.
+    pub after: Option<Neighbour>,
+}
+
 /// A field of a side.
 #[derive(Clone, Copy, Debug, PartialEq, Eq)]
 #[non_exhaustive]
@@ -92,9 +112,9 @@ pub struct Field {
 /// | Call | Reads |
 /// |---|---|
 /// | `new`, `open`, `len`, `cut_bytes`, `line`, `nearest` | nothing of the side |
-/// | `field`; `fields`, `stops` | one field; each that the iterator yields or stops at, each time |
+/// | `field`; `fields`, `stops`, `next_stop` | one field; each that is yielded or stopped at, each time |
 /// | `number`, `chapter` | at most 97 fields; at most 49 |
-/// | `seek`, `seek_on`, `next_chapter`, `previous_chapter` | at most 1,000 fields, or 49 for each halving |
+/// | `seek`, `seek_on`, `beside`, `next_chapter`, `previous_chapter` | at most 1,000 fields for each place asked for |
 /// | `numbers`, `chapters`, `whole`, `gaps`, `find_clock`, `judged` | the whole side, once |
 ///
 /// What is judged of the whole side is kept, 48 bytes a field, and clones and threads share it. `open` maps a file. If
@@ -105,6 +125,7 @@ pub struct Side<'a> {
     bytes: &'a [u8],
     system: System,
     levels: Levels,
+    padding: Arc<[usize]>,
     // Not a OnceLock, which Rust has from 1.70 on
     kept: Arc<Mutex<Option<Arc<Judged>>>>,
 }
@@ -123,8 +144,14 @@ impl<'a> Side<'a> {
     pub fn new(bytes: &'a [u8], system: System, levels: Levels) -> Result<Side<'a>, Error> {
         match (bytes.len(), system.field_bytes()) {
             (bytes, field) if 0 < bytes && bytes < field => Err(Error::NoField { bytes, field }),
-            _ => Ok(Side { bytes, system, levels, kept: Arc::default() }),
+            _ => Ok(Side { bytes, system, levels, padding: Arc::new([]), kept: Arc::default() }),
         }
+    }
+
+    /// The same side, of which these fields, counted from 0, stand for ones that the capture lacks, as `pad` in
+    /// ld-decode's metadata says. With one of them it isn't whole. Fields that it doesn't have are left out.
+    pub fn with_padding(self, fields: impl IntoIterator<Item = usize>) -> Side<'a> {
+        Side { padding: fields.into_iter().collect(), ..self }
     }
 
     /// The bytes of the cut field at the end, or 0.
@@ -192,6 +219,14 @@ impl<'a> Side<'a> {
         })
     }
 
+    /// The first of these stops, among so many fields at most. None after it is read.
+    pub fn next_stop(&self, from: usize, most: usize) -> Option<Field> {
+        let (system, black, white) = self.setup();
+        let mut stop = LdvbiPlace { field: 0, looked: 0 };
+        done(c::ldvbi_next_stop(system, black, white, self.bytes, from, most, &mut stop));
+        self.field(stop.field)
+    }
+
     /// The first field for which this number or chapter is believed or due, if halving finds one. A picture or a time
     /// is sought as `ldvbi_seek` of the library for C does it, at the pace of the fields that are read.
     ///
@@ -201,7 +236,7 @@ impl<'a> Side<'a> {
     pub fn seek(&self, place: Place) -> Option<Field> {
         let index = match place.counted(self.system)? {
             (Some(counted), number) => self.halved(counted, number),
-            (None, number) => self.first_from(number).filter(|index| self.chapter(*index) == Some(number)),
+            (None, number) => self.begin_of(number),
         };
         self.field(index?)
     }
@@ -213,10 +248,7 @@ impl<'a> Side<'a> {
         let (counted, number) = place.counted(self.system)?;
         let (index, passed) = match counted {
             Some(counted) => self.halved_on(counted, number, most)?,
-            None => {
-                let index = self.first_from(number)?;
-                (index, self.chapter(index)?.checked_sub(number)?)
-            }
+            None => self.first_from(number).map(|(index, chapter)| (index, chapter - number))?,
         };
         (passed <= most).then_some((self.field(index)?, passed))
     }
@@ -249,12 +281,48 @@ impl<'a> Side<'a> {
         Some(had)
     }
 
+    /// The nearest lower and the nearest higher number that the fields tell around a picture or a time, as
+    /// `ldvbi_seek` has them: also beside one that the capture lacks. None for a chapter.
+    pub fn beside(&self, place: Place) -> Option<Beside> {
+        let (counted, number) = place.counted(self.system)?;
+        let sought = self.sought(counted?, number);
+        let told = |one: LdvbiNeighbour| {
+            (one.number.state != side::NOTHING).then_some(Neighbour { number: one.number.number, field: one.field })
+        };
+        Some(Beside { before: told(sought.before), after: told(sought.after) })
+    }
+
     /// The first field in a row with this number, if halving finds one.
     fn halved(&self, counted: Counted, number: u32) -> Option<usize> {
-        let (system, black, white) = (number_of(self.system), self.levels.black().into(), self.levels.white().into());
-        let mut sought = LdvbiSought { field: 0, number: NO_NUMBER, pace: 0, looked: 0 };
-        done(c::ldvbi_seek(system, black, white, counted as u32 + 1, FIND_PACE, self.bytes, number, &mut sought));
+        let sought = self.sought(counted, number);
         (sought.number.state != side::NOTHING).then_some(sought.field)
+    }
+
+    /// What the library's call answers.
+    fn sought(&self, counted: Counted, number: u32) -> LdvbiSought {
+        let (system, black, white) = self.setup();
+        let none = LdvbiNeighbour { field: 0, number: NO_NUMBER };
+        let mut sought = LdvbiSought { field: 0, number: NO_NUMBER, pace: 0, looked: 0, before: none, after: none };
+        done(c::ldvbi_seek(system, black, white, counted as u32 + 1, FIND_PACE, self.bytes, number, &mut sought));
+        sought
+    }
+
+    /// The fields that are padding.
+    pub(crate) fn padding(&self) -> &[usize] {
+        &self.padding
+    }
+
+    /// The field in which this chapter begins, if halving finds it.
+    pub(crate) fn begin_of(&self, chapter: u32) -> Option<usize> {
+        let (system, black, white) = self.setup();
+        let mut place = LdvbiPlace { field: 0, looked: 0 };
+        done(c::ldvbi_seek_chapter(system, black, white, self.bytes, chapter, &mut place));
+        Some(place.field).filter(|field| *field < self.len())
+    }
+
+    /// System, black and white, as the library's calls take them.
+    fn setup(&self) -> (u32, u32, u32) {
+        (number_of(self.system), self.levels.black().into(), self.levels.white().into())
     }
 
     /// The readings of the fields from this one on, as the library's other calls take them.

@@ -62,7 +62,7 @@ impl Clock {
 pub enum Verdict {
     /// No reason speaks against it.
     Yes,
-    /// The capture shows a reason why it isn't: one of the first six, or the last one.
+    /// The capture shows a reason why it isn't: one of the first six, [`Reason::IsInserted`] or [`Reason::IsPadded`].
     No,
     /// There are only other reasons.
     CannotTell,
@@ -100,10 +100,14 @@ pub enum Reason {
     IsOpen,
     /// Fields that don't belong there are inserted.
     IsInserted,
+    /// Fields are padding ([`Side::with_padding`]).
+    IsPadded,
+    /// Between two believed numbers that go on are over 100 fields without one.
+    IsBlank,
 }
 
 /// Each reason with its bit, in order.
-const REASONS: [(u32, Reason); 13] = [
+const REASONS: [(u32, Reason); 15] = [
     (side::IS_LOST, Reason::IsLost),
     (side::IS_HELD, Reason::IsHeld),
     (side::GOES_BACK, Reason::GoesBack),
@@ -117,6 +121,8 @@ const REASONS: [(u32, Reason); 13] = [
     (side::MANY_DOUBTFUL, Reason::ManyDoubtful),
     (side::IS_OPEN, Reason::IsOpen),
     (side::IS_INSERTED, Reason::IsInserted),
+    (side::IS_PADDED, Reason::IsPadded),
+    (side::IS_BLANK, Reason::IsBlank),
 ];
 
 /// The answer for the capture of a side.
@@ -131,6 +137,10 @@ pub struct Whole {
     pub ends: Option<(usize, usize)>,
     /// The first field of [`Reason::IsSwapped`], counted from 0.
     pub swap: Option<usize>,
+    /// The first field of [`Reason::IsBlank`], counted from 0.
+    pub blank: Option<usize>,
+    /// How many fields are padding.
+    pub padded: usize,
     /// The counts of its gaps.
     pub tally: Tally,
 }
@@ -148,6 +158,8 @@ impl Whole {
             reasons: REASONS.iter().filter(|(bit, _)| has(*bit)).map(|(_, reason)| *reason).collect(),
             ends: (!has(side::NO_NUMBERS)).then_some((found.first, found.last)),
             swap: has(side::IS_SWAPPED).then_some(found.swap),
+            blank: has(side::IS_BLANK).then_some(found.blank),
+            padded: found.padded,
             tally: found.tally,
         }
     }
@@ -268,6 +280,7 @@ impl Side<'_> {
         done(c::ldvbi_find_pace(system, counted, readings, &mut seen, &mut pace));
         done(c::ldvbi_judge(system, counted, pace, readings, &mut seen, &mut numbers));
         done(c::ldvbi_judge_ends(readings, &mut ends));
+        self.padding().iter().filter(|field| **field < readings.len()).for_each(|field| ends[*field] = side::PADDING);
         Fields { pace, seen, numbers, ends }
     }
 
@@ -308,5 +321,7 @@ const NO_TALLY: Tally = Tally {
     lost_numbers: 0,
     undecided: 0,
     unread: 0,
+    inserted: 0,
 };
-const NOT_FOUND: Finding = Finding { tally: NO_TALLY, first: 0, last: 0, swap: 0, verdict: 0, reasons: 0 };
+const NOT_FOUND: Finding =
+    Finding { tally: NO_TALLY, first: 0, last: 0, swap: 0, padded: 0, blank: 0, verdict: 0, reasons: 0 };

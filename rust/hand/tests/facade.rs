@@ -283,6 +283,13 @@ fn goes_on_to_what_a_capture_has() {
         assert_eq!((on(Place::Picture(30), 3), on(Place::Picture(32), 1)), (Some((68, 3)), Some((68, 1))));
         assert_eq!((on(Place::Picture(30), 2), on(Place::Picture(60), 9)), (None, None));
         assert_eq!((on(Place::Chapter(1), 80), on(Place::Chapter(3), 80)), (Some((69, 1)), None));
+        let beside = |place| {
+            let beside = side.beside(place)?;
+            Some([beside.before, beside.after].map(|one| one.map(|one| (one.number, one.field))))
+        };
+        assert_eq!(beside(Place::Picture(31)), Some([Some((29, 66)), Some((33, 68))]));
+        assert_eq!(beside(Place::Picture(60)), Some([Some((59, 120)), None]));
+        assert_eq!((beside(Place::Chapter(1)), beside(Place::Time(0, 60, 0, 0))), (None, None));
         let chapters = [0, 8, 9, 67, 68, 69, 121, 122, 129].map(|index| side.chapter(index));
         let [first, last] = [Some(0), Some(2)];
         assert_eq!(chapters, [None, None, first, first, first, last, last, None, None]);

@@ -5,7 +5,7 @@
 mod drawn;
 
 use drawn::{draw, picture};
-use ldvbi::{Counted, Number, OpenError, Side, System};
+use ldvbi::{Counted, Number, OpenError, Side, SideOptions, System};
 use std::path::{Path, PathBuf};
 use std::{env, fs, process};
 
@@ -35,6 +35,16 @@ fn takes_the_settings_beside_the_file() {
     let side = Side::open(folder.join("side.tbc")).unwrap();
     assert_eq!((side.system(), side.len(), side.cut_bytes()), (System::Pal, 40, 0));
     assert_eq!(side.number(Counted::Pictures, 24), Some(Number::Believed(12)));
+    assert_eq!(side.whole(SideOptions::new(Counted::Pictures)).padded, 0);
+    fs::remove_dir_all(folder).unwrap();
+}
+
+#[test]
+fn takes_the_padding_beside_the_file() {
+    let fields = r#","fields":[{"pad":true},{},{"pad":false},{"pad":1},{"pad":true}]}"#;
+    let folder = folder("padded", Some(&(PARAMETERS[..PARAMETERS.len() - 1].to_owned() + fields)));
+    let side = Side::open(folder.join("side.tbc")).unwrap();
+    assert_eq!(side.whole(SideOptions::new(Counted::Pictures)).padded, 2);
     fs::remove_dir_all(folder).unwrap();
 }
 

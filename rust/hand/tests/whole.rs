@@ -163,6 +163,28 @@ fn film_and_numbers_on_both_fields() {
 }
 
 #[test]
+fn over_a_hundred_fields_without_a_number() {
+    let rows = [pictures(1, 20), vec![BLANK; 102], pictures(72, 90)].concat();
+    for system in SYSTEMS {
+        let (whole, gaps) = judged(system, &rows, cut_off(Counted::Pictures));
+        assert_eq!((whole.verdict, whole.reasons, gaps), (Verdict::CannotTell, vec![Reason::IsBlank], vec![]));
+        assert_eq!((whole.blank, whole.tally.unread), (Some(39), 51));
+    }
+}
+
+#[test]
+fn padding() {
+    let bytes = draw(System::Pal, &pictures(1, 20));
+    let side = Side::new(&bytes, System::Pal, levels()).unwrap();
+    let judged = |fields: &[usize]| {
+        let whole = side.clone().with_padding(fields.iter().copied()).whole(cut_off(Counted::Pictures));
+        (whole.verdict, whole.reasons, whole.padded)
+    };
+    assert_eq!(judged(&[]), (Verdict::Yes, vec![], 0));
+    assert_eq!(judged(&[0, 39, 40, 7, 7]), (Verdict::No, vec![Reason::IsPadded], 3));
+}
+
+#[test]
 fn the_clock_of_a_disc() {
     // Around the first three minutes 0:00:59.29 and the like are followed by 0:01:00.02.
     let minute = |at: u32| [times(1800 * at - 10, 1800 * at - 1), times(1800 * at + 2, 1800 * at + 12)].concat();

@@ -5,6 +5,7 @@ use Rattle.vbi_c.specs.declared.judging.Judging.{Judging}
 use Rattle.vbi_c.specs.declared.status.Refusal.{Refusal}
 use Rattle.vbi_c.specs.Judging.{AreJudged, with_pace, with_lengths, counted_of, asked_of}
 use Rattle.vbi_c.specs.Setups.{system_of}
+use Rattle.vbi_side.proofs.Filling.{answers_sound, answers_sound_still, answers_due_sound}
 use Rattle.vbi_c.proofs.Judged.{read_sound}
 use Rattle.vbi_c.proofs.judging.ldvbi_judge.Goals as goal
 
@@ -15,18 +16,19 @@ returns-in-Ok-clause-judges c =
     let numbers = c.judge.new.numbers in
     let Judges : Result Judging Refusal → Type 0
     = λ found. IfOk found (λ judging. (pace : paces.Pace) × AreJudged judging readings seen numbers pace) in
-    let judges = c.judge.ensures in
+    let answers = c.judge.ensures in
+    let pace = c.pace_for.result in
     let asked : Bool → Result Judging Refusal
     = λ fit. with_pace (with_lengths (system_of c.args.system) fit) (counted_of c.args.counted) (asked_of c.args.pace)
     in
     subst Judges (sym c.in-Ok.is ∙ c.judging_of.ensures ∙ ap asked c.are_as_long-fit.ensures) (
-      c.pace_for.result,
+      pace,
       record {
         pace_is = c.pace_for.ensures;
-        answers = judges.answers;
-        read = read_sound c.in-Ok.judging readings seen numbers c.pace_for.result c.see_all.ensures judges.sound;
-        sound = judges.sound;
-        sound_still = judges.sound_still;
-        due_sound = judges.due_sound;
+        answers = answers;
+        read = read_sound c.in-Ok.judging readings seen numbers pace c.see_all.ensures
+            (answers_sound pace seen numbers answers);
+        sound_still = answers_sound_still pace seen numbers answers;
+        due_sound = answers_due_sound pace seen numbers answers;
       },
     )

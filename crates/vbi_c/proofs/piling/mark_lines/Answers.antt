@@ -16,12 +16,13 @@ loop-i-preserved c =
     let old : List Bool = c.loop-i.marks in
     let kept : take (w * i) new ≡ take (w * i) old
     = subst (λ (n : ℕ). take (n * i) new ≡ take (n * i) old) c.width-width.ensures c.put_marks.ensures.before in
-    let found : take w (drop (w * i) new) ≡ c.line_in.result.now
-    = subst (λ (n : ℕ). take w (drop (n * i) new) ≡ c.line_in.result.now) c.width-width.ensures
-    (subst (λ (n : ℕ). take n (drop (c.width-width.result * i) new) ≡ c.line_in.result.now) c.line_in.ensures.long
+    let taken : List Bool = c.marks_of_line.result.now in
+    let found : take w (drop (w * i) new) ≡ taken
+    = subst (λ (n : ℕ). take w (drop (n * i) new) ≡ taken) c.width-width.ensures
+    (subst (λ (n : ℕ). take n (drop (c.width-width.result * i) new) ≡ taken) c.marks_of_line.ensures.long
     c.put_marks.ensures.here) in
     let here : take w (drop (w * i) new) ≡ line_marks list system i line
-    = found ∙ c.line_in.ensures.marks
+    = found ∙ c.marks_of_line.ensures.marks
     ∙ ap (λ (all : List Bool). take w (drop (w * (line - 16)) all)) c.mark_field-place.ensures.marks
     ∙ erased_of-line list system i line c.requires.line in
     record {

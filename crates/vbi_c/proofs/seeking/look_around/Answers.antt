@@ -1,5 +1,6 @@
-use Rattle.std.proofs.Common.{◌-◌, arith, inl, inr, refl}
-use Rattle.vbi_c.proofs.Sought.{found_at, first_sought}
+use Rattle.std.proofs.Common.{◌-◌, ◌≤◌, arith, inl, inr, refl}
+use Rattle.vbi_c.proofs.Beside.{both_whole, first_inside}
+use Rattle.vbi_c.proofs.Sought.{all_shown, found_at, first_sought, judged_in}
 use Rattle.vbi_c.proofs.seeking.look_around.Goals as goal
 
 pub returns-in-Some-clause-sought : goal.returns-in-Some-clause-sought
@@ -33,14 +34,70 @@ pub returns-in-Some-clause-complete : goal.returns-in-Some-clause-complete
 returns-in-Some-clause-complete c = λ t pace known placed.
     (first_sought c.args.search.now c.fields_around-around.result t pace c.judge_around-pace.result
     c.judge_around-pace.new.numbers c.judge_around-pace.ensures.judged known
-    (c.fields_around-around.ensures.reached t placed known.inside)).at c.in-Some.at c.in-Some.ensures.first
+    (c.fields_around-around.ensures.reached t placed t (omega arith) (omega arith) known.inside)).at c.in-Some.at
+    c.in-Some.ensures.first
 
 pub returns-in-None-clause-complete : goal.returns-in-None-clause-complete
 returns-in-None-clause-complete c = λ t pace known placed.
     let is = c.fields_around-around.ensures in
     let found = first_sought c.args.search.now c.fields_around-around.result t pace c.judge_around-pace.result
-    c.judge_around-pace.new.numbers c.judge_around-pace.ensures.judged known (is.reached t placed known.inside) in
+    c.judge_around-pace.new.numbers c.judge_around-pace.ensures.judged known
+    (is.reached t placed t (omega arith) (omega arith) known.inside) in
     absurd (elim (c.in-None.ensures.none refl) [
       | inl none ↦ found.there none
       | inr (begins, later) ↦ omega (arith, found.at 0 begins, is.early later, placed.from)
     ])
+
+pub returns-in-Some-clause-beside : goal.returns-in-Some-clause-beside
+returns-in-Some-clause-beside c =
+    let search = c.args.search.now in
+    let a = c.fields_around-around.result in
+    let pace = c.judge_around-pace.result in
+    let numbers = c.judge_around-pace.new.numbers in
+    let is = c.judge_around-pace.ensures in
+    let beside = c.neighbours_among.ensures in
+    let inside : a.to ≤ search.count = omega (arith, is.judged.window.order) in (
+      pace,
+      a.from,
+      a.to,
+      record {
+        inside = (omega (arith, is.judged.window.order), inside);
+        wide = c.fields_around-around.ensures.wide;
+        judged = λ i from to.
+            (a.first, a.end - a.first, omega (arith, is.counted), judged_in search a pace numbers i is.judged from to);
+        found = λ found.
+            let at = first_inside search a pace numbers c.in-Some.at is.judged c.in-Some.ensures.first in
+            (at.0, at.1, c.pace_for_c.ensures);
+        told = (beside.before pace is.judged, beside.after pace is.judged);
+        rising = λ rising has. both_whole pace (all_shown search) search.count a.from a.to search.number
+            c.neighbours_among.result.0 c.neighbours_among.result.1 inside rising has
+            (beside.before pace is.judged, beside.after pace is.judged);
+      },
+      c.fields_around-around.ensures.reached,
+    )
+
+pub returns-in-None-clause-beside : goal.returns-in-None-clause-beside
+returns-in-None-clause-beside c =
+    let search = c.args.search.now in
+    let a = c.fields_around-around.result in
+    let pace = c.judge_around-pace.result in
+    let numbers = c.judge_around-pace.new.numbers in
+    let is = c.judge_around-pace.ensures in
+    let beside = c.neighbours_among.ensures in
+    let inside : a.to ≤ search.count = omega (arith, is.judged.window.order) in (
+      pace,
+      a.from,
+      a.to,
+      record {
+        inside = (omega (arith, is.judged.window.order), inside);
+        wide = c.fields_around-around.ensures.wide;
+        judged = λ i from to.
+            (a.first, a.end - a.first, omega (arith, is.counted), judged_in search a pace numbers i is.judged from to);
+        found = λ found. absurd (omega (arith, found));
+        told = (beside.before pace is.judged, beside.after pace is.judged);
+        rising = λ rising has. both_whole pace (all_shown search) search.count a.from a.to search.number
+            c.neighbours_among.result.0 c.neighbours_among.result.1 inside rising has
+            (beside.before pace is.judged, beside.after pace is.judged);
+      },
+      c.fields_around-around.ensures.reached,
+    )

@@ -1,4 +1,4 @@
-use Rattle.vbi_cli.proofs.Jobs.{with_words}
+use Rattle.vbi_cli.proofs.Jobs.{with_words, with_recovered}
 use Rattle.vbi_cli.proofs.job.text_job.Goals as goal
 
 pub returns-in-Document-clause-did : goal.returns-in-Document-clause-did
@@ -7,4 +7,12 @@ returns-in-Document-clause-did g c =
       result = c.extract.result;
       ran = with_words c.numbers.ensures c.extract.ensures.run;
       answered = c.end_of.ensures;
+    })
+
+pub returns-in-RecoveredDocument-clause-did : goal.returns-in-RecoveredDocument-clause-did
+returns-in-RecoveredDocument-clause-did g c =
+    rw c.in-RecoveredDocument.is (record {
+      result = c.extract_recovered.result;
+      ran = with_recovered c.numbers-in-RecoveredDocument.ensures c.extract_recovered.ensures.run;
+      answered = c.end_of-in-RecoveredDocument.ensures;
     })

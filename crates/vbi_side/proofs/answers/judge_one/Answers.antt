@@ -6,6 +6,6 @@ use Rattle.vbi_side.proofs.answers.judge_one.Goals as goal
 pub returns : goal.returns
 returns c =
     let numbers = c.judge.new.numbers in
-    let answers = c.judge.ensures.answers in
+    let answers = c.judge.ensures in
     answers.each c.args.field (get_or numbers c.args.field nothing)
     (slice_get-get_or numbers c.args.field nothing (omega (arith, answers.count, c.requires.inside)))

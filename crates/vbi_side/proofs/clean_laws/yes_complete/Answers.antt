@@ -17,4 +17,4 @@ returns-clause-one_field c clock number fields begin last answers run are =
 pub returns-clause-whole : goal.returns-clause-whole
 returns-clause-whole c number fields begin last answers numbering may_end ends finding old new side are is =
     called_whole numbering number fields begin last side.run.read.each side.run.read.others side.run.three
-    (λ p inside. (side.run.keeps p inside).0) answers are may_end ends side.begun side.ended finding old new is
+    (λ p inside. (side.run.keeps p inside).0) answers are may_end ends side.begun side.ended side.unpadded finding old new is

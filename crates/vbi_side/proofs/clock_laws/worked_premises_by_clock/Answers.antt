@@ -1,10 +1,12 @@
-use Rattle.std.proofs.Common.{[], false, refl, arith, inr}
+use Rattle.std.proofs.Common.{◌≡◌, [], false, refl, arith, inr, length}
 use Rattle.vbi_side.specs.Gaps.{since_end}
 use Rattle.vbi_side.specs.Told.{stills_of, last_still}
 use Rattle.vbi_side.specs.Clocks.{kept, left_out}
-use Rattle.vbi_side.specs.WorkedSides.{clv_by, worked_ends}
+use Rattle.vbi_side.specs.WorkedSides.{clv_by, worked_ends, worked_answers}
 use Rattle.vbi_side.specs.Detours.{detoured_from}
 use Rattle.vbi_side.proofs.ClockDiscs.{thousand_counts}
+use Rattle.vbi_side.specs.declared.pace.Pace.TheVariants.{Video}
+use Rattle.vbi_side.proofs.Blanks.{short_side}
 use Rattle.vbi_side.proofs.Telling.{none_written}
 use Rattle.vbi_side.proofs.WorkedPictures.{no_gaps, no_swap, no_drift, ends_are}
 use Rattle.vbi_side.proofs.WorkedClock.{clock, same, clear_at, none_wrong}
@@ -25,17 +27,18 @@ returns-clause-clear c = (clear_at 0, clear_at 48)
 pub returns-clause-finding : goal.returns-clause-finding
 unfolding since_end stills_of last_still kept left_out detoured_from
 returns-clause-finding c = record {
-  away = 0;
   told = record {
     gaps = [];
     unread = 0;
     all = no_gaps (clv_by clock) same worked_ends 50 (omega arith);
-    told = record { comes_to = refl; inserts = refl; written = none_written [] };
+    told = record { comes_to = refl; written = none_written [] };
   };
   swapped = false;
   swap = (refl, λ pace slack. no_swap clock);
   drifts = false;
   drift = no_drift clock same;
+  padded = refl;
+  blank = short_side clock Video 0 worked_answers (let few : length worked_answers ≡ 50 = refl in omega (arith, few));
   verdict = refl;
   reasons = inr (0, 24, ends_are, refl);
 }

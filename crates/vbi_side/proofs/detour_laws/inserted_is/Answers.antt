@@ -1,4 +1,5 @@
-use Rattle.vbi_side.proofs.Costless.{away_is_no}
+use Rattle.std.proofs.Common.{inl}
+use Rattle.vbi_side.proofs.Costless.{inserted_is_no}
 use Rattle.vbi_side.proofs.DetourLaws.{is_left, out_of_order}
 use Rattle.vbi_side.proofs.detour_laws.inserted_is.Goals as goal
 
@@ -9,4 +10,5 @@ pub returns-clause-out_of_order : goal.returns-clause-out_of_order
 returns-clause-out_of_order c = out_of_order
 
 pub returns-clause-verdict : goal.returns-clause-verdict
-returns-clause-verdict c = away_is_no
+returns-clause-verdict c pace slack numbering may_end seen answers ends finding old new is some away =
+    inserted_is_no pace slack numbering may_end seen answers ends finding old new is some (inl away)

@@ -1,11 +1,13 @@
-use Rattle.std.proofs.Common.{[], false, refl, arith, inr}
+use Rattle.std.proofs.Common.{◌≡◌, [], false, refl, arith, inr, length}
 use Rattle.vbi_side.specs.Gaps.{since_end}
 use Rattle.vbi_side.specs.Told.{stills_of, last_still}
 use Rattle.vbi_side.specs.declared.clock.Clock.TheVariants.{Plain}
 use Rattle.vbi_side.specs.Clocks.{kept}
 use Rattle.vbi_side.specs.Detours.{detoured_from}
 use Rattle.vbi_side.proofs.Counting.{plain}
-use Rattle.vbi_side.specs.WorkedSides.{cav, worked_ends}
+use Rattle.vbi_side.specs.WorkedSides.{cav, worked_ends, worked_answers}
+use Rattle.vbi_side.specs.declared.pace.Pace.TheVariants.{Video}
+use Rattle.vbi_side.proofs.Blanks.{short_side}
 use Rattle.vbi_side.proofs.Telling.{none_written}
 use Rattle.vbi_side.proofs.WorkedPictures.{answers_are, none_wrong, no_gaps, no_swap, no_drift, ends_are}
 use Rattle.vbi_side.proofs.gap_laws.worked_premises.Goals as goal
@@ -22,17 +24,18 @@ returns-clause-low c = omega (arith, none_wrong 48)
 pub returns-clause-finding : goal.returns-clause-finding
 unfolding since_end stills_of last_still kept detoured_from
 returns-clause-finding c = record {
-  away = 0;
   told = record {
     gaps = [];
     unread = 0;
     all = no_gaps cav (λ n less. plain Plain n refl) worked_ends 50 (omega arith);
-    told = record { comes_to = refl; inserts = refl; written = none_written [] };
+    told = record { comes_to = refl; written = none_written [] };
   };
   swapped = false;
   swap = (refl, λ pace slack. no_swap Plain);
   drifts = false;
   drift = no_drift Plain (λ n less. plain Plain n refl);
+  padded = refl;
+  blank = short_side Plain Video 0 worked_answers (let few : length worked_answers ≡ 50 = refl in omega (arith, few));
   verdict = refl;
   reasons = inr (0, 24, ends_are, refl);
 }

@@ -1,4 +1,4 @@
-use Rattle.std.proofs.Common.{◌≡◌, ◌∙◌, ℕ, true, false, [], refl, sym, ap, subst, arith, inl, inr}
+use Rattle.std.proofs.Common.{◌≡◌, ◌∙◌, ℕ, true, false, [], refl, sym, ap, subst, arith, inl, inr, length}
 use Rattle.std.specs.Prelude.{Option, unwrap_or, slice_get}
 use Rattle.std.proofs.lemmas.Option.{slice_get_within}
 use Rattle.vbi_side.specs.declared.number.Number.{Number}
@@ -14,6 +14,7 @@ use Rattle.vbi_side.specs.Drifts.{IsDrift}
 use Rattle.vbi_side.specs.Swaps.{IsSwap, is_stray}
 use Rattle.vbi_side.specs.WorkedSides.{two_pictures, two_answers}
 use Rattle.vbi_side.specs.Detours.{detoured_from}
+use Rattle.vbi_side.proofs.Blanks.{short_side}
 use Rattle.vbi_side.proofs.Telling.{none_written}
 use Rattle.vbi_side.proofs.gap_laws.worked_whole.Goals as goal
 
@@ -65,7 +66,6 @@ no_drift j drift =
 pub returns : goal.returns
 unfolding AreGaps since_end stills_of last_still kept detoured_from
 returns c = record {
-  away = 0;
   told = record {
     gaps = [];
     unread = 0;
@@ -86,12 +86,14 @@ returns c = record {
       inl (inl (λ n. never 1 n refl), inl (inr (λ j l less. absurd (omega (arith, less))), (refl, refl))),
       refl,
     ));
-    told = record { comes_to = refl; inserts = refl; written = none_written [] };
+    told = record { comes_to = refl; written = none_written [] };
   };
   swapped = false;
   swap = (refl, λ pace slack. no_swap);
   drifts = false;
   drift = no_drift;
+  padded = refl;
+  blank = short_side Plain Video 0 two_answers (let few : length two_answers ≡ 3 = refl in omega (arith, few));
   verdict = refl;
   reasons = inr (
     1,

@@ -23,7 +23,7 @@ visit-telling-requires-clause-few c =
     let rule = c.args.rule in
     let telling = c.loop-field.telling in
     told_few rule.pace rule.slack rule.numbering c.args.seen.now c.args.numbers.now c.args.ends.now c.loop-field.field
-    (waiting telling.last) telling.told.tally telling.told.away c.args.out.now c.loop-field.out
+    (waiting telling.last) telling.tally c.args.out.now c.loop-field.out
     c.loop-field.invariant.told
 
 pub ended-requires : goal.ended-requires
@@ -34,7 +34,7 @@ ended-requires c =
       few = omega (
         arith,
         told_few rule.pace rule.slack rule.numbering c.args.seen.now c.args.numbers.now c.args.ends.now
-            c.loop-field.field (waiting telling.last) telling.told.tally telling.told.away c.args.out.now
+            c.loop-field.field (waiting telling.last) telling.tally c.args.out.now
             c.loop-field.out c.loop-field.invariant.told,
       );
     }

@@ -6,7 +6,7 @@ use Rattle.vbi_side.proofs.gaps.find_gaps.Given as goal
 abbrev pub invariant-loop-field : goal.invariant-loop-field
 invariant-loop-field l = record {
   told : IsTelling l.rule.pace l.rule.slack l.rule.numbering l.seen l.numbers l.ends l.field
-      (waiting l.telling.last) l.telling.told.tally l.telling.told.away l.fn.out l.out;
+      (waiting l.telling.last) l.telling.tally l.fn.out l.out;
   last : IsLast l.numbers l.field l.last;
   since : l.since ≡ since_end l.ends l.field;
   few : l.since ≤ l.field;

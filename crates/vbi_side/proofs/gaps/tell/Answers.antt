@@ -19,13 +19,12 @@ returns-in-None c = λ answers ends old neighbours since told.
     here.number
     there.field there.number (sym c.in-None.ensures) in
     let telling = subst (λ (n : ℕ). AreTelling rule.pace rule.slack clock told.gaps (told.unread + n)
-    (waiting after.last) after.told.tally after.told.away old c.args.out.now) c.skipped-more.ensures
+    (waiting after.last) after.tally old c.args.out.now) c.skipped-more.ensures
     (c.with_unread.ensures rule.pace rule.slack clock told.gaps told.unread old c.args.out.now told.telling) in
     subst (λ k. IsTelling rule.pace rule.slack rule.numbering c.args.seen.now answers ends k (waiting after.last)
-    after.told.tally after.told.away old c.args.out.now) next
+    after.tally old c.args.out.now) next
     (told_on rule.pace rule.slack rule.numbering c.args.seen.now answers ends here.field here.number there.field
-    there.number (waiting before.last) (waiting after.last) before.told.tally after.told.tally before.told.away
-    after.told.away old c.args.out.now neighbours near told telling)
+    there.number (waiting before.last) (waiting after.last) before.tally after.tally old c.args.out.now neighbours near told telling)
 
 pub returns-in-Some : goal.returns-in-Some
 returns-in-Some c = λ answers ends old neighbours since told.
@@ -42,8 +41,7 @@ returns-in-Some c = λ answers ends old neighbours since told.
     let found = subst (λ s. gap_of rule.pace rule.slack rule.numbering (ended_between ends here.field there.field) s
     here.field here.number there.field there.number ≡ Some c.in-Some.gap) c.shown_between-shown.ensures ended in
     subst (λ k. IsTelling rule.pace rule.slack rule.numbering c.args.seen.now answers ends k (waiting after.last)
-    after.told.tally after.told.away old c.with_gap.new.out) next
+    after.tally old c.with_gap.new.out) next
     (told_gap rule.pace rule.slack rule.numbering c.args.seen.now answers ends here.field here.number there.field
-    there.number c.in-Some.gap (waiting before.last) (waiting after.last) before.told.tally after.told.tally
-    before.told.away after.told.away old c.args.out.now c.with_gap.new.out neighbours found told
+    there.number c.in-Some.gap (waiting before.last) (waiting after.last) before.tally after.tally old c.args.out.now c.with_gap.new.out neighbours found told
     (c.with_gap.ensures told.gaps told.unread old told.telling))

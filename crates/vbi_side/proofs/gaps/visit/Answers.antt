@@ -10,6 +10,6 @@ returns-in_default c = λ ends old since told.
     let telling = c.args.walk.telling in
     let next : suc field ≡ field + 1 = omega arith in
     subst (λ k. IsTelling rule.pace rule.slack rule.numbering c.args.seen.now c.args.numbers.now ends k
-    (waiting telling.last) telling.told.tally telling.told.away old c.args.out.now) next
+    (waiting telling.last) telling.tally old c.args.out.now) next
     (told_free rule.pace rule.slack rule.numbering c.args.seen.now c.args.numbers.now ends field (waiting telling.last)
-    telling.told.tally telling.told.away old c.args.out.now (c.in_default.ensures.none refl) told)
+    telling.tally old c.args.out.now (c.in_default.ensures.none refl) told)

@@ -5,6 +5,7 @@ use Rattle.vbi_side.specs.CleanRuns.{IsCleanSide}
 use Rattle.vbi_side.specs.Ends.{no_end, lead_out}
 use Rattle.vbi_side.specs.Witnesses.{all_read, led_out_after}
 use Rattle.vbi_side.specs.Truth.{video_disc}
+use Rattle.vbi_side.specs.Verdicts.{padded_in}
 use Rattle.vbi_side.specs.Clocks.{numbered, drop_number}
 use Rattle.vbi_side.proofs.ClockDiscs.{numbered_is}
 use Rattle.vbi_side.proofs.LongClock.{numbered_has, drop_keeps}
@@ -20,6 +21,10 @@ use Rattle.vbi_side.proofs.long_laws.long_sides_are.Goals as goal
 led_out : (n : ℕ) → slice_get (replicate n no_end ++ lead_out ∷ []) n ≡ Some lead_out
 led_out zero = refl
 led_out (suc n) = led_out n
+
+none_padded : (n : ℕ) → padded_in (replicate n no_end ++ lead_out ∷ []) ≡ 0
+none_padded zero = refl
+none_padded (suc n) = omega (arith, none_padded n)
 
 pub returns-clause-clean : goal.returns-clause-clean
 returns-clause-clean c last many =
@@ -39,6 +44,7 @@ returns-clause-clean c last many =
       };
       begun = inl (omega arith);
       ended = inr (2 * last + 1, omega arith, led_out (2 * last + 1));
+      unpadded = none_padded (2 * last + 1);
     })
 
 pub returns-clause-by_clock : goal.returns-clause-by_clock
@@ -60,6 +66,7 @@ returns-clause-by_clock c last at_ends =
       };
       begun = inl (omega arith);
       ended = inr (2 * last + 1, omega arith, led_out (2 * last + 1));
+      unpadded = none_padded (2 * last + 1);
     })
 
 pub returns-clause-two_minutes : goal.returns-clause-two_minutes
@@ -71,7 +78,7 @@ returns-clause-video c last many = (
   record {
     rises = λ i. omega arith;
     answers = video_answers last (omega (arith, many));
-    finding = λ ends. video_finding last ends [] (omega (arith, many));
+    finding = λ ends unpadded. video_finding last ends [] (omega (arith, many)) unpadded;
     few = omega (arith, video_right last 0 (omega (arith, many)));
     low = omega (arith, video_right last (2 * last) (omega (arith, many)));
     far = omega (arith, many);
@@ -84,7 +91,7 @@ returns-clause-both c end many = (
   record {
     rises = λ i. omega arith;
     answers = both_answers end (omega (arith, many));
-    finding = λ ends. both_finding end ends [] (omega (arith, many));
+    finding = λ ends unpadded. both_finding end ends [] (omega (arith, many)) unpadded;
     few = omega (arith, both_right end 0 (omega (arith, many)));
     low = omega (arith, both_right end end (omega (arith, many)));
     far = omega (arith, many);
@@ -97,7 +104,7 @@ returns-clause-film c cut last many = (
   record {
     rises = λ i. omega arith;
     answers = film_answers cut last (omega (arith, many));
-    finding = λ ends. film_finding cut last ends [] (omega (arith, many));
+    finding = λ ends unpadded. film_finding cut last ends [] (omega (arith, many)) unpadded;
     few = omega (arith, film_right cut last 0 (omega (arith, many)));
     low = omega (arith, film_right cut last (5 * last) (omega (arith, many)));
     far = omega (arith, many);

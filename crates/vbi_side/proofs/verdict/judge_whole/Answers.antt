@@ -21,12 +21,13 @@ last_is answers first (Some one) some none at = (some.1, some.2)
 
 pub returns-in_default : goal.returns-in_default
 returns-in_default c = record {
-  away = c.find_gaps-told.result.away;
-  told = c.find_gaps-told.ensures;
+  told = c.find_gaps-tally.ensures;
   swapped = c.swap_by-swap.result.is_seen;
   swap = c.swap_by-swap.ensures;
   drifts = c.has_drift-drifts.result;
   drift = c.has_drift-drifts.ensures;
+  padded = c.padded_in-padded.ensures;
+  blank = c.first_blank-blank.ensures;
   verdict = c.verdict.ensures;
   reasons = inl (c.in_default.ensures.none refl, refl, refl, refl);
 }
@@ -37,12 +38,13 @@ returns c =
     (last_is c.args.numbers.now c.in-Some.first c.last_believed.result c.last_believed.ensures.some
     c.last_believed.ensures.none c.in-Some.ensures.some.1) in
     record {
-      away = c.find_gaps-told.result.away;
-      told = c.find_gaps-told.ensures;
+      told = c.find_gaps-tally.ensures;
       swapped = c.swap_by-swap.result.is_seen;
       swap = c.swap_by-swap.ensures;
       drifts = c.has_drift-drifts.result;
       drift = c.has_drift-drifts.ensures;
+      padded = c.padded_in-padded.ensures;
+      blank = c.first_blank-blank.ensures;
       verdict = c.verdict-2.ensures;
       reasons = inr (
         c.in-Some.first.number,

@@ -6,5 +6,5 @@ pub returns : goal.returns
 returns c = λ pace slack clock old. record {
   settled = [];
   goes_on = λ more. refl;
-  told = record { comes_to = c.none.ensures clock; inserts = refl; written = none_written old };
+  told = record { comes_to = c.none.ensures clock; written = none_written old };
 }

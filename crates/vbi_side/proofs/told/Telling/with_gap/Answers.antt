@@ -10,42 +10,42 @@ use Rattle.vbi_side.proofs.told.Telling.with_gap.Goals as goal
 pub returns-in_default : goal.returns-in_default
 returns-in_default c = λ gaps unread old telling.
     let rule = c.args.rule in
-    let told = c.args.self.told in
-    one_waits rule.pace rule.slack rule.numbering.clock gaps unread told.tally told.away old c.args.out.now
+    let tally = c.args.self.tally in
+    one_waits rule.pace rule.slack rule.numbering.clock gaps unread tally old c.args.out.now
     c.args.gap.gap
     (subst (λ (last : Option Waiting). AreTelling rule.pace rule.slack rule.numbering.clock gaps unread (waiting last)
-    told.tally told.away old c.args.out.now) c.in_default.is telling)
+    tally old c.args.out.now) c.in_default.is telling)
 
 pub returns-in-None : goal.returns-in-None
 returns-in-None c = λ gaps unread old telling.
     let rule = c.args.rule in
-    let told = c.args.self.told in
+    let tally = c.args.self.tally in
     let now = subst (λ (last : Option Waiting). AreTelling rule.pace rule.slack rule.numbering.clock gaps unread
-    (waiting last) told.tally told.away old c.args.out.now) c.in-Some.is telling in
-    one_told rule.pace rule.slack rule.numbering.clock gaps unread told.tally c.with_gap.result.tally told.away
-    c.with_gap.result.away old c.args.out.now c.with_gap.new.out c.in-Some.first.gap c.args.gap.gap
-    (sym c.in-None.ensures) now (c.with_gap.ensures.told now.settled unread old now.told)
+    (waiting last) tally old c.args.out.now) c.in-Some.is telling in
+    one_told rule.pace rule.slack rule.numbering.clock gaps unread tally c.with_written.result old
+    c.args.out.now c.with_written.new.out c.in-Some.first.gap c.args.gap.gap
+    (sym c.in-None.ensures) now (c.with_written.ensures.told now.settled unread old now.told)
 
 pub returns-in-Some-detour : goal.returns-in-Some-detour
 returns-in-Some-detour c = λ gaps unread old telling.
     let rule = c.args.rule in
-    let told = c.args.self.told in
+    let tally = c.args.self.tally in
     let a = c.in-Some.first.gap in
     let b = c.args.gap.gap in
     let kind = c.in-Some-detour.kind in
     let now = subst (λ (last : Option Waiting). AreTelling rule.pace rule.slack rule.numbering.clock gaps unread
-    (waiting last) told.tally told.away old c.args.out.now) c.in-Some.is telling in
+    (waiting last) tally old c.args.out.now) c.in-Some.is telling in
     let first = c.turned.ensures ∙ ap (λ fields. turned kind fields a) c.fields_by-fields.ensures in
-    let both = c.with_gap-in-Some-detour.ensures.told (now.settled ++ c.turned.result.gap ∷ []) unread old
-    (c.with_gap-told.ensures.told now.settled unread old now.told) in
-    two_told rule.pace rule.slack rule.numbering.clock gaps unread told.tally c.with_gap-in-Some-detour.result.tally
-    told.away c.with_gap-in-Some-detour.result.away old c.args.out.now c.with_gap-in-Some-detour.new.out a b kind
+    let both = c.with_written-in-Some-detour.ensures.told (now.settled ++ c.turned.result.gap ∷ []) unread old
+    (c.with_written-tally.ensures.told now.settled unread old now.told) in
+    two_told rule.pace rule.slack rule.numbering.clock gaps unread tally c.with_written-in-Some-detour.result old
+    c.args.out.now c.with_written-in-Some-detour.new.out a b kind
     (sym c.in-Some-detour.ensures) now
     (subst (λ (y : Gap). AreTold rule.numbering.clock
     ((now.settled ++ turned kind (fields_by rule.numbering.clock rule.pace kind a b) a ∷ []) ++ y ∷ []) unread
-    c.with_gap-in-Some-detour.result.tally c.with_gap-in-Some-detour.result.away old
-    c.with_gap-in-Some-detour.new.out) c.turned-in-Some-detour.ensures
+    c.with_written-in-Some-detour.result old
+    c.with_written-in-Some-detour.new.out) c.turned-in-Some-detour.ensures
     (subst (λ (x : Gap). AreTold rule.numbering.clock ((now.settled ++ x ∷ [])
     ++ c.turned-in-Some-detour.result.gap ∷ []) unread
-    c.with_gap-in-Some-detour.result.tally c.with_gap-in-Some-detour.result.away old
-    c.with_gap-in-Some-detour.new.out) first both))
+    c.with_written-in-Some-detour.result old
+    c.with_written-in-Some-detour.new.out) first both))

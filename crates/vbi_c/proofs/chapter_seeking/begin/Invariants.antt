@@ -1,0 +1,9 @@
+use Rattle.std.proofs.Common.{◌≡◌, ◌*◌, ◌≤◌}
+use Rattle.vbi_c.specs.ChapterSeeking.{spot_most}
+use Rattle.vbi_c.proofs.chapter_seeking.begin.Given as goal
+
+abbrev pub invariant-loop-part : goal.invariant-loop-part
+invariant-loop-part l = record {
+  kept : l.between ≡ l.initial.between;
+  few : l.looked ≤ l.part * spot_most;
+}

@@ -1,0 +1,98 @@
+-- What a record of version 3 has of a field: its numbers are of 64 bits, and its causes need no escape.
+use Rattle.std.proofs.Common.{◌≡◌, ℕ, ◌<◌, ◌^◌, ◌==◌, Bool, true, false, List, length}
+use Rattle.std.proofs.Common.{refl, sym, subst}
+use Rattle.std.specs.Prelude.{if◌then◌else◌}
+use Rattle.vbi_words.specs.declared.system.System.{System}
+use Rattle.vbi_words.specs.declared.outcome.Reading.{Reading}
+use Rattle.vbi_words.specs.Geometry.{line_at}
+use Rattle.vbi_words.specs.Levels.{Slicing, row_levels}
+use Rattle.vbi_words.specs.Readings.{IsReading}
+use Rattle.vbi_near.specs.declared.recovery.Recovered.{Recovered}
+use Rattle.vbi_near.specs.Candidates.{Row, Candidates, row_of, marks_at}
+use Rattle.vbi_near.specs.Distances.{unit_of}
+use Rattle.vbi_near.specs.Recovery.{Seen, AreSeen, IsRecovered, alone, are_open, stands_by, stands_of, said_by, row_at}
+use Rattle.vbi_near.specs.Recovery.{recovered_of}
+use Rattle.vbi_field.specs.Recovered.{FieldRecovered, RowsRecover, cause_line}
+use Rattle.vbi_field.specs.Shown.{as_readings, joined_rows}
+use Rattle.vbi_field.specs.Stream.{FieldRows}
+use Rattle.vbi_meta.proofs.RecoveredLines.{SayWords, AreWords, near_few, of_both, alone_words, by_words}
+use Rattle.vbi_meta.proofs.RecoveredLines.{either, line_shown}
+use Rattle.vbi_meta.proofs.ShownLines.{IsShown, AreShown, IsShort, short_row, short_levels, is_shown}
+use Rattle.vbi_meta.proofs.ValueReads.{IsWritten}
+
+-- ---- rows
+
+pub record AreShort (rows : FieldRows) : Type 0 where
+  pub first : IsShort rows.first
+  pub second : IsShort rows.second
+  pub third : IsShort rows.third
+
+-- ---- what three rows show
+
+module _ (system : System) (slicing : Slicing) (rows : List ℕ) (marks : List Bool) (first second third : Seen)
+    (both : Candidates) (seen : AreSeen system slicing rows marks first second third both) where
+  abbrev unit : ℕ
+  unit = unit_of slicing
+
+  short : (i : ℕ) → length (row_levels slicing (line_at system rows 0 i)) < 2 ^ 64
+  short i = short_levels slicing (line_at system rows 0 i) (short_row system rows 0 i)
+
+  -- what one of two open lines says, or one alone
+  pair-words : (opened : Bool) → are_open unit second third ≡ opened → (near : Candidates) → SayWords unit near
+      → AreWords (said_by (if opened then stands_by unit second.near third.near both else alone) unit near both)
+  pair-words true e near says =
+      by_words (stands_by unit second.near third.near both) unit near both says
+      (of_both system 17 slicing (row_at system rows marks 1) (row_at system rows marks 2) both (seen.pair e))
+  pair-words false e near says = alone_words unit near both says
+
+  three-shown : AreShown (as_readings (recovered_of unit first second third both))
+  three-shown =
+      let row : ℕ → Row = row_at system rows marks in
+      let stands = stands_of unit second third both in
+      let opened = are_open unit second third in
+      record {
+        first = line_shown system 16 slicing (row 0) first alone both (short 0) seen.line_16
+            (alone_words unit first.near both);
+        second = line_shown system 17 slicing (row 1) second stands both (short 1) seen.line_17
+            (pair-words opened refl second.near);
+        third = line_shown system 18 slicing (row 2) third stands both (short 2) seen.line_18
+            (pair-words opened refl third.near);
+      }
+
+shown_field : (system : System) (slicing : Slicing) (rows : List ℕ) (marks : List Bool) (shown : List Recovered)
+    → IsRecovered system slicing rows marks shown → AreShown (as_readings shown)
+shown_field system slicing rows marks shown (first, second, third, both, seen, e) =
+    subst (λ (l : List Recovered). AreShown (as_readings l)) (sym e)
+    (three-shown system slicing rows marks first second third both seen)
+
+-- ---- a field
+
+cause_shown : (shown reading : Reading) → IsShown shown → IsShown reading → IsShown (cause_line shown reading)
+cause_shown shown reading is are = either IsShown (shown.pass == 3) reading shown (λ e. are) (λ e. is)
+
+pub is_written : (system : System) (slicing : Slicing) (rows : FieldRows) (marks : List Bool) (field : FieldRecovered)
+    → slicing.white < 65536 → AreShort rows → RowsRecover system slicing rows marks field → IsWritten slicing field
+is_written system slicing rows marks field small short is =
+    let shown = shown_field system slicing (joined_rows rows) marks field.shown is.shown in
+    let lines = as_readings field.shown in
+    let read : (bytes : List ℕ) (reading : Reading) → IsShort bytes
+    → IsReading system (row_levels slicing bytes) reading → IsShown reading
+    = λ bytes reading few reads. is_shown system (row_levels slicing bytes) (short_levels slicing bytes few)
+    reading.outcome reading.pass reads in
+    record {
+      lines = shown;
+      causes = record {
+        first = cause_shown lines.first field.readings.first shown.first
+            (read rows.first field.readings.first short.first is.first_reads);
+        second = cause_shown lines.second field.readings.second shown.second
+            (read rows.second field.readings.second short.second is.second_reads);
+        third = cause_shown lines.third field.readings.third shown.third
+            (read rows.third field.readings.third short.third is.third_reads);
+      };
+      first = near_few system slicing (row_of rows.first (marks_at system marks 0)) field.first small short.first
+          is.first;
+      second = near_few system slicing (row_of rows.second (marks_at system marks 1)) field.second small short.second
+          is.second;
+      third = near_few system slicing (row_of rows.third (marks_at system marks 2)) field.third small short.third
+          is.third;
+    }

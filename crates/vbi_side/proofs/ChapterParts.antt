@@ -1,0 +1,59 @@
+-- A chapter is believed of a field by a part of its capture just if it is by the whole.
+use Rattle.std.proofs.Common.{◌≡◌, ℕ, ◌+◌, ◌*◌, ◌<◌, ◌≤◌, Bool, List, refl, arith, ap₂, sym, subst}
+use Rattle.std.specs.Prelude.{Option, slice_get, ◌⊎◌, ◌↔◌, nat_le, nat_lt, ◌&&◌, ◌||◌}
+use Rattle.std.proofs.lemmas.Bool.{leb-true, le-leb}
+use Rattle.vbi_side.specs.declared.sighting.Sightings.{Sightings}
+use Rattle.vbi_side.specs.Sightings.{Shows}
+use Rattle.vbi_side.specs.Beliefs.{reach}
+use Rattle.vbi_side.specs.Chapters.{says, opposes, said_weight, opposed_weight, BelievedChapter}
+use Rattle.vbi_side.specs.Truth.{IsNear}
+use Rattle.vbi_side.proofs.Parts.{same_truth, weight_below-later}
+
+-- fields of which the codes nearby weigh the same believe the same chapters
+alike : (one other : List Sightings) (i j n : ℕ) → slice_get one i ≡ slice_get other j
+    → ((m : ℕ) → said_weight one i m ≡ said_weight other j m)
+    → opposed_weight one i n ≡ opposed_weight other j n → BelievedChapter one i n → BelievedChapter other j n
+alike one other i j n here said opposed is = record {
+  shown = subst (λ (o : Option Sightings). Shows o n) here is.shown;
+  said = omega (arith, is.said, said n);
+  unopposed = omega (arith, is.unopposed, opposed);
+  ahead = λ m shown apart. omega (
+    arith,
+    is.ahead m (subst (λ (o : Option Sightings). Shows o m) (sym here) shown) apart,
+    said m,
+    said n,
+  );
+}
+
+-- what opposes a chapter, so many fields later
+le_later : (first j i : ℕ) → nat_le j i ≡ nat_le (first + j) (first + i)
+le_later first j i =
+    same_truth (nat_le j i) (nat_le (first + j) (first + i))
+    (λ e. le-leb (first + j) (first + i) (omega (arith, leb-true j i e)))
+    (λ e. le-leb j i (omega (arith, leb-true (first + j) (first + i) e)))
+
+opposes_later : (first i n j k : ℕ) → opposes i n j k ≡ opposes (first + i) n (first + j) k
+opposes_later first i n j k =
+    ap₂ (λ (a b : Bool). (a && nat_lt n k) || (b && nat_lt k n)) (le_later first j i) (le_later first i j)
+
+-- a part that has the fields within reach of field i, or begins with the capture
+pub chapter_in_part : (part whole : List Sightings) (first i n : ℕ) → (first ≡ 0) ⊎ (reach ≤ i)
+    → ((j : ℕ) → IsNear i j → slice_get part j ≡ slice_get whole (first + j))
+    → BelievedChapter part i n ↔ BelievedChapter whole (first + i) n
+chapter_in_part part whole first i n before agree = (
+  alike part whole i (first + i) n here said opposed,
+  alike whole part (first + i) i n (sym here) (λ m. sym (said m)) (sym opposed),
+)
+  where
+    here : slice_get part i ≡ slice_get whole (first + i)
+    here = agree i (omega arith, omega arith)
+
+    said : (m : ℕ) → said_weight part i m ≡ said_weight whole (first + i) m
+    said m =
+        weight_below-later (says i m) (says (first + i) m) part whole first i (2 * reach + 1) (omega arith) before
+        agree (λ j k. refl)
+
+    opposed : opposed_weight part i n ≡ opposed_weight whole (first + i) n
+    opposed =
+        weight_below-later (opposes i n) (opposes (first + i) n) part whole first i (2 * reach + 1) (omega arith)
+        before agree (opposes_later first i n)

@@ -1,0 +1,52 @@
+//! Long stretches without a number between two that go on.
+//!
+//! A scratch leaves fields unread. Where numbers go on over more fields than that, as many may be lost there as are too
+//! many: no number between shows it.
+
+ghost use Rattle.std.specs.Prelude.{◌≡◌, ℕ, ◌<◌, length, IfSome, None};
+ghost use Rattle.vbi_side.specs.Blanks.{IsBlankTo, IsBlankTold};
+ghost use Rattle.vbi_side.specs.Gaps.{IsLast};
+
+use crate::gap::{Rule, goes_on_by};
+use crate::gaps::{Reached, last_at, neighbours_at};
+use crate::number::Number;
+use crate::place::Place;
+
+/// So many fields without a number may be a scratch.
+const SCRATCH: usize = 100;
+
+/// The last field with a number before the next one, if that has one which goes on from it, and more fields lie between
+/// than a scratch has.
+fn blank_before(numbers: &[Number], rule: Rule, at: Reached) -> Option<usize>
+    requires inside { at.field < length numbers.now }
+    requires last { IsLast numbers.now at.field at.last }
+    ensures some { IfSome result (λ i. IsBlankTo rule.numbering.clock rule.pace rule.slack numbers.now i at.field) }
+    ensures none { result ≡ None → (i : ℕ)
+        → IsBlankTo rule.numbering.clock rule.pace rule.slack numbers.now i at.field → ⊥ }
+{
+    let pair = neighbours_at(numbers, at)?;
+    let (here, there) = (pair.here, pair.there);
+    if here.field + SCRATCH + 1 >= there.field {
+        return None;
+    }
+    if goes_on_by(rule.numbering.clock, rule.pace, rule.slack, here, there) {
+        Some(here.field)
+    } else {
+        None
+    }
+}
+
+/// The first field of the first such stretch, counted from 0; 0 if there is none.
+pub(crate) fn first_blank(numbers: &[Number], rule: Rule) -> usize
+    ensures { IsBlankTold rule.numbering.clock rule.pace rule.slack numbers.now result }
+{
+    let mut last: Option<Place> = None;
+    for field in 0..numbers.len() {
+        let at = Reached { field, last };
+        if let Some(before) = blank_before(numbers, rule, at) {
+            return before + 1;
+        }
+        last = last_at(numbers, field, last);
+    }
+    0
+}

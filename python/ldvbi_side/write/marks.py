@@ -1,0 +1,66 @@
+"""Chapters and picture stops of captures together: each by its number, in the capture from which that is taken."""
+
+from collections import defaultdict
+from typing import Any, Iterator, List, NamedTuple, Sequence, Tuple
+
+from ..answer.entries import frame_of
+from ..join.captures import Capture
+from ..join.entries import ChapterAt, StopAt
+from ..judge.paces import Unit
+from .plan import Plan
+from .taken import Taken
+
+
+class _Said(NamedTuple):
+    """A chapter that begins (None: a stop) at a number, and how many fields after that one's first it is shown."""
+    number: int
+    chapter: int
+    offset: int
+
+
+def chapters_at(captures: Sequence[Capture], taken: Sequence[Taken], made: Plan) -> List[ChapterAt]:
+    """Where each stretch of a chapter begins: at the least number of those that captures have for it."""
+    said = sorted(one for capture in captures for one in _Beside(capture).chapters())
+    of_number = {one.number: one for one in taken}
+    firsts = [one for before, one in zip([None, *said], said) if before is None or before.chapter != one.chapter]
+    return [ChapterAt(one.chapter, made.count_unit().text_of(one.number), *_place(of_number[one.number], one.offset),
+                      max(made.first_field[one.number] + one.offset, 1))
+            for one in firsts if one.number in of_number and one.number in made.first_field]
+
+
+def stops_at(captures: Sequence[Capture], taken: Sequence[Taken], unit: Unit) -> List[StopAt]:
+    """Where each number with a picture stop is, once for each of its fields that any capture shows with one."""
+    of_number = {one.number: one for one in taken}
+    said = {(number, offset) for capture in captures for number, _, offset in _Beside(capture).stops()}
+    return [StopAt(unit.text_of(number), *_place(of_number[number], offset))
+            for number, offset in sorted(said) if number in of_number]
+
+
+def _place(one: Taken, offset: int) -> Tuple[str, int, int]:
+    """The capture's name, the field and its frame of what is shown so many fields after a number's first."""
+    answer = one.capture.answer
+    field = min(max(one.field + offset, 1), answer.fields)
+    return one.capture.name, field, frame_of(field, answer.frame_begin)
+
+
+class _Beside:
+    """What stands beside the numbers of a capture."""
+
+    def __init__(self, capture: Capture) -> None:
+        self._capture, self._fields = capture, defaultdict(list)  # type: ignore[var-annotated]
+        for place in capture.places:
+            self._fields[place.number].append(place.field)
+
+    def chapters(self) -> Iterator[_Said]:
+        for one in self._capture.answer.chapters:
+            yield from self._said(one.number, one.chapter, one.field)
+
+    def stops(self) -> Iterator[_Said]:
+        for one in self._capture.answer.stops:
+            yield from self._said(one.number, 0, one.field)
+
+    def _said(self, number: Any, chapter: int, field: int) -> Iterator[_Said]:
+        """What stands in a field beside this number; nothing if none is near."""
+        if number is not None:
+            count = self._capture.ordinal(number)
+            yield _Said(count, chapter, min((field - one for one in self._fields[count]), key=abs))
