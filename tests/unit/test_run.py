@@ -218,6 +218,32 @@ def test_while_python_itself_is_loaded(drawn):
                            env={**os.environ, "PYTHONPATH": drawn.folder}) == (0, "field 4, frame 2\n", "")
 
 
+# Ends the process as Ctrl-C does, as soon as a module is looked for.
+STOPS_AT = """import os, signal, sys
+
+class Finder:
+    def find_spec(name, path=None, target=None):
+        if name == "%s":
+            os.kill(os.getpid(), signal.SIGINT)
+
+sys.meta_path.insert(0, Finder)
+"""
+
+
+@pytest.mark.parametrize("module, words, wanted", (
+    ("ldvbi_side.__main__", ["-m", "ldvbi_side", "side.vbi.json", "--seek", "3"], (130, "", "")),
+    ("ldvbi_side.outside", ["-m", "ldvbi_side"], (130, "", "")),
+    # as a part of another program the package leaves signals as they are
+    ("ldvbi_side.near", ["-m", "other", "ldvbi_side"], (0, "KeyboardInterrupt\n", "")),
+    ("ldvbi_side.near", ["-c", "import other", "ldvbi_side"], (0, "KeyboardInterrupt\n", ""))))
+def test_while_its_first_modules_are_loaded(room, module, words, wanted):
+    room.write("sitecustomize.py", STOPS_AT % module)
+    room.write("other.py", "try:\n    import ldvbi_side.near\nexcept KeyboardInterrupt as stop:\n"
+                           "    print(type(stop).__name__)\n")
+    paths = os.pathsep.join([room.folder, os.environ["PYTHONPATH"]])
+    assert room.run_words(*words, command=[sys.executable], env={**os.environ, "PYTHONPATH": paths}) == wanted
+
+
 def test_in_a_function_whose_exceptions_are_dropped(drawn):
     """As those that SQLite calls, while it reads a view that has no end. Nothing is said of that."""
     in_database(drawn.named("side.tbc.db"), *ENDLESS)
