@@ -18,10 +18,11 @@ from .dropouts import Dropout, told_dropouts
 _COLUMNS = {"system": "system", "black_16b_ire": "black16bIre", "white_16b_ire": "white16bIre"}
 # Those of a dropout, after that of its field, likewise
 _OF_DROPOUT = {"field_line": "fieldLine", "startx": "startx", "endx": "endx"}
-STEPS = 100000  # of SQLite's own machine, after each of which signals are heeded
-MOST_STEPS = 10000 * STEPS  # of one database: a hundred times what one of a million fields takes
-MOST_LENGTH = 1 << 26  # bytes of a value, which a function in the file could make so long that no signal is heeded
+STEPS = 10000  # of SQLite's own machine, after each of which signals are heeded
+MOST_STEPS = 100000 * STEPS  # of one database: a hundred times what one of a million fields takes
+MOST_LENGTH = 1 << 20  # bytes of a value, so that no step takes long
 _LIMIT_LENGTH = 0  # SQLite's number of that limit
+_FUNCTION = 31  # and of what calls a function
 WAIT = 5  # seconds for a database that another process writes to
 _OPTIONAL = {"field_width": "fieldWidth", "field_height": "fieldHeight",
              "number_of_sequential_fields": "numberOfSequentialFields"}
@@ -92,14 +93,21 @@ def _advice(path):
 
 def limit_steps(database: sqlite3.Connection) -> None:
     """Has SQLite heed signals while it runs, and stop what would never end, as a view in the file may. What the file
-    has it call may do no harm, and make no value that is longer than any of ld-decode's."""
+    has it do may call no function, of which one can take hours, and make no value that is longer than any of
+    ld-decode's."""
     database.execute("PRAGMA trusted_schema = OFF")
+    database.set_authorizer(_may)
     database.execute("PRAGMA cell_size_check = ON")
     if hasattr(database, "setlimit"):  # from Python 3.11 on
         database.setlimit(_LIMIT_LENGTH, MOST_LENGTH)
     left = iter(range(MOST_STEPS // STEPS))
     sqlite3.enable_callback_tracebacks(True)  # so that a signal that comes in the next function isn't lost
     database.set_progress_handler(lambda: next(left, None) is None, STEPS)
+
+
+def _may(action: int, _: Any, function: Any, *more: Any) -> int:
+    """Whether SQLite may do this: call no function but the one of our own statements."""
+    return sqlite3.SQLITE_DENY if action == _FUNCTION and function != "count" else sqlite3.SQLITE_OK
 
 
 def _patiently(read: Callable[[], Any]) -> None:

@@ -155,7 +155,7 @@ REFUSED = (
 # and those that may be read
 OTHERS = (
     without("drop_outs", "CREATE VIEW drop_outs AS WITH RECURSIVE n(i) AS (SELECT 1 UNION ALL SELECT i + 1 FROM n) "
-            "SELECT i AS field_id, 16 AS field_line, zeroblob(1000000) AS startx, 2 AS endx FROM n LIMIT 100"),
+            "SELECT i AS field_id, 16 AS field_line, x'00' AS startx, 2 AS endx FROM n LIMIT 100"),
     without("capture", "CREATE VIRTUAL TABLE capture USING fts4(system, black_16b_ire, white_16b_ire)"),
     *(without("vbi", "CREATE " + one) for one in (
         "VIEW vbi AS SELECT * FROM vbi", "TABLE vbi (field_id, vbi0 AS (field_id), vbi1, vbi2)",

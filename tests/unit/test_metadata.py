@@ -50,6 +50,8 @@ DATABASES = (
     ("FILE: table capture has no column white_16b_ire; there are: system, black_16b_ire", OTHER % "capture"),
     ("FILE: table capture has no row, not one", CAPTURE),
     ("FILE: table capture has more rows, not one", CAPTURE, (INSERT, PAL), (INSERT, PAL)),
+    ("FILE: SQLite can't read it: not authorized to use function: instr", CAPTURE, (INSERT, PAL),
+     "CREATE VIEW drop_outs AS SELECT 0 AS field_id, 16 AS field_line, 1 AS startx, instr('aab', 'ab') AS endx"),
     *((text, CAPTURE, (INSERT, row + PAL[len(row):])) for text, row in (
         ("unknown system", ("PAL_M",)), ("unknown system", (None,)), ("black level is no number", ("PAL", None)),
         ("white level is no number", ("PAL", 1, "x")), ("white level is no number", ("PAL", 1, float("inf"))),
