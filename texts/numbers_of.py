@@ -56,13 +56,11 @@ def refused() -> Dict[str, int]:
 
 
 def limits() -> Dict[str, int]:
-    """The limits of a run and of votes, and the minutes that the gate takes."""
+    """The limits of a run, and the minutes that the gate takes."""
     numbers = {name: int(number) for path in paths("crates/*/src/*.rt") for name, number in
                re.findall(r"pub const (META_LIMIT|MAX_FIELDS_LIMIT): \w+ = ([\d_]+);", read(path))}
     least, most = of_source("tests/gate.sh", r"^minutes='(\d+) to (\d+)'$")
-    reach, = of_source("crates/vbi_side/specs/Votes.antt", r"^vote_reach = (\d+)$")
-    votes, = of_source("crates/vbi_side/specs/Beliefs.antt", r"^field_most = (\d+)$")
-    return {**numbers, "gate.least": least, "gate.most": most, "vote.reach": reach, "vote.least": votes}
+    return {**numbers, "gate.least": least, "gate.most": most}
 
 
 def of_tests() -> Dict[str, int]:
@@ -117,8 +115,8 @@ def package() -> Dict[str, Any]:
     even = readings.Fields("PAL", [(0, 0xF00001, 0), (0, 0x87FFFF, 0)], [(0, 1, 0)] * 2, [], b"")
     return {
         **numbers, "minute.pal": pal, "minute.least": least, "minute.most": most, "version": analysis.VERSION,
-        "summary.lines": summary.MOST_LINES, "summary.listed": summary.MOST_LISTED, "page.plots": page.MOST_PLOTS,
-        "page.rows": folds.MOST_ROWS, "still": chain.STILL, "carried": judged.CARRIED,
+        "summary.listed": summary.MOST_LISTED, "page.plots": page.MOST_PLOTS, "page.rows": folds.MOST_ROWS,
+        "still": chain.STILL, "carried": judged.CARRIED,
         "chapter.all": paces.ChapterPace.ALL,
         "chapter.share": parts.LEAST_SHARE, "missing.far": missing.FAR,
         "clock.spacing": clock.PERIODS[0], "clock.dropping": clock.PERIODS[1],
