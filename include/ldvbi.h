@@ -436,10 +436,10 @@ enum { LDVBI_LOOKED = 1000 };
  * sure that it isn't there, judge the whole side.
  *
  * This is proved of `before` and `after`, found or not: ldvbi_judge believes each, as above, and none of the fields
- * looked at is believed to have a nearer number on its side. These are at least 24 fields in a row, or all; if numbers
- * lead to a field, all from 24 before it to 24 after it. The two are the nearest of the whole side if its believed
- * numbers never fall, and either both are told, or numbers lead to a field with the lower ones up to it and the higher
- * ones from it on, one of each within 24 fields, if there are any. */
+ * looked at is believed to have a nearer number on its side. These are at least 24 fields in a row, or all; if the side
+ * has at most a million, and numbers lead to a field, all from 24 before it to 24 after it. The two are the nearest of
+ * the whole side if its believed numbers never fall, and either both are told, or numbers lead so to a field with the
+ * lower ones up to it and the higher ones from it on, one of each within 24 fields, if there are any. */
 LDVBI_RESULT LDVBI_POINTER(9) uint32_t ldvbi_seek(uint32_t system, uint32_t black, uint32_t white, uint32_t counted,
     uint32_t pace, const void *bytes, size_t length, uint32_t number, LdvbiSought *sought);
 

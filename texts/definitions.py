@@ -5,8 +5,8 @@ them.
 For a section the command prints the contracts themselves; then the definitions **to be believed**, of which their
 statements speak; then those **only between** code and law: a law holds of whatever a call answers, so nothing of what
 that is has to be believed. What sections **beside** it have to be believed isn't printed again. A definition comes after
-those that it rests on. A function of RELATIONS gives way to a relation that is the same, as a law says. Into
-docs/PROMISES.md go those of LINE that PRINTED names, and the counts.
+those that it rests on. A function of RELATIONS gives way to a relation that is the same, as a law says. Without a
+section it lists all, with how much has to be believed for each.
 
 usage: python3 texts/definitions.py [SECTION..]
 """
@@ -14,7 +14,6 @@ import functools
 import os
 import re
 import sys
-import textwrap
 from typing import Callable, Dict, Iterable, Iterator, List, NamedTuple, Optional, Tuple
 
 import numbers_of
@@ -46,9 +45,6 @@ def sections_of(text: str) -> Dict[str, Section]:
 
 
 SECTIONS = sections_of(numbers_of.read("texts/promised.txt"))
-LINE = "line"
-# Those of this section that the page prints; their comments and names say what the others are
-PRINTED = "Shows Viable FirstHopeless IsOutcome".split()
 # By function, the relation that stands for it, and the law by which they are one
 RELATIONS: Dict[Key, Tuple[Key, str]] = {
     ("vbi_line", "OneReading", "outcome_of"): (("vbi_words", "Outcomes", "IsOutcome"), "one_outcome"),
@@ -237,11 +233,11 @@ def by_file(keys: List[Key]) -> Iterator[Tuple[Module, List[str]]]:
         yield found, [name for name in found.definitions if name in names]
 
 
-def block(keys: List[Key], with_heads: bool) -> str:
+def block(keys: List[Key]) -> str:
     """Returns these definitions as a block, file by file."""
     lines = ["```agda"]
     for found, names in by_file(keys):
-        lines += ["-- " + found.path, *([*found.head, ""] if with_heads else ())]
+        lines += ["-- " + found.path, *found.head, ""]
         around: List[str] = []
         for one in map(found.definitions.get, names):
             lines += [*(one.around if one.around != around else ()), *one.comment, *one.lines, ""]
@@ -261,13 +257,13 @@ def between(mark: str) -> List[Key]:
 def rests(mark: str) -> str:
     """Returns on how many definitions the contracts of a section rest."""
     return "%s: %d definitions in %d lines to be believed%s, %d in %d lines only between, for %s" % (
-        mark, len(believed(mark)), lines_in(believed(mark)), after(mark, ""), len(between(mark)),
+        mark, len(believed(mark)), lines_in(believed(mark)), after(mark), len(between(mark)),
         lines_in(between(mark)), ", ".join(function for _, function in SECTIONS[mark].contracts))
 
 
-def after(mark: str, quote: str) -> str:
+def after(mark: str) -> str:
     """Returns which sections come before one, in words."""
-    named = [quote + other + quote for other in SECTIONS[mark].beside]
+    named = SECTIONS[mark].beside
     return " beside those of " + " and ".join(named) if named else ""
 
 
@@ -276,27 +272,8 @@ def told(mark: str) -> str:
     contracts = "\n".join("// %s\n%s" % (path, contract_of(path, function))
                           for path, function in SECTIONS[mark].contracts)
     return "\n".join(("== " + rests(mark), "", "```rust", contracts.rstrip(), "```", "", "-- To be believed", "",
-                      block(believed(mark), True), "-- Only between", "",
-                      block(between(mark), True) if between(mark) else "none\n"))
-
-
-def printed() -> str:
-    """Returns what the page has: some definitions, and for each of README's promises how much has to be believed."""
-    keys = [key for key in all_of(LINE) if key[2] in PRINTED]
-    if len(keys) != len(PRINTED):
-        raise SystemExit("definitions: of %s there are %d" % (" ".join(PRINTED), len(keys)))
-    rows = "".join("| `%s` | %d in %d lines%s | %d |\n" % (mark, len(believed(mark)), lines_in(believed(mark)),
-                                                         after(mark, "`"), len(between(mark)))
-                   for mark, section in SECTIONS.items() if section.bullet)
-    said = textwrap.fill(
-        "`python3 texts/definitions.py SECTION` prints a promise of README: its contracts, the definitions of which"
-        " they speak, which you have to believe, and those only between code and law. Other sections: %s." % ", ".join(
-            "`%s`" % mark for mark, section in SECTIONS.items() if not section.bullet), 120)
-    return "\n%s%s\n\n| Section | To be believed | Only between |\n|---|---|---|\n%s\n" % (
-        block(keys, False), said, rows)
-
-
-PARTS = {LINE: ("specs", printed)}
+                      block(believed(mark)), "-- Only between", "",
+                      block(between(mark)) if between(mark) else "none\n"))
 
 
 def main() -> None:

@@ -3,10 +3,8 @@
 import textwrap
 from typing import Any, Dict, Iterable, Tuple
 
-import definitions
 import measured
 import numbers_of
-import places
 from program import COMMANDS_OF_LDVBI, Program, ldvbi, ldvbi_side
 
 
@@ -66,5 +64,4 @@ PARTS = {
         "bad_lines": ("python/ldvbi_side/command/tables.py", columns_of_bad_lines),
     },
     **measured.PARTS,
-    "docs/PROMISES.md": {**definitions.PARTS, **places.PARTS},
 }
