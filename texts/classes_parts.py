@@ -132,9 +132,8 @@ def texts_of_page(classes):
 
 def patterns_of_document(classes):
     """The table of patterns in docs/FORMATS.md."""
-    return "\n| Pattern | Class | In the report |\n|---|---|---|\n" + "".join(
-        "| %s | %s | `%s` |\n" % (one.words or "all else", one.meaning, one.text_of(digits_of(one.example)))
-        for one in classes) + "\n"
+    return "\n| Pattern | Class |\n|---|---|\n" + "".join(
+        "| %s | %s |\n" % (one.words or "all else", one.meaning) for one in classes) + "\n"
 
 
 def lines_of_document(classes):

@@ -5,7 +5,7 @@ from typing import Any, Dict, Iterable, Tuple
 
 import measured
 import numbers_of
-from program import COMMANDS_OF_LDVBI, Program, ldvbi, ldvbi_side
+from program import COMMANDS_OF_LDVBI, ldvbi
 
 
 def items(rows: Iterable[Tuple[str, str]]) -> str:
@@ -20,8 +20,8 @@ def code(text: Any) -> str:
 
 # ---- statuses
 
-def statuses(program: Program) -> str:
-    return items((status, text) for status, text in program.statuses)
+def statuses() -> str:
+    return items((status, text) for status, text in ldvbi().statuses)
 
 
 # ---- columns
@@ -53,8 +53,7 @@ def columns_of_scan() -> str:
 # The parts of each document: where they stand in the source, and what makes them
 PARTS = {
     "docs/FORMATS.md": {
-        "statuses_of_ldvbi": (COMMANDS_OF_LDVBI, lambda: statuses(ldvbi())),
-        "statuses_of_side": ("python/ldvbi_side/command/statuses.py", lambda: statuses(ldvbi_side())),
+        "statuses_of_ldvbi": (COMMANDS_OF_LDVBI, statuses),
         "map": ("python/ldvbi_side/command/map.py", columns_of_map),
         "scan": ("python/ldvbi_side/command/rows.py", columns_of_scan),
     },

@@ -98,11 +98,21 @@ def test_a_part_of_a_line(text, columns, marked):
     assert (len(drawn.marked), drawn.outside) == (marked, [])
 
 
-def test_cells_stand_where_the_documents_have_them():
-    """Each second half cell of FORMATS.md begins a cell; or a column off, where two half cells of one level meet."""
+# The columns, cut to whole ones, at which the half cells of a drawn word of NTSC begin, which have 315/22 samples each,
+# and at which the last one ends
+HALF_CELLS = """
+150  164  178  192  207  221  235  250  264  278  293  307
+321  336  350  364  379  393  407  422  436  450  465  479
+493  507  522  536  550  565  579  593  608  622  636  651
+665  679  694  708  722  737  751  765  780  794  808  822
+837
+"""
+
+
+def test_cells_stand_where_they_are_drawn():
+    """Each second half cell begins a cell; or a column off, where two half cells of one level meet."""
     drawn = Drawn(described(PLAIN))
-    text = re.search(r"^### Drawn rows(.*?)^##", FORMATS, re.M | re.S).group(1)
-    begins = [int(number) for row in re.findall(r"^[0-9 ]+$", text, re.M) for number in row.split()][::2]
+    begins = [int(number) for number in HALF_CELLS.split()][::2]
     ends = Drawn(described("8AE012", PAL), PAL).cells[::24]  # from column 190 on, of 851 columns
     assert (len(drawn.cells), len(begins), drawn.bits) == (25, 25, "100000101100111111111111")
     assert all(abs(one - other) <= 1 for one, other in zip([*begins, 190, 1041], [*drawn.cells, *ends]))

@@ -1,5 +1,5 @@
-"""The exit statuses (0 to 2 are those of grep), and what each says for an option or a command. The help, the manual
-page and docs/FORMATS.md have them from here."""
+"""The exit statuses (0 to 2 are those of grep), and what each says for an option or a command. The help and the
+manual page have them from here."""
 
 from typing import Dict, Iterable, List, Tuple
 
