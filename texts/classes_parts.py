@@ -131,19 +131,17 @@ def texts_of_page(classes):
 
 
 def patterns_of_document(classes):
-    """The table of patterns in docs/FORMATS.md."""
-    return "\n| Pattern | Class |\n|---|---|\n" + "".join(
-        "| %s | %s |\n" % (one.words or "all else", one.meaning) for one in classes) + "\n"
+    """The list of patterns in docs/FORMATS.md."""
+    return "\n%s\n" % "".join("- %s: %s\n" % (one.words or "all else", one.meaning) for one in classes)
 
 
 def lines_of_document(classes):
-    """The table of lines in docs/FORMATS.md: a row for all classes that stand on the same ones."""
+    """The list of lines in docs/FORMATS.md: an item for all classes that stand on the same ones."""
     rows = {}
     for one in classes[:-1]:
         rows.setdefault(one.lines, []).append(one.meaning)
-    return "\n| Code | Lines |\n|---|---|\n" + "".join(
-        "| %s | %s |\n" % ("; ".join(meanings)[0].upper() + "; ".join(meanings)[1:], " and ".join(map(str, lines)))
-        for lines, meanings in rows.items()) + "\n"
+    return "\n%s\n" % "".join("- line%s %s: %s\n" % ("s" * (len(lines) > 1), " and ".join(map(str, lines)),
+                                                   "; ".join(meanings)) for lines, meanings in rows.items())
 
 
 def kinds_of_schema(classes, indent):

@@ -103,7 +103,7 @@ while read -r name alterations; do
 done << 'END'
 ANSWER s/^- `cause`: as/- `why`: as/; s/, `confirmed`//
 DECISIONS s/`Progress::add_row`/`Progress::added_row`/
-FORMATS s/^| CLV mark | 17 |$/| CLV mark | 18 |/; s/`field width differs`/`field width differ`/
+FORMATS s/^- line 17: CLV mark$/- line 18: CLV mark/; s/`field width differs`/`field width differ`/
 FORMATS s/else `hold` and that/else `held` and that/; s/#####[.]*######/#####....#####/; s/low byte/high byte/
 MEASURED s/judged 894 right/judged 898 right/
 PROMISES s/(#not-promised)/(#not-proved)/; s/`fetched`, `written`/`fetched`, `rewritten`/; s/`Said.antt`/`Saids.antt`/
