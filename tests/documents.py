@@ -192,7 +192,7 @@ def numbers():
 
 
 # What MEASURED.md says of how was measured, and the sums that it has of several rows or files
-KNOWN = {"400", "2000", "2350", "12000", "180000", "670", "681", "725", "3270", "25329"}
+KNOWN = {"400", "2000", "2350", "12000", "180000", "670", "681", "725", "3270"}
 
 
 def figures(text):
