@@ -104,7 +104,6 @@ def package() -> Dict[str, Any]:
     from ldvbi import near
     from ldvbi_side import levels
     from ldvbi_side.command import summary
-    from ldvbi_side.draw import folds, page
     from ldvbi_side.answer import analysis, ends, gaps, lines, missing, parts, whole
     from ldvbi_side.judge import believed, chain, clock, numbers as judged, order, paces, places, readings
     numbers = {"price.%d" % fields: paces.price(fields) for fields in (1, 2, 20000)}
@@ -115,7 +114,7 @@ def package() -> Dict[str, Any]:
     even = readings.Fields("PAL", [(0, 0xF00001, 0), (0, 0x87FFFF, 0)], [(0, 1, 0)] * 2, [], b"")
     return {
         **numbers, "minute.pal": pal, "minute.least": least, "minute.most": most, "version": analysis.VERSION,
-        "summary.listed": summary.MOST_LISTED, "page.plots": page.MOST_PLOTS, "page.rows": folds.MOST_ROWS,
+        "summary.listed": summary.MOST_LISTED,
         "still": chain.STILL, "carried": judged.CARRIED,
         "chapter.all": paces.ChapterPace.ALL,
         "chapter.share": parts.LEAST_SHARE, "missing.far": missing.FAR,
