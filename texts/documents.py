@@ -1,11 +1,10 @@
-"""The lists of the documents that the source makes: statuses and columns."""
+"""The lists of the documents that the source makes: columns of tables."""
 
 import textwrap
 from typing import Any, Dict, Iterable, Tuple
 
 import measured
 import numbers_of
-from program import COMMANDS_OF_LDVBI, ldvbi
 
 
 def items(rows: Iterable[Tuple[str, str]]) -> str:
@@ -16,12 +15,6 @@ def items(rows: Iterable[Tuple[str, str]]) -> str:
 
 def code(text: Any) -> str:
     return "`%s`" % text
-
-
-# ---- statuses
-
-def statuses() -> str:
-    return items((status, text) for status, text in ldvbi().statuses)
 
 
 # ---- columns
@@ -53,7 +46,6 @@ def columns_of_scan() -> str:
 # The parts of each document: where they stand in the source, and what makes them
 PARTS = {
     "docs/FORMATS.md": {
-        "statuses_of_ldvbi": (COMMANDS_OF_LDVBI, statuses),
         "map": ("python/ldvbi_side/command/map.py", columns_of_map),
         "scan": ("python/ldvbi_side/command/rows.py", columns_of_scan),
     },
