@@ -22,8 +22,8 @@ FIELD_COLUMNS = {
 BAD_LINE_COLUMNS = {
     "field": "the line's field", "line": "16, 17 or 18", "cause": "as in the document",
     "offset": "the line's first byte in the TBC file",
-    "nearest": "the word nearest to the line alone, or `-` if none, black, is as near as any",
-    "distance": "how far the line is from it, in hundredths of a column: a sample with the other level counts 70",
+    "nearest": "the word nearest to the line alone, or `-` if black is as near",
+    "distance": "how far the line is from it; a column with the other level counts 70",
     "rival": "how far it is from any other word, likewise",
 }
 NONE = "-"  # of a line to which the row of no word is as near as any
