@@ -101,7 +101,7 @@ def systems() -> str:
 
 def package() -> Dict[str, Any]:
     """The constants of the rules by which `ldvbi-side` judges."""
-    from ldvbi import near
+    from ldvbi import near, sides
     from ldvbi_side import levels
     from ldvbi_side.command import summary
     from ldvbi_side.answer import analysis, ends, gaps, lines, missing, parts, whole
@@ -119,7 +119,7 @@ def package() -> Dict[str, Any]:
         "chapter.all": paces.ChapterPace.ALL,
         "chapter.share": parts.LEAST_SHARE, "missing.far": missing.FAR,
         "clock.spacing": clock.PERIODS[0], "clock.dropping": clock.PERIODS[1],
-        "clock.tenth": clock.TENTH_MINUTE // clock.MINUTE, "clock.short": clock.SHORT,
+        "clock.tenth": sides.TENTH_MINUTE // sides.MINUTE, "clock.short": clock.SHORT,
         "clock.minutes": clock.SHORT_MINUTES, "clock.off": clock.OFF, "order.least": order.LEAST,
         "order.apart": believed.APART, "order.turn": order.TURN, "order.signs": order.SIGNS,
         "order.turned": order.TURNED, "sparse.least": places.LEAST, "lines.few": lines.FEW,

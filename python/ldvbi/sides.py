@@ -4,7 +4,7 @@ numbers keep, and whether the capture is whole."""
 import ctypes
 import enum
 import struct
-from typing import Any, List, NamedTuple, Optional, Sequence, Tuple, Union
+from typing import Any, List, NamedTuple, Optional, Sequence, Set, Tuple, Union
 
 from .judging import PACKED_NUMBER, PACKED_STATE, SIGHTINGS_BYTES, End, Number, find_pace, numbers_of, packed_of
 from .library import (Both, Counted, Pace, System, both_of, check, counted_number, later_call, number_of, pace_number,
@@ -104,6 +104,25 @@ class Clock(NamedTuple):
     period: int = 0
     phase: int = 0
 
+    def left_out_in(self, first: int, last: int) -> Set[int]:
+        """The numbers from the first to the last that are left out, as far as that is known."""
+        if self.kind == ClockKind.drop_frame:
+            return {number for rest in (0, 1) for number in _with_rest(MINUTE, rest, first, last)
+                    if number % TENTH_MINUTE >= 2}
+        return set(_with_rest(self.period, self.phase, first, last)) if self.kind == ClockKind.one_in else set()
+
+    def left_out_below(self, number: int) -> int:
+        """How many numbers below this one are left out, as far as that is known."""
+        if self.kind == ClockKind.drop_frame:
+            return sum(sign * len(_with_rest(period, rest, 0, number - 1))
+                       for rest in (0, 1) for sign, period in ((1, MINUTE), (-1, TENTH_MINUTE)))
+        return len(_with_rest(self.period, self.phase, 0, number - 1)) if self.kind == ClockKind.one_in else 0
+
+
+def _with_rest(period, rest, first, last):
+    """The numbers from the first to the last that leave this rest."""
+    return range(first + (rest - first) % period, last + 1, period)
+
 
 class JudgedSide(NamedTuple):
     """The library's answer for a whole side. `first` and `last` are the first and the last field with a believed
@@ -129,6 +148,7 @@ class JudgedSide(NamedTuple):
 _PACKED_GAP = struct.Struct("@NNQQIII0Q")  # LdvbiGap
 _PACKED_SIDE = struct.Struct("@N4QN7QNNNNNII")  # LdvbiSide, whose first members are LdvbiTally
 PACKED_CLOCK = struct.Struct("=III")  # LdvbiClock
+MINUTE, TENTH_MINUTE = 1800, 18000  # pictures, as NTSC counts them
 _ROOM = 64  # gaps, at first: few sides have more
 _KINDS = dict(enumerate(GapKind, 1))
 _CLOCKS = dict(enumerate(ClockKind))

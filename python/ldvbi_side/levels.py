@@ -6,7 +6,6 @@ from typing import Iterator, List, NamedTuple, Optional, Tuple
 
 from ldvbi import Stream, System, field_bytes, line_bytes, read_rows
 from ldvbi.readings import Levels
-from .answer.entries import Best, Tried
 
 FIELDS = 100  # whose lines 17 and 18 are looked at, in pairs all over the side
 FEW = 20  # lines to a word of one that is found, at most
@@ -22,6 +21,23 @@ class Setup(NamedTuple):
     """The system and levels with which lines are read."""
     system: System
     levels: Levels
+
+
+class Best(NamedTuple):
+    """The system and levels by which most lines are read, each None if it is the side's own, and their count."""
+    system: Optional[str]
+    black: Optional[int]
+    white: Optional[int]
+    read: int
+
+
+class Tried(NamedTuple):
+    """How many of some lines are read by the side's levels, and by what more of them are read, or None."""
+    lines: int
+    read: int
+    black: int
+    white: int
+    best: Optional[Best]
 
 
 def tried_on(stream: Stream) -> Tried:

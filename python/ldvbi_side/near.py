@@ -1,10 +1,10 @@
 """The nearest words of a side's lines, if its samples are at hand."""
 
-from typing import NamedTuple, Optional, Set
+from typing import Any, NamedTuple, Optional, Set, Tuple
 
-from ldvbi import Near, Stream, line_bytes, nearest
-from ldvbi.codes import LINES
-
+from ldvbi import Kind, Near, Stream, classify, line_bytes, nearest
+from ldvbi.codes import LINES, value_of
+from .judge.paces import Unit
 
 BEYOND = 4  # columns of a line by which a longer word may be nearer
 
@@ -51,3 +51,13 @@ def measured(stream: Stream, field: int, line: int) -> Measured:
     """The nearest word of one line of a field, and how near it is."""
     near, column = nearest_in(stream, field, line, line), stream.white - stream.black
     return Measured(near.word, near.distance * 100 // column, near.rival * 100 // column)
+
+
+def says(word: int, number: int, unit: Unit) -> bool:
+    """Whether a word says this number; for a time, the second and the picture, as line 16 has them."""
+    wanted: Tuple[Kind, Any] = Kind.picture, number
+    if unit.name == "time":
+        seconds, part = divmod(number, unit.rate)
+        wanted = Kind.clv_picture, (seconds % 60, part)
+    code = classify(word)
+    return (code.kind, value_of(code)) == wanted

@@ -4,8 +4,8 @@ import re
 from typing import Any, Dict, NamedTuple, Optional, Tuple
 
 from .answer.entries import Answer, frame_of
-from .answer.whole import UNITS
 from .judge.paces import RATES
+from .texts import UNITS
 
 _WANTED = re.compile(r"(?P<picture>[0-9]+)|(?P<time>[0-9]+:[0-9]+:[0-9]+\.[0-9]+)"
                      r"|(?P<part>[0-9]+:[0-9]{2}(:[0-9]{2})?)|(?i:chapter) (?P<chapter>[0-9]+)")

@@ -11,7 +11,7 @@ from ldvbi.metadata import Metadata, Settings
 from ldvbi.readings import PACKED_FIELD, Cut, Levels, PackedFields
 from ldvbi.stream import BLOCK, StreamDropouts, cut_of
 from .answer.analysis import Analysis, analysed
-from .answer.as_json import as_json
+from .as_json import as_json
 from .judge.readings import Fields
 from .levels import tried_on
 from .near import nearest_word_in
@@ -25,10 +25,10 @@ class Side:
     """The whole fields of a side in order, and the field in which it was cut. `readings` are kept as the library writes
     them, and those of each field are made when they are asked for. `first` says of each field whether it is the first
     one of its frame, or is None if that isn't known. `pad` says of each whether it is padding, or is None if none is.
-    `expected` is the number of fields that the metadata has, `sequential` that of its videoParameters, or None. With `is_strict`, a side without lead-in or
-    lead-out, or with an unread number, isn't whole. With `may_end`, a side without lead-out may be. `given_last` is the
-    number, or the part of a time, with which the disc is said to end, as text, or None. `samples` is the stream from
-    which words were recovered, or None.
+    `expected` is the number of fields that the metadata has, `sequential` that of its videoParameters, or None. With
+    `is_strict`, a side without lead-in or lead-out, or with an unread number, isn't whole. With `may_end`, a side
+    without lead-out may be. `given_last` is the number, or the part of a time, with which the disc is said to end, as
+    text, or None. `samples` is the stream from which words were recovered, or None.
 
     `answer` says what the words mean, as docs/ANSWER.md describes it; `pictures`, `times`, `chapters`, `stops` and
     `format` are parts of it. `analysis` has the same as an `Answer` of answer/entries.py. `codes` is what each field

@@ -10,7 +10,7 @@ from discs import side, typed
 import ldvbi
 from ldvbi import Kind, Reading
 from ldvbi.readings import Cut
-from ldvbi_side.answer.entries import Doubt, Extent, Lost, Missing, Neighbour, Repeated, Speed, Swapped
+from ldvbi_side.answer.entries import Doubt, Extent, Lost, Missing, Numbered, Repeated, Speed
 from ldvbi_side.draw import bands, bars, colours, curve, drawing, folds, sorting
 from ldvbi_side.draw.axis import Axis, BROAD, NARROW
 from ldvbi_side.draw.curve import Scale, ticks
@@ -32,7 +32,7 @@ ENTRIES = {
     "missing": Missing(5, 5, 1, "lost", 9, 13), "lost": Lost(9, 10, 1, "number"),
     "breaks": Break("held", 9, 12, 5, 6, 4),
     "doubtful": Doubt(7, 18, 0xF79999, Kind.picture, 2, "lines", 79999, None, None),
-    "stray": Stray(7, 16, 0x87FFFF, Kind.clv_mark, 1, "line"), "swapped": Swapped(9, 5),
+    "stray": Stray(7, 16, 0x87FFFF, Kind.clv_mark, 1, "line"), "swapped": Numbered(9, 5),
     "speeds": Speed(9, 49, "1/3"), "stills": Showing(5, 9, 15), "repeated": Repeated(5, 6, 21, 23, 9)}
 PLACE, LOST = ", after field 9, before field 13: ", " between fields 9 and 10, "
 DOUBT, PASS_2 = "doubtful 7: doubtful: picture 79999 in field 7, line 18", ", read only after smoothing: "
@@ -64,7 +64,7 @@ MARKS = (
      "doubtful 7: doubtful: time F0DD75 in field 7, line 18" + PASS_2 + "no clock shows it"),
     ("doubtful", {"pass_": 1}, DOUBT + ": lines 17 and 18 differ"),
     ("doubtful", {"pass_": 3}, DOUBT + ", recovered: lines 17 and 18 differ"),
-    ("doubtful", {"before": Neighbour(5, 3)}, DOUBT + PASS_2 + "lines 17 and 18 differ (3 in field 5)"),
+    ("doubtful", {"before": Numbered(5, 3)}, DOUBT + PASS_2 + "lines 17 and 18 differ (3 in field 5)"),
     *(("stray", {"why": why}, "out of place 7: out of place: clv in field 7, line 16: " + text) for why, text in (
         ("line", "no disc has it on this line"), ("format", "a code of the other format"),
         ("place", "it stands between two numbers that fit each other"),

@@ -18,11 +18,11 @@ from unittest import mock
 
 import discs
 from ldvbi_side import outside
-from ldvbi_side.answer.said import said_of
 from ldvbi_side.command import outputs
 from ldvbi_side.command.outputs import whole_file, whole_path
 from ldvbi_side.draw.index import head_of, index_of, PART
 from ldvbi_side.draw.page import MARK
+from ldvbi_side.join.heads import said_of
 from ldvbi_side.outside import bytes_of_document, legible, printable, shown
 import pytest
 from room import IN_PLACE, reason

@@ -14,8 +14,8 @@ from discs import answer, joined, pictures, plain, side
 from jsonschema import Draft202012Validator
 from ldvbi.readings import Cut
 from ldvbi_side.answer.analysis import analyse
-from ldvbi_side.answer.entries import Best, Tried
 from ldvbi_side.join.plain import as_json
+from ldvbi_side.levels import Best, Tried
 from measure import fields_of
 import pytest
 from simulate import KINDS, simulated

@@ -6,12 +6,13 @@ import re
 from compact import cells_of, made
 from discs import side, typed
 from ldvbi.readings import Cut, Levels
-from ldvbi_side.answer.entries import Best, FewWords, Swapped, Tried
+from ldvbi_side.answer.entries import FewWords, Numbered
 from ldvbi_side.answer.lines import SIZES
 from ldvbi_side.command.chapters import chapter_spans
 from ldvbi_side.command.map import head_rows, map_rows
 from ldvbi_side.command.summary import MOST_LINES, summary
 from ldvbi_side.command.tables import bad_line_rows, field_rows
+from ldvbi_side.levels import Best, Tried
 from ldvbi_side.seek import seek, text_of, wanted_of, why_not
 import pytest
 from room import reason
@@ -233,7 +234,7 @@ def test_what_metadata_counts():
 def test_at_most_27_lines():
     known = made("NTSC t0..8999!400%1001 -101:110 1:17972/2.17=@2:20*", typed)  # a second row of numbers on line 17
     known = known._replace(levels=FewWords("bad", 1, 9, 1, 1, 17, None), sequential_fields=1, metadata_fields=2,
-                            swapped=[Swapped(1, "2:20:00.00")])
+                            swapped=[Numbered(1, "2:20:00.00")])
     lines = list(summary(known))
     assert (len(lines), MOST_LINES) == (27, 27)
     assert [line for line in lines if line.startswith("a second row of numbers, not taken: 2:20:")]

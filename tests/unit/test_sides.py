@@ -13,13 +13,16 @@ import ldvbi
 from ldvbi import Kind, Reason
 from ldvbi.readings import Cut
 from ldvbi_side.answer.analysis import analyse
-from ldvbi_side.answer.entries import Doubt, Lost, Missing, Speed, Stretch, Swapped
+from ldvbi_side.answer.ends import begin_of
+from ldvbi_side.answer.entries import Doubt, Lost, Missing, Numbered, Speed, Stretch
 from ldvbi_side.answer.gaps import Gaps
-from ldvbi_side.answer.whole import counted_by, reasons_of
+from ldvbi_side.answer.whole import reasons_of
 from ldvbi_side.command.map import COLUMNS, map_rows
+from ldvbi_side.join.captures import aside_in
 from ldvbi_side.judge.paces import Unit
 from ldvbi_side.judge.places import Break
 from ldvbi_side.judge.readings import Stray
+from ldvbi_side.texts import counted_by
 import pytest
 from streams import TOP
 
@@ -290,7 +293,7 @@ def test_stops_of_a_map():
     known = made("1..9 5=S^/#3/#3 7=S/#4/#4", typed)
     assert [row for row in map_rows(known) if row[0] == "stop"] == [
         ("stop", 3, 5, 3, "unsure"), ("stop", 4, 7, 4, "read")]
-    assert (5, 16) in known.aside()
+    assert (5, 16) in aside_in(known)
 
 
 def test_the_order_of_all_reasons():
@@ -298,8 +301,9 @@ def test_the_order_of_all_reasons():
     assert [one.why for one in known.reasons] == ["order"]
     known = known._replace(
         numbers=known.numbers._replace(least=11), lost=[Lost(9, 10, 2, "number")], lead_in=[Stretch(40, 40, 1)],
+        open_end=False,
         breaks=[Break("back", 9, 10, 5, 4, 1)],
-        swapped=[Swapped(9, None)], speeds=[Speed(9, 49, "2")], metadata_fields=999, fields=500, cut_field=Cut(501, 1),
+        swapped=[Numbered(9, None)], speeds=[Speed(9, 49, "2")], metadata_fields=999, fields=500, cut_field=Cut(501, 1),
         missing=[Missing(9, 9, 1, why, 9, 10) for why in ("undecided", "unread", "lost")],
         stray=[Stray(field, 17, 0x87FFFF, Kind.clv_mark, 1, "format") for field in (9, 10)], doubtful=[
             Doubt(field, 17, 0xF79999, Kind.picture, 1, "alone", 79999, None, None) for field in range(9, 50, 3)])
@@ -307,18 +311,20 @@ def test_the_order_of_all_reasons():
     gaps = Gaps(judged._replace(reasons=judged.reasons | Reason.no_numbers), [], 4, [Break("lost", 30, 32, 15, 17, 2)],
                 [Break("lost", 9, 10, 5, 6, 2)])
 
-    def whys(*words, known=known, kinds=("no", "can't tell")):
-        return [one.why for one in reasons_of(known, *words) if one.whole in kinds]
+    def reasons(known, gaps, is_strict=False):
+        return reasons_of(known, gaps, begin_of(known, gaps.judged, Unit("picture", 30), is_strict), is_strict)
 
-    unit = Unit("picture", 30)
+    def whys(*words, known=known, kinds=("no", "can't tell")):
+        return [one.why for one in reasons(known, *words) if one.whole in kinds]
+
     others = ["open", "off", "undecided", "ends", "order", "doubtful"]
     no = ["lost", "jumps", "speed", "missing", "swapped", "begins", "unread", "lead-out", "joined", "format",
           "metadata", "cut"]
-    assert (whys(gaps, unit, True), whys(gaps, unit, True, kinds=["no"])) == (no + ["numbers"] + others, no)
+    assert (whys(gaps, True), whys(gaps, True, kinds=["no"])) == (no + ["numbers"] + others, no)
     known = known._replace(lead_in=[])
-    assert whys(gaps, unit, True, known=known)[7:9] == ["lead-in", "lead-out"]
-    assert "another side begins after field 9" in [one.text for one in reasons_of(known, gaps, unit, True)]
-    assert whys(gaps._replace(judged=judged), unit, known=known, kinds=["can't tell"]) == [
+    assert whys(gaps, True, known=known)[7:9] == ["lead-in", "lead-out"]
+    assert "another side begins after field 9" in [one.text for one in reasons(known, gaps, True)]
+    assert whys(gaps._replace(judged=judged), known=known, kinds=["can't tell"]) == [
         *others[:4], "lead-out", *others[4:]]
     assert "a field may be lost or too many in fields 1 to 51" in [
-        one.text for one in reasons_of(known, gaps._replace(more=0), unit)]
+        one.text for one in reasons(known, gaps._replace(more=0))]

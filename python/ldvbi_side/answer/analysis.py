@@ -11,15 +11,15 @@ from typing import Any, Dict, List, NamedTuple, Optional
 
 from ldvbi import Clock, Kind
 from ldvbi.collector import paused
+from ..as_json import as_json
 from ..judge.numbers import numbers_of
 from ..judge.order import pairs_of
 from ..judge.places import Break, Places, Showing, places_of
 from ..judge.readings import Codes, Fields, codes_of
-from .as_json import as_json
 from .confirmed import with_confirmed
-from .doubts import Doubts, doubts_in, read_in
+from .doubts import doubts_in
 from .ends import Begin, begin_of, unseen_between
-from .entries import Answer, Extent, Lost, Speed, Swapped, Unread
+from .entries import Answer, Conflict, Doubt, Extent, Lost, Numbered, Speed, Unread
 from .gaps import Gaps, gaps_of
 from .last import Last, last_of
 from .lines import bad_lines_of, levels_of, rates_of
@@ -49,31 +49,33 @@ def analysed(fields: Fields) -> Analysis:
     """The analysis of these fields of a side."""
     codes = codes_of(fields)
     found = numbers_of(codes)
-    numbers, doubts = found.numbers, doubts_in(codes, found)
+    numbers, (doubtful, conflicts, second_rows) = found.numbers, doubts_in(codes, found)
     places = with_confirmed(places_of(numbers, codes), fields.nearest_word)
     gaps = gaps_of(places, codes.kinds[Kind.picture], codes.sure_fields(Kind.lead_out))
-    begin = 2 if fields.first and not fields.first[0] else 1
+    frame_begin = 2 if fields.first and not fields.first[0] else 1
     bad, rates = bad_lines_of(fields), rates_of(fields)
     answer = Answer(
         version=VERSION, system=fields.system, format=codes.format, unit=numbers.unit.name, fields=len(fields.words),
-        cut_field=fields.cut, frame_begin=begin, pace=numbers.pace.kind if numbers.pace else None,
+        cut_field=fields.cut, frame_begin=frame_begin, pace=numbers.pace.kind if numbers.pace else None,
         bad_lines=bad, lines=rates, levels=levels_of(rates, bad, fields), metadata_fields=fields.expected,
         sequential_fields=fields.sequential, open_end=fields.may_end, given_last=fields.given_last,
-        padding=padding_of(fields), missing=[], left_out=[], lost=[],
-        **_of_numbers(places, gaps, doubts), **_of_parts(codes, places, doubts, begin))
+        padding=padding_of(fields), missing=[], left_out=[], lost=[], second_rows=second_rows,
+        **_of_numbers(places, gaps, doubtful), **_of_parts(codes, places, doubtful, conflicts, frame_begin))
+    begin = begin_of(answer, gaps.judged, numbers.unit, fields.is_strict)
     last = last_of(answer, numbers.unit, numbers.clock)
-    answer = _with_losses(answer, places, gaps, codes, last)
-    reasons = reasons_of(answer, gaps, numbers.unit, fields.is_strict, fields.may_end, unseen_between(numbers), last)
+    answer = _with_losses(answer, places, gaps, codes, begin, last)
+    reasons = reasons_of(answer, gaps, begin, fields.is_strict, unseen_between(numbers), last)
     whole = whole_of(reasons)
     answer = answer._replace(whole=whole, reasons=reasons, levels=None if whole == YES else answer.levels)
-    return Analysis(answer, _breaks(places, own_breaks(places)),
-                    numbers.clock, begin_of(answer, gaps.judged, numbers.unit, fields.is_strict))
+    return Analysis(answer, _breaks(places, own_breaks(places)), numbers.clock, begin)
 
 
-def _of_numbers(places: Places, gaps: Gaps, doubts: Doubts) -> Dict[str, Any]:
+def _of_numbers(places: Places, gaps: Gaps, doubtful: List[Doubt]) -> Dict[str, Any]:
     """The numbers, and where they stand: these members of the answer."""
     text_of, showings = places.numbers.unit.text_of, places.showings
-    read = read_in(doubts.doubtful, {field for _, field in places.due})
+    # what was read instead of a number that is due: the first word of its field that is set aside
+    due = {field for _, field in places.due}
+    read = {one.field: one.said() for one in reversed(doubtful) if one.field in due}
     numbers = {one.number for one in showings}
     return {
         "numbers": Extent(len(numbers), *(text_of(end(numbers)) if numbers else None for end in (min, max))),
@@ -85,7 +87,7 @@ def _of_numbers(places: Places, gaps: Gaps, doubts: Doubts) -> Dict[str, Any]:
         "stills": [one._replace(number=text_of(one.number)) for one in places.stills],
         "repeated": repeated_of(places),
         "speeds": [Speed(one.first, one.last, one.line.name()) for one in places.numbers.speeds],
-        "swapped": [Swapped(begin, places.number_at(field))
+        "swapped": [Numbered(begin, places.number_at(field))
                     for begin, field in pairs_of(places.numbers.swapped).items()]}
 
 
@@ -95,11 +97,11 @@ def _breaks(places: Places, breaks: List[Any]) -> List[Any]:
     return [one._replace(from_=text_of(one.from_), to=text_of(one.to)) for one in breaks]
 
 
-def _with_losses(answer: Answer, places: Places, gaps: Gaps, codes: Codes, last: Optional[Last]) -> Answer:
+def _with_losses(answer: Answer, places: Places, gaps: Gaps, codes: Codes, begin: Optional[Begin],
+                 last: Optional[Last]) -> Answer:
     """The answer with what isn't there: also before the side's first number, if that is the least one."""
-    begin, first = begin_of(answer, gaps.judged, places.numbers.unit), codes.fields.first or ()
     missing, left_out = missing_of(places, gaps, codes, begin, last.lacks if last else None)
-    lost = lost_fields(places, gaps, first[:answer.fields])
+    lost = lost_fields(places, gaps, (codes.fields.first or ())[:answer.fields])
     if begin and begin.fields > 0 and (begin.before, begin.lacks) == (answer.showings[0].first, answer.numbers.least):
         lost = [Lost(begin.after, begin.before, begin.fields, "number", is_about(answer.pace))] + lost
     if last and last.lacks and last.least:
@@ -109,16 +111,15 @@ def _with_losses(answer: Answer, places: Places, gaps: Gaps, codes: Codes, last:
     return answer._replace(missing=missing, left_out=left_out, lost=lost)
 
 
-def _of_parts(codes: Codes, places: Places, doubts: Doubts, begin: int) -> Dict[str, Any]:
+def _of_parts(codes: Codes, places: Places, doubtful: List[Doubt], conflicts: List[Conflict], begin: int
+              ) -> Dict[str, Any]:
     """The chapters and the disc's other parts, and all that is set aside: these members of the answer."""
-    chapters, doubtful, conflicts = chapters_of(codes, places, begin)
+    chapters, doubtful_chapters, chapter_conflicts = chapters_of(codes, places, begin)
     lead_in, stray_in = ends_of(codes, Kind.lead_in, places.numbers)
     lead_out, stray_out = ends_of(codes, Kind.lead_out, places.numbers)
     stops, unsure_stops, stray_stops = stops_of(codes, places, begin)
     return {
-        "doubtful": sorted(doubts.doubtful + doubtful), "conflicts": sorted(doubts.conflicts),
-        "chapter_conflicts": conflicts, "second_rows": doubts.second_rows,
-        "chapters": chapters, "stops": stops, "unsure_stops": unsure_stops,
-        "lead_in": lead_in, "lead_out": lead_out,
-        "stray": sorted(codes.stray + stray_in + stray_out + stray_stops),
+        "doubtful": sorted(doubtful + doubtful_chapters), "conflicts": sorted(conflicts),
+        "chapter_conflicts": chapter_conflicts, "chapters": chapters, "stops": stops, "unsure_stops": unsure_stops,
+        "lead_in": lead_in, "lead_out": lead_out, "stray": sorted(codes.stray + stray_in + stray_out + stray_stops),
         "unknown": codes.unknown, "programme_status": status_of(codes), "users": users_of(codes)}

@@ -2,7 +2,7 @@
 
 import array
 import functools
-from typing import Any, Callable, Collection, Dict, Iterable, List, Mapping, NamedTuple, Optional, Tuple, cast
+from typing import Any, Callable, Dict, List, Mapping, Optional, Tuple, cast
 
 from ldvbi import Cause, Counted, Kind, Pace as JudgedPace, judge
 from ldvbi.codes import LINES
@@ -12,22 +12,15 @@ from ..judge.chain import sure_in
 from ..judge.numbers import Found
 from ..judge.paces import minute_text, price
 from ..judge.readings import Codes, Lines, Reading
-from .entries import Conflict, Doubt, Neighbour, SecondRow
+from .entries import Conflict, Doubt, Numbered, SecondRow
 
 WIDEST = price(1 << 18)  # more than the widest break of a side costs
 SHARE = 10  # believed readings to one of a second row, at most
 _doubt = cast(Callable[..., Doubt], functools.partial(tuple.__new__, Doubt))  # there may be many
 
 
-class Doubts(NamedTuple):
-    """The numbers of a side that are set aside, the fields whose lines differ, and second rows of numbers."""
-    doubtful: List[Doubt]
-    conflicts: List[Conflict]
-    second_rows: List[SecondRow]
-
-
 # Why a number that is set aside is doubtful, and the believed readings around it, as the answer has them
-Beside = Tuple[str, Optional[Neighbour], Optional[Neighbour]]
+Beside = Tuple[str, Optional[Numbered], Optional[Numbered]]
 BesideOf = Callable[[int, bool], Beside]  # of a field, and whether its lines differ
 
 
@@ -39,14 +32,14 @@ def beside_in(numbers: Numbers) -> BesideOf:
     @functools.lru_cache(maxsize=None)
     def between(before: Optional[Reading], after: Optional[Reading], is_conflict: bool) -> Beside:
         why = "lines" if is_conflict else "neighbours" if numbers.fit((before, after)) else "alone"
-        return (why, before and Neighbour(before.field, text_of(before.number)),
-                after and Neighbour(after.field, text_of(after.number)))
+        return (why, before and Numbered(before.field, text_of(before.number)),
+                after and Numbered(after.field, text_of(after.number)))
 
     return lambda field, is_conflict: between(*numbers.around(field), is_conflict)
 
 
-def doubts_in(codes: Codes, found: Found) -> Doubts:
-    """What is set aside of the numbers of these codes."""
+def doubts_in(codes: Codes, found: Found) -> Tuple[List[Doubt], List[Conflict], List[SecondRow]]:
+    """What is set aside of the numbers of these codes, the fields whose lines differ, and second rows of numbers."""
     numbers, readings, times = found
     if numbers.unit.name == "time":
         doubtful, conflicts = _times_aside(times, numbers)
@@ -64,7 +57,7 @@ def doubts_in(codes: Codes, found: Found) -> Doubts:
                     for one in doubts_of(codes, kind, field, lines, None, (why, None, None))] + doubtful
     rest = [one for one in readings if numbers.taken.get(one.field) != one.number]
     rows = _second_rows(codes, numbers, rest) if numbers.judged else []
-    return Doubts(doubtful, conflicts, rows)
+    return doubtful, conflicts, rows
 
 
 def doubts_of(codes: Codes, kind: Kind, field: int, lines: Lines, text: Any, beside: Beside) -> List[Doubt]:
@@ -72,12 +65,6 @@ def doubts_of(codes: Codes, kind: Kind, field: int, lines: Lines, text: Any, bes
     words, passes, (why, before, after) = codes.fields.words[field - 1], codes.fields.passes[field - 1], beside
     return [_doubt((field, line, words[line - LINES[0]], kind, passes[line - LINES[0]], why, text, before, after))
             for line in lines]
-
-
-def read_in(doubtful: List[Doubt], fields: Collection[int]) -> Dict[int, Any]:
-    """What was read in these fields instead of a number that is due there, as text or number: the first word of each
-    field that is set aside, by its number or, if no clock shows that, by its digits."""
-    return {one.field: one.said() for one in reversed(doubtful) if one.field in fields}
 
 
 def aside_of(codes: Codes, kind: Kind, readings: List[Reading], taken: Mapping[int, int], beside: BesideOf,

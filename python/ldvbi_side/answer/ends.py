@@ -5,7 +5,7 @@ from typing import Any, Dict, List, NamedTuple, Optional, Tuple
 
 from ldvbi import Clock, ClockKind, JudgedSide, Reason
 from ..judge.believed import Numbers
-from ..judge.clock import NO_CLOCK, left_out_below
+from ..judge.clock import NO_CLOCK
 from ..judge.paces import RATES, Unit
 from .entries import Answer
 
@@ -76,18 +76,12 @@ def unseen_between(numbers: Numbers) -> List[Tuple[int, int]]:
             if after.field - before.field > LONGEST + 1 and numbers.off(before, after) == 0]
 
 
-def is_end_seen(answer: Answer) -> bool:
-    """Whether lead-out, or another side's lead-in, stands after the last number."""
-    last = answer.showings[-1].last if answer.showings else 0
-    return any(one.last > last for one in answer.lead_out + answer.lead_in)
-
-
 def _fields_before(number: Any, answer: Answer, clock: Clock) -> Tuple[int, int]:
     """How many fields a disc has before this number, from the last one on with which it may begin, at least and at
     most: if no clock was found of an NTSC disc, it may leave out times."""
     rate, unit = RATES[answer.system], answer.unit
     begin, end = FIRST[unit], ordinal_of(number, rate)
-    count = end - begin - left_out_below(clock, end) + left_out_below(clock, begin)
+    count = end - begin - clock.left_out_below(end) + clock.left_out_below(begin)
     if unit == "picture" or clock.kind != ClockKind.plain:
         fields = 5 * count // 2 if answer.pace == "film" else 2 * count
         return fields, fields
@@ -102,7 +96,5 @@ def ordinal_of(number: Any, rate: int) -> int:
     if isinstance(number, int):
         return number
     clock, _, picture = number.partition(".")
-    total = 0
-    for part in clock.split(":"):
-        total = 60 * total + int(part)
+    total = sum(int(part) * 60 ** place for place, part in enumerate(reversed(clock.split(":"))))
     return total * rate + int(picture) if picture else total

@@ -1,18 +1,26 @@
 """The answer for a side and the entries of its lists, under the names by which all of this package reads them;
 as_json.py gives them those of share/schema/ldvbi-side.schema.json. A name that Python has taken ends with `_`. Numbers
 are as they are there: pictures are whole numbers, times are texts. Words and their kinds are not texts here. `judge`
-makes showings, breaks and stills (places.py), and stray and unknown words (readings.py)."""
+makes showings, breaks and stills (places.py), and stray and unknown words (readings.py); levels.py tries levels."""
 
-from typing import Any, Dict, List, NamedTuple, Optional, Sequence, Set, Tuple
+from typing import Any, Dict, List, NamedTuple, Optional, Sequence
 
 from ldvbi import Kind
 from ldvbi.readings import Cut
 from ..judge.detours import Detour
 from ..judge.places import Break, Showing
 from ..judge.readings import Stray, Unknown
+from ..levels import Tried
 
 
 # ---- Numbers
+
+class Numbered(NamedTuple):
+    """A field with its number: one that is believed beside another one, or the first of two swapped fields with a
+    number that they show, or None."""
+    field: int
+    number: Any
+
 
 class Extent(NamedTuple):
     """How many numbers are believed, and the least and the greatest one, or None."""
@@ -60,16 +68,6 @@ class Lost(NamedTuple):
         """Whether a field may be shown again there instead: only isFirstField shows that something is."""
         return self.by == "undecided" and self.fields is None
 
-    def count_text(self) -> str:
-        """How many they are, as a text."""
-        return "1 or more" if self.fields is None else "%s%d" % ("at least " * self.or_more, self.fields)
-
-
-class Swapped(NamedTuple):
-    """The first of two swapped fields, and a number that they show, or None."""
-    field: int
-    number: Any
-
 
 class Speed(NamedTuple):
     """Fields that were played at another speed, and how many numbers a picture has there."""
@@ -80,12 +78,6 @@ class Speed(NamedTuple):
 
 # ---- What is set aside
 
-class Neighbour(NamedTuple):
-    """A believed number beside another one, and its field."""
-    field: int
-    number: Any
-
-
 class Doubt(NamedTuple):
     """A word that is set aside: its pass, why, its number, if a clock shows it, and the believed numbers around it."""
     field: int
@@ -95,8 +87,8 @@ class Doubt(NamedTuple):
     pass_: int
     why: str
     number: Any
-    before: Optional[Neighbour]
-    after: Optional[Neighbour]
+    before: Optional[Numbered]
+    after: Optional[Numbered]
 
     def said(self) -> Any:
         """What was read: the number or, if no clock shows that, the word by its digits."""
@@ -199,23 +191,6 @@ class Rates(NamedTuple):
         return self.change + self.hold + self.unfinished
 
 
-class Best(NamedTuple):
-    """The system and levels by which most lines are read, each None if it is the side's own, and their count."""
-    system: Optional[str]
-    black: Optional[int]
-    white: Optional[int]
-    read: int
-
-
-class Tried(NamedTuple):
-    """How many of some lines are read by the side's levels, and by what more of them are read, or None."""
-    lines: int
-    read: int
-    black: int
-    white: int
-    best: Optional[Best]
-
-
 class FewWords(NamedTuple):
     """What lines 17 and 18 show if they have few words: how many of each, one of these lines, and what other levels
     read, or None. `shows` is `blank` or `bad`."""
@@ -260,7 +235,7 @@ class Answer(NamedTuple):
     lost: List[Lost]
     padding: List[Stretch]
     speeds: List[Speed]
-    swapped: List[Swapped]
+    swapped: List[Numbered]
     detours: List[Detour]
     doubtful: List[Doubt]
     conflicts: List[Conflict]
@@ -284,11 +259,6 @@ class Answer(NamedTuple):
     given_last: Optional[str]
     whole: str = ""
     reasons: Sequence[Ground] = ()
-
-    def aside(self) -> Set[Tuple[int, int]]:
-        """The fields and lines whose word is set aside: it is doubtful or stray, or a stop that isn't sure."""
-        return {one[:2] for one in self.doubtful}.union(
-            [one[:2] for one in self.stray], [(one.field, line) for one in self.unsure_stops for line in one.lines])
 
 
 def frame_of(field: int, begin: int) -> int:

@@ -4,9 +4,9 @@ import re
 from typing import Any, List, NamedTuple, Optional, Tuple
 
 from ldvbi import Clock, ClockKind
-from ..judge.clock import DROP_FRAME, left_out_in
+from ..judge.clock import DROP_FRAME
 from ..judge.paces import MINUTE_FIELDS, Unit
-from ..judge.places import Break, Showing
+from ..judge.places import Break
 from .ends import ordinal_of
 from .entries import Answer
 
@@ -35,18 +35,19 @@ def last_of(answer: Answer, unit: Unit, clock: Clock) -> Optional[Last]:
     if greatest > last:
         return Last(last, greatest, True)
     own = next(one for one in reversed(answer.showings) if one.number == answer.numbers.greatest)
-    number, own_rest = max(first, greatest), _rest_of(own, answer)
-    before = _before(own, answer)
-    there = before - own.last - 1
-    if number == greatest:
-        rest = own_rest if before > answer.fields else 0  # lead-out may begin with the last picture's other field
-        lost = max(rest - there, 0)
-        return Last(number, greatest, False, Break("lost", own.last, before, greatest, number + 1, lost) if lost else
-                    None, lost)
-    least, most = (max(fields - there, 0) for fields in _due(number, greatest, own_rest, answer, clock))
-    after = own.last + min(there, own_rest)
-    lacks = Break("lost" if least else "held", after, before, greatest, number + 1, most)
-    return Last(number, greatest, False, lacks, least, least != most or first != last)
+    # up to another number, an end of the disc, or the end of all there may be more of what follows
+    ends: List[Any] = [*answer.showings, *answer.lead_in, *answer.lead_out]
+    before = min((one.first for one in ends if one.first > own.last), default=answer.fields + 1)
+    # at least how many fields the number has after the last one that shows it
+    number, there, rest = max(first, greatest), before - own.last - 1, int(answer.pace in ("video", "film"))
+    due = _due(number, greatest, rest, answer, clock)
+    if number == greatest:  # lead-out may begin with the last picture's other field
+        due = (rest, rest) if before > answer.fields else (0, 0)
+    least, most = (max(fields - there, 0) for fields in due)
+    if number == greatest and not least:
+        return Last(number, greatest, False)
+    lacks = Break("lost" if least else "held", own.last + min(there, rest), before, greatest, number + 1, most)
+    return Last(number, greatest, False, lacks, least, number > greatest and (least != most or first != last))
 
 
 def _counts_of(text: str, unit: Unit) -> Optional[Tuple[int, int]]:
@@ -60,18 +61,6 @@ def _counts_of(text: str, unit: Unit) -> Optional[Tuple[int, int]]:
     return count, count + scales[min(len(parts), len(scales)) - 1] - 1
 
 
-def _before(own: Showing, answer: Answer) -> int:
-    """The field before which there may be more of what follows a showing: that of another number, or of the disc's
-    ends, or the one after all."""
-    others: List[Any] = [*answer.showings, *answer.lead_in, *answer.lead_out]
-    return min((one.first for one in others if one.first > own.last), default=answer.fields + 1)
-
-
-def _rest_of(own: Showing, answer: Answer) -> int:
-    """How many fields a number has after the last one that shows it, at least."""
-    return int(answer.pace in ("video", "film"))
-
-
 def _due(number: int, greatest: int, rest: int, answer: Answer, clock: Clock) -> Tuple[int, int]:
     """How many fields a disc has from those of its greatest number on to this one, at least and at most."""
     count = number - greatest
@@ -79,10 +68,10 @@ def _due(number: int, greatest: int, rest: int, answer: Answer, clock: Clock) ->
         least, some, _ = MINUTE_FIELDS[answer.system]
         return (count - 1) * least + 1, count * some
     if clock.kind != ClockKind.plain:
-        count -= len(left_out_in(clock, greatest + 1, number - 1))
+        count -= len(clock.left_out_in(greatest + 1, number - 1))
     fields = rest + (5 * count // 2 if answer.pace == "film" else 2 * count)
     may_skip = answer.unit == "time" and answer.system == "NTSC" and clock.kind == ClockKind.plain and count > 1
     if not may_skip:
         return fields, fields
-    most = max(len(left_out_in(DROP_FRAME, greatest + 1, number - 1)), 1 + (count - 2) // EVEN)
+    most = max(len(DROP_FRAME.left_out_in(greatest + 1, number - 1)), 1 + (count - 2) // EVEN)
     return fields - 2 * most, fields if count - 1 > most else fields - 2 * most

@@ -19,9 +19,7 @@ def bad_lines_of(fields: Fields) -> List[BadLine]:
     size, height = SIZES[fields.system]
     bad = []
     for field, causes in enumerate(fields.causes, 1):
-        if _GOOD.issuperset(causes):
-            continue
-        for line, cause in zip(LINES, causes):
+        for line, cause in () if _GOOD.issuperset(causes) else zip(LINES, causes):
             if cause not in _GOOD:
                 _, _, column = cause.partition(" ")
                 bad.append(BadLine(field, line, cause, int(column) if column else None,

@@ -2,19 +2,20 @@
 gaps; and numbers that are shown again."""
 
 import bisect
+import itertools
+import operator
 from typing import Any, Dict, Iterator, List, Optional, Sequence, Tuple
 
 from ldvbi import ClockKind
 from ..judge.believed import stretch_at
-from ..judge.clock import left_out_in
 from ..judge.order import pairs_of
+from ..judge.paces import Pace
 from ..judge.places import Break, Places, Showing
 from ..judge.readings import Codes
 from .ends import FIRST, Begin, ordinal_of
 from .entries import Lost, Missing, Repeated
 from .gaps import Between, Gaps
 
-_BLANK = frozenset(["blank"])
 FAR = 10  # numbers passed over to one that fields may be there for: from here on most of them are sure to be lost
 Spans = List[Tuple[str, List[Tuple[int, int]]]]
 
@@ -37,32 +38,31 @@ def missing_of(places: Places, gaps: Gaps, codes: Codes, begin: Optional[Begin],
             others.append((0, number - 1))
         if is_first:  # as if the number before the disc's first one stood before the lost fields
             breaks = [Break("lost", begin.after, begin.before, start, number, begin.fields)] + breaks
-            unshown |= left_out_in(places.numbers.clock, start + 1, number - 1)
+            unshown |= places.numbers.clock.left_out_in(start + 1, number - 1)
             firsts[start] = begin.after
     if end:
         breaks, firsts = breaks + [end], {**firsts, end.to: end.before}
         lost += [(end.after, end.before)] * (end.kind == "lost")
-        unshown |= left_out_in(places.numbers.clock, end.from_ + 1, end.to - 1)
+        unshown |= places.numbers.clock.left_out_in(end.from_ + 1, end.to - 1)
     losses = Between(lost)
     passed = _passed_over(places, breaks, losses, codes)
     unread = places.without_field.union([number for number, _ in places.due])
     known = (("clock", places.left_out), ("unread", unread), ("unshown", unshown))
     whys = PassedOver([*((why, [(one, one) for one in ones]) for why, ones in known), *passed, ("lost", others)])
-    found: Dict[bool, List[List[Any]]] = {False: [], True: []}
     numbers = sorted(firsts)
+    stretches: List[List[Any]] = []
     for one, other in zip(numbers, numbers[1:]):
         ends = firsts[one], firsts[other]
         for first, last, why in whys.parts(one + 1, other - 1) if other - one > 1 else ():
             if why == "lost" and ends[0] < ends[1] and not losses.meet(*ends):
                 why = "undecided"
-            stretches = found[why == "clock"]
             if stretches and stretches[-1][1:] == [first - 1, why, ends]:
                 stretches[-1][1] = last
             elif why != "unshown":
                 stretches.append([first, last, why, ends])
-    missing, left_out = ([Missing(unit.text_of(first), unit.text_of(last), last - first + 1, why, *ends)
-                          for first, last, why, ends in ones] for ones in found.values())
-    return missing, left_out
+    missing = [Missing(unit.text_of(first), unit.text_of(last), last - first + 1, why, *ends)
+               for first, last, why, ends in stretches]
+    return [one for one in missing if one.why != "clock"], [one for one in missing if one.why == "clock"]
 
 
 # ---- Lost or unread
@@ -86,28 +86,21 @@ class PassedOver:
     it is in no span, as what is only between two sides, that isn't known."""
 
     def __init__(self, spans: Spans) -> None:
-        ends = [(why, _merged(ones)) for why, ones in spans]
-        # from each of these to the next one all numbers have one reason
-        self.begins = sorted({begin for _, ones in ends for begin in ones})
-        self._whys = ["undecided", *(next((why for why, ones in ends if bisect.bisect(ones, begin) % 2), "undecided")
-                                     for begin in self.begins)]
+        ends = sorted((number, place, count) for place, (_, ones) in enumerate(spans) for first, last in ones
+                      if first <= last for number, count in ((first, 1), (last + 1, -1)))
+        # from each of `begins` to the next one all numbers have one reason
+        self.begins, self._whys, inside = [], ["undecided"], [0] * len(spans)
+        for begin, changes in itertools.groupby(ends, operator.itemgetter(0)):
+            for _, place, count in changes:
+                inside[place] += count
+            self.begins.append(begin)
+            self._whys.append(next((why for (why, _), count in zip(spans, inside) if count), "undecided"))
 
     def parts(self, first: int, last: int) -> Iterator[Tuple[int, int, str]]:
         """The numbers from the first to the last in parts of one reason each."""
         begin, end = bisect.bisect(self.begins, first), bisect.bisect(self.begins, last)
         cuts = [first, *self.begins[begin:end], last + 1]
         return zip(cuts, [cut - 1 for cut in cuts[1:]], self._whys[begin:end + 1])
-
-
-def _merged(spans):
-    """Where these spans begin and end, in turn: in one of them is what lies after an odd count of these."""
-    ends = []
-    for first, last in sorted(spans):
-        if ends and first <= ends[-1]:
-            ends[-1] = max(ends[-1], last + 1)
-        elif first <= last:
-            ends += [first, last + 1]
-    return ends
 
 
 def _passed_over(places: Places, breaks: List[Break], losses: Between, codes: Codes) -> Spans:
@@ -129,9 +122,9 @@ def _fate(one, numbers, fields):
     """For how many of the numbers that are passed over at a break there may be fields, and whether some are lost. Where
     no field is too few, something was read or seen in one for each: else the player may have searched in the dark."""
     between = range(one.after + 1, one.before)
-    passed = one.to - one.from_ - 1 - len(left_out_in(numbers.clock, one.from_ + 1, one.to - 1))
+    passed = one.to - one.from_ - 1 - len(numbers.clock.left_out_in(one.from_ + 1, one.to - 1))
     if one.kind == "held":
-        seen = sum(field not in numbers.others and not _BLANK.issuperset(fields.causes[field - 1])
+        seen = sum(field not in numbers.others and set(fields.causes[field - 1]) != {"blank"}
                    for field in between)
         return 0, False if seen >= passed else None
     is_lost = one.fields >= numbers.pace.least
@@ -156,8 +149,11 @@ def lost_fields(places: Places, gaps: Gaps, first: Sequence[bool]) -> List[Lost]
     # two swapped fields make the first of them, and the one after both, look like the field before
     swapped = {field for begin in pairs_of(numbers.swapped) if {begin, begin + 2} <= alike
                for field in (begin, begin + 2)}
+    # minutes alone don't show whether the numbers go on between a field and the one before it
+    shows = isinstance(numbers.pace, Pace)
     return _with_parity(lost, [
-        (field, "undecided" if numbers.go_on_before(field) else "parity") for field in sorted(alike - swapped)
+        (field, "undecided" if shows and numbers.fit(numbers.around(field, field - 1)) else "parity")
+        for field in sorted(alike - swapped)
         if numbers.fields and numbers.fields[0] < field <= numbers.fields[-1] and not sides.meet(field - 1, field)])
 
 

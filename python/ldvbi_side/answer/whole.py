@@ -3,32 +3,31 @@ library's, and what the answer's other members say beyond gaps."""
 
 import bisect
 from collections import Counter, defaultdict
-from typing import Dict, Iterator, List, Optional, Sequence, Tuple
+from typing import Iterator, List, Optional, Sequence, Tuple
 
 from ldvbi import JudgedSide, Kind, Reason, State
-from ..judge.detours import Detour
-from ..judge.paces import Unit
-from .ends import Begin, begin_of, end_of, is_end_seen, ordinal_of
+from ..texts import counted, counted_by, detour_text, lost_fields_text
+from .ends import Begin, end_of, ordinal_of
 from .entries import Answer, Ground
 from .gaps import Between, Gaps, is_outside
 from .last import Last
 
 YES, NO, OPEN = "yes", "no", "can't tell"
-UNITS: Dict[Optional[str], str] = {"picture": "pictures", "time": "times", "minute": "minutes"}
 _OTHER = {"cav": "CLV", "clv": "CAV"}
 NEAR = 2  # fields from one code of the other format to the next, if they aren't wrong words by chance
 SHARE = 10  # numbers to one that is set aside, at most, if what was read shows whether a side is whole
 Found = Iterator[Tuple[str, str]]  # reasons, each by its word and its text
 
 
-def reasons_of(answer: Answer, gaps: Gaps, unit: Unit, is_strict: bool = False, may_end: bool = False,
+def reasons_of(answer: Answer, gaps: Gaps, begin: Optional[Begin], is_strict: bool = False,
                unseen: Sequence[Tuple[int, int]] = (), last: Optional[Last] = None) -> List[Ground]:
-    """Why a side with this answer and these gaps isn't whole, or why that can't be told, in order of weight. `why` is a
-    word for programs, `text` says it, and `whole` is what the reason alone would make of the side. Each reason of the
-    library is among them, unless something explains it. Unread numbers whose fields are there are no reason unless
-    `is_strict`, and neither is a lack of lead-in. A lack of lead-out is no reason if it `may_end`, or its `last` number
-    is known. `unseen` are long stretches without a number between two that fit, by their first and last fields."""
-    begin, may_end = begin_of(answer, gaps.judged, unit, is_strict), may_end or last is not None
+    """Why a side with this answer and these gaps, which begins so, isn't whole, or why that can't be told, in order of
+    weight. `why` is a word for programs, `text` says it, and `whole` is what the reason alone would make of the side.
+    Each reason of the library is among them, unless something explains it. Unread numbers whose fields are there are no
+    reason unless `is_strict`, and neither is a lack of lead-in. A lack of lead-out is no reason if its end is open, or
+    its `last` number is known. `unseen` are long stretches without a number between two that fit, by their first and
+    last fields."""
+    may_end = answer.open_end or last is not None
     is_ended = may_end or is_strict and not answer.lead_out
     known = (*_lacking(answer), *_disordered(answer, gaps.judged, begin),
              *(_unseen(answer, may_end) if is_strict else ()), *_of_another(answer, gaps))
@@ -43,33 +42,9 @@ def whole_of(reasons: List[Ground]) -> str:
     return NO if NO in said else OPEN if OPEN in said else YES
 
 
-def other_file(answer: Answer) -> bool:
-    """Whether the bytes that were read aren't those that the metadata describes: another count of fields, or no whole
-    number of them. Then the levels needn't be wrong."""
-    return answer.cut_field is not None or answer.metadata_fields not in (None, answer.fields)
-
-
-def counted(count: int, name: Optional[str]) -> str:
-    """A count with its name, in the plural unless it is 1."""
-    return "%d %s%s" % (count, name, "" if count == 1 else "s")
-
-
 def _and_more(ones):
     """How many more of these there are than the first."""
     return " and in %s" % counted(len(ones) - 1, "more place") if len(ones) > 1 else ""
-
-
-def counted_by(answer: Answer, why: str) -> int:
-    """How many of the numbers that no field shows are `lost`, `unread` or `undecided`."""
-    return sum(one.count_ for one in answer.missing if one.why == why)
-
-
-def lost_fields_text(answer: Answer) -> str:
-    """How many fields are lost for sure; empty if none is."""
-    lost = [one for one in answer.lost if one.by != "undecided"]
-    least = "at least " * any(one.or_more for one in lost)
-    more = " or more" if any(one.fields is None for one in lost) else ""
-    return least + counted(sum(one.fields or 1 for one in lost), "field") + more if lost else ""
 
 
 # ---- What is known not to be in the capture, or not as the disc has it
@@ -115,12 +90,6 @@ def _disordered(answer: Answer, judged: Optional[JudgedSide], begin: Optional[Be
         _, least, greatest = answer.numbers
         yield "begins", ("begins at %s, ends at %s" % (least, greatest) if least == begin.lacks else
                          "fields lost before %s %s" % (answer.unit, begin.lacks))
-
-
-def detour_text(answer: Answer, one: Detour) -> str:
-    """What the fields of a detour show."""
-    text = "fields %d to %d show %s %s to %s" % (one.first, one.last, UNITS[answer.unit], one.from_, one.to)
-    return text + ", misread or played in the place of others" * (one.kind == "replaced")
 
 
 def _unseen(answer: Answer, may_end: bool) -> Found:
@@ -177,8 +146,10 @@ def _in_gaps(answer: Answer, gaps: Gaps) -> Found:
         one = opened[0]
         what = "%s may be %s after field %d" % (
             counted(one.fields, "field"), "lost" if one.kind == "lost" else "too many", one.after)
+        # the clock may have left out numbers without fields, or have kept those for which fields are too many
+        left_out = "no number" if one.kind == "held" else "a number" if one.fields < 4 else "two numbers"
         why = ("fields are swapped there" if judged and is_outside(judged, one) else
-               "the disc's clock left out %s" % _left_out(one) if answer.unit == "time" else
+               "the disc's clock left out " + left_out if answer.unit == "time" else
                "the player stood still there" if one.kind == "held" and any(
                    still.first <= one.before and one.after <= still.last for still in answer.stills) else
                "lines 17 and 18 count apart there" if answer.pace != "film" else
@@ -188,11 +159,6 @@ def _in_gaps(answer: Answer, gaps: Gaps) -> Found:
     if replaced:
         more = " (and %s)" % counted(len(replaced) - 1, "more place") if len(replaced) > 1 else ""
         yield "replaced", detour_text(answer, replaced[0]) + more
-
-
-def _left_out(gap):
-    """What the clock may have left out in an open gap, without fields for it, or with them if they are too many."""
-    return "no number" if gap.kind == "held" else "a number" if gap.fields < 4 else "two numbers"
 
 
 def _undecided(answer: Answer, gaps: Gaps) -> Found:
@@ -240,7 +206,8 @@ def _unsure(answer: Answer, judged: Optional[JudgedSide], is_ended: bool) -> Fou
     alone, of which none stands between two others: of none the length is known. On film fields that may be swapped.
     Many numbers that were set aside."""
     if answer.showings and not is_ended and not (judged and judged.reasons & Reason.no_numbers) and (
-            judged.reasons & Reason.end_unseen if judged else not is_end_seen(answer)):
+            judged.reasons & Reason.end_unseen if judged else
+            not any(one.last > answer.showings[-1].last for one in answer.lead_out + answer.lead_in)):
         yield "lead-out", "no lead-out: the disc may go on after %s %s" % (answer.unit, answer.showings[-1].number)
     if answer.unit == "minute":
         minutes = [ordinal_of(number, 1) for number, _, _ in answer.showings]

@@ -4,10 +4,10 @@ order of the disc or of the side."""
 from typing import Any, Callable, Collection, Iterator, Optional, TypeVar
 
 from ldvbi.codes import LINES, name_of
-from ..draw.marks import OUT_OF_PLACE, SKIPPED, fields_text, place_text
+from ..draw.marks import OUT_OF_PLACE, SKIPPED, fields_text, other_file, place_text
 from ..answer.entries import Answer
-from ..answer.whole import UNITS, counted, detour_text, other_file
 from ..levels import options_of
+from ..texts import UNITS, counted, detour_text, lost_text
 
 MOST_LINES = 27
 MOST_LISTED = 4  # places in a line
@@ -110,9 +110,9 @@ def _lost_texts(lost, unit):
 def _lost_text(one, unit):
     """Lost fields with their place. Those of a minute may be lost anywhere in it."""
     if unit == "minute" and one.fields is not None and one.after and one.before > one.after + 1:
-        return "%s, between fields %d and %d" % (one.count_text(), one.after + 1, one.before - 1)
+        return "%s, between fields %d and %d" % (lost_text(one), one.after + 1, one.before - 1)
     place = place_text(one.after, one.before)
-    return "lost or shown again " + place if one.is_again() else "%s %s" % (one.count_text(), place)
+    return "lost or shown again " + place if one.is_again() else "%s %s" % (lost_text(one), place)
 
 
 def _order_text(answer):

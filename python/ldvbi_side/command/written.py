@@ -5,9 +5,9 @@ import os
 import shutil
 from typing import Dict, List, Sequence
 
-from ..answer.whole import counted
 from ..join.discs import OneDisc
 from ..outside import NAME, say
+from ..texts import counted
 from ..write.told import SOUNDS
 from .faults import fault_text
 from .folders import TBC, Task, base_of, files_of, page_names

@@ -3,8 +3,8 @@ numbers its capture has, and which of these are to be taken from it. Below all o
 
 from typing import Any, Iterable, Iterator, List, Optional, Tuple
 
-from ..answer.whole import counted
 from ..join.entries import WHOLE, Joined
+from ..texts import counted
 from .axis import BROAD, NARROW, Axis, Form
 from .colours import AXIS, DARK_BLUE, DARK_GREEN, DARK_PURPLE, DARK_RED, LANE, PINK, WORD
 from .curve import AXES, Scale

@@ -12,8 +12,9 @@ from urllib.parse import quote
 
 from ldvbi.regular import regular
 from ..answer.analysis import VERSION
-from ..answer.whole import NO, OPEN, YES, counted
+from ..answer.whole import NO, OPEN, YES
 from ..join.marks import Marks, marks_in
+from ..texts import counted
 from .discs import discs_of, is_gone
 from .page import MARK
 from .sorting import SCRIPT, looks_of

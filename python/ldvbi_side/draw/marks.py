@@ -5,7 +5,7 @@ from typing import Any, Dict, List, NamedTuple
 
 from ldvbi.codes import name_of
 from ..answer.entries import Answer, Doubt
-from ..answer.whole import counted_by, detour_text
+from ..texts import counted_by, detour_text, lost_text
 from .colours import AMBER, AXIS, BROWN, INDIGO, ORANGE, PINK, RED, ROSE, SKY, TEAL, VIOLET
 
 # What a reader is told of the answer's `leftOut` and `stray`
@@ -76,6 +76,12 @@ def fields_text(first: int, last: int) -> str:
     return ("field " if first == last else "fields ") + span(first, last)
 
 
+def other_file(answer: Answer) -> bool:
+    """Whether the bytes that were read aren't those that the metadata describes: another count of fields, or no whole
+    number of them. Then the levels needn't be wrong."""
+    return answer.cut_field is not None or answer.metadata_fields not in (None, answer.fields)
+
+
 def marks_of(answer: Answer) -> Dict[str, List[Mark]]:
     """The marks of each lane, by field."""
     found = {
@@ -129,7 +135,7 @@ def _missing(one):
 
 def _lost(one, unit):
     """Lost fields, where the numbers go on. Those of a minute may be lost anywhere in it."""
-    count = "%s field%s" % (one.count_text(), "s" * (one.fields != 1))
+    count = "%s field%s" % (lost_text(one), "s" * (one.fields != 1))
     after, before = one.after, one.before
     if one.is_again():
         return Mark(before, before, "lost or shown again: a field between fields %d and %d, by isFirstField" % (

@@ -6,9 +6,9 @@ import re
 from typing import Callable, Iterable, List, Optional, Sequence
 
 from ldvbi.codes import LINES
-from ..answer.as_json import entries
 from ..answer.entries import Answer, BadLine
 from ..answer.whole import NO, OPEN, YES
+from ..as_json import entries
 from ..join.heads import head_of_side
 from ..side import Side
 from .axis import BROAD, NARROW

@@ -3,7 +3,7 @@ in full lists."""
 
 from typing import Any, Dict, Iterable, List, Mapping, Optional
 
-from ..answer.as_json import entries
+from ..as_json import entries
 from ..join.entries import Joined
 from ..join.plain import as_json
 from .axis import BROAD, NARROW

@@ -119,11 +119,17 @@ def _shown(answer):
 
 
 def _places(side):
-    doubtful, is_of_two = side.analysis.answer.aside(), side.analysis.answer.pace in OF_TWO
+    doubtful, is_of_two = aside_in(side.analysis.answer), side.analysis.answer.pace in OF_TWO
     for one, last, is_torn in _spans(side):
         is_whole = not is_torn and (last > one.field or not is_of_two)
         lines, sure = {NEAR: (0, 0), NEIGHBOURS: (-1, 0)}.get(one.how) or _read_on(side, one.field, doubtful)
         yield Place(one.number, one.field, last, one.how, is_whole, lines, sure)
+
+
+def aside_in(answer: Answer) -> Set[Tuple[int, int]]:
+    """The fields and lines whose word is set aside: it is doubtful or stray, or a stop that isn't sure."""
+    return {one[:2] for one in answer.doubtful}.union(
+        [one[:2] for one in answer.stray], [(one.field, line) for one in answer.unsure_stops for line in one.lines])
 
 
 def _spans(side):

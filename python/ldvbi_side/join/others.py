@@ -4,7 +4,7 @@ nothing: each may have another part."""
 import itertools
 from typing import Any, Iterator, List, Optional, Sequence, Set, Tuple
 
-from ..answer.whole import UNITS
+from ..texts import UNITS
 from .captures import Capture
 from .marks import CHAPTER, STATUS, Marks, Said
 

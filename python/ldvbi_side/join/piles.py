@@ -8,8 +8,8 @@ from ldvbi import Cause, Stream, line_bytes, read_rows, recover_pile
 from ldvbi.codes import LINES
 from ldvbi.near import MOST_LINES
 from ldvbi.readings import Levels
-from ..answer.confirmed import says
 from ..judge.paces import Unit
+from ..near import says
 from .captures import NEIGHBOURS, Capture
 
 # Of a unit the lines that are taken together; minutes alone aren't asked for

@@ -2,7 +2,7 @@
 
 from typing import Any, Dict
 
-from ..answer.as_json import entries, entry
+from ..as_json import entries, entry
 from .entries import Joined
 
 

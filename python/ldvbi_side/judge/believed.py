@@ -9,7 +9,7 @@ import types
 from typing import Dict, FrozenSet, List, Mapping, NamedTuple, Optional, Sequence, Set, Tuple, Union
 
 from ldvbi import Clock, JudgedSide
-from .clock import NO_CLOCK, left_out_below
+from .clock import NO_CLOCK
 from .paces import MinutePace, Pace, Unit
 from .readings import Reading
 
@@ -50,9 +50,9 @@ class Stretch(NamedTuple):
 
 class _Numbers(NamedTuple):
     unit: Unit
-    pace: Union[Pace, MinutePace, None]
-    believed: List[Reading]
-    others: Set[int]
+    pace: Union[Pace, MinutePace, None] = None
+    believed: List[Reading] = []
+    others: Set[int] = set()
     completed: FrozenSet[int] = frozenset()
     swapped: Mapping[int, int] = _NONE
     speeds: Tuple[Stretch, ...] = ()
@@ -87,7 +87,7 @@ class Numbers(_Numbers):  # so that it can keep what was found of it
 
     def left_out(self, begin: int, end: int) -> int:
         """How many numbers the clock leaves out from one on to before another one; negative if that is less."""
-        return left_out_below(self.clock, end) - left_out_below(self.clock, begin)
+        return self.clock.left_out_below(end) - self.clock.left_out_below(begin)
 
     @functools.cached_property
     def odd_places(self) -> Sequence[int]:
@@ -113,7 +113,7 @@ class Numbers(_Numbers):  # so that it can keep what was found of it
         return slice(bisect.bisect_left(self.fields, first), bisect.bisect(self.fields, last))
 
     def around(self, first: int, last: Optional[int] = None) -> Around:
-        """The believed readings before a field and after it, or after a later one; each may be None."""
+        """The believed readings before a field and after it, or after another one; each may be None."""
         inside = self.places_in(first, first if last is None else last)
         return (self.believed[inside.start - 1] if inside.start else None,
                 self.believed[inside.stop] if inside.stop < len(self.fields) else None)
@@ -137,13 +137,6 @@ class Numbers(_Numbers):  # so that it can keep what was found of it
         """Whether there is a reading before and one after, and these two fit each other."""
         before, after = around
         return before is not None and after is not None and self.off(before, after) == 0
-
-    def go_on_before(self, field: int) -> bool:
-        """Whether the numbers go on between a field and the one before it. Minutes alone don't show it."""
-        place = bisect.bisect_left(self.fields, field)
-        return isinstance(self.pace, Pace) and 0 < place < len(self.fields) and (
-            self.off(*self.believed[place - 1:place + 1]) == 0)
-
 
 # ---- At another speed
 

@@ -15,7 +15,7 @@ import functools
 from typing import Dict, Iterator, List, Mapping, Tuple
 
 from ldvbi import ClockKind, Counted, JudgedSide, Number, Pace as JudgedPace, State, complete_times, judge_side
-from .clock import DROP_FRAME, is_dropped
+from .clock import DROP_FRAME
 from .paces import AnyPace, Pace, price
 from .readings import Fields, Reading
 
@@ -41,8 +41,9 @@ def judged_of(fields: Fields, counted: Counted) -> JudgedSide:
     if counted == Counted.times and fields.system == "NTSC":
         with contextlib.suppress(OSError):  # an older library knows of no clock
             found = judge(clock="find")
-            numbers = sure_in(found.numbers).values()
-            if found.clock.kind != ClockKind.plain or not found.gaps or any(map(is_dropped, numbers)):
+            numbers = set(sure_in(found.numbers).values())
+            if found.clock.kind != ClockKind.plain or not found.gaps or (
+                    numbers & DROP_FRAME.left_out_in(min(numbers), max(numbers))):
                 return found
             return min(found, judge(clock=DROP_FRAME), key=lambda one: len(one.gaps))
     found = judge()
@@ -64,8 +65,7 @@ def pace_of(judged: JudgedSide) -> Pace:
 
 def anchored(readings: List[Reading], pace: Pace, judged: JudgedSide) -> List[Reading]:
     """The readings that are believed, each with its variant. They ascend by field, as do those given."""
-    sure = sure_in(judged.numbers)
-    believed = chosen(readings, pace, sure)
+    believed = chosen(readings, pace, sure_in(judged.numbers))
     return _with_variants(believed, pace) if pace.variants > 1 else believed
 
 

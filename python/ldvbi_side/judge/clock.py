@@ -6,53 +6,23 @@ field is missing there, only the number:
     at a minute    fields 3597 3599 3601 3603    0:00:59.28 0:00:59.29 0:01:00.02 0:01:00.03
 
 A capture that lost a picture or two looks just the same. So the library finds the clock of the whole side from three
-places or more (`ldvbi.find_clock`), and judges by it. This module counts by the clock that was found. If it finds none,
-drop-frame is tried (`judged_of` in chain.py). Else gaps that a clock may have made are open, unless what was played
-rules that out (`open_in`): rule 9 of docs/SIDES.md."""
+places or more (`ldvbi.find_clock`), and judges by it. If it finds none, drop-frame is tried (`judged_of` in chain.py).
+Else gaps that a clock may have made are open, unless what was played rules that out (`open_in`): rule 9 of
+docs/SIDES.md."""
 
 import itertools
 from collections import Counter
 from typing import List, Set
 
 from ldvbi import Clock, ClockKind
+from ldvbi.sides import MINUTE
 
 NO_CLOCK, DROP_FRAME = Clock(ClockKind.plain), Clock(ClockKind.drop_frame)
 PERIODS = (1000, 1001)  # of which a disc leaves out one number: it isn't known here of which
 OFF = 2  # numbers more or less than a whole multiple, at most, in which an even clock may be off
-MINUTE = 1800
-TENTH_MINUTE = 10 * MINUTE
 # Fewer numbers may not show three places if one more is hidden: of one number in 1,000 or 1,001, and of two a minute
 SHORT = 4000
 SHORT_MINUTES = 5 * MINUTE
-
-
-def left_out_below(clock: Clock, number: int) -> int:
-    """How many numbers below this one a clock leaves out."""
-    if clock.kind == ClockKind.drop_frame:
-        return sum(_passed(MINUTE, rest, number) - _passed(TENTH_MINUTE, rest, number) for rest in (0, 1))
-    return _passed(clock.period, clock.phase, number) if clock.kind == ClockKind.one_in else 0
-
-
-def _passed(period, rest, number):
-    """How many numbers below this one leave this rest."""
-    return (number + period - 1 - rest) // period
-
-
-def is_dropped(number: int) -> bool:
-    """Whether drop-frame leaves out a number."""
-    return number % MINUTE < 2 <= number % TENTH_MINUTE
-
-
-def left_out_in(clock: Clock, first: int, last: int) -> Set[int]:
-    """The numbers from the first to the last that a clock leaves out."""
-    if clock.kind == ClockKind.drop_frame:
-        return set(filter(is_dropped, (number for rest in (0, 1) for number in _with_rest(MINUTE, rest, first, last))))
-    return set(_with_rest(clock.period, clock.phase, first, last)) if clock.kind == ClockKind.one_in else set()
-
-
-def _with_rest(period, rest, first, last):
-    """The numbers from the first to the last that leave this rest."""
-    return range(first + (rest - first) % period, last + 1, period)
 
 
 def open_in(singles: List[range], pairs: List[range], runs: List[range]) -> Set[int]:
@@ -61,8 +31,8 @@ def open_in(singles: List[range], pairs: List[range], runs: List[range]) -> Set[
     next. A gap of one number, or of two at the start of a minute, is a loss only if enough was played to know, and each
     clock that may have made it is ruled out."""
     played = sum(map(len, singles + pairs + runs))
-    pairs = [one for one in pairs if len(left_out_in(DROP_FRAME, one.start, one.stop - 1)) == 2]
-    shown = sum(len(left_out_in(DROP_FRAME, run.start + 1, run.stop - 2)) // 2 for run in runs)
+    pairs = [one for one in pairs if len(DROP_FRAME.left_out_in(one.start, one.stop - 1)) == 2]
+    shown = sum(len(DROP_FRAME.left_out_in(run.start + 1, run.stop - 2)) // 2 for run in runs)
     found = set().union(*pairs) if played < SHORT_MINUTES or shown < len(pairs) else set()
     open_ = set().union(*singles)
     if played >= SHORT:

@@ -8,7 +8,6 @@ from collections import Counter
 from typing import Any, Dict, Iterable, List, NamedTuple, Tuple
 
 from ldvbi import Gap, GapKind, JudgedSide, Number, Pace as JudgedPace, State
-from .clock import left_out_below
 from .paces import Pace
 from .readings import Reading
 
@@ -66,7 +65,7 @@ class _Rows:
 
     def _kept(self, number):
         """How many numbers before this one the clock keeps."""
-        return number - left_out_below(self.clock, number)
+        return number - self.clock.left_out_below(number)
 
     def _row(self, field, number):
         return self.pace.row(field, self._kept(number))

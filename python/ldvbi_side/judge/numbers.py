@@ -78,7 +78,7 @@ def _pictures_of(codes):
     judged, detours = without_replaced(judged_of(codes.fields, Counted.pictures))
     known = codes.readings(codes.kinds[Kind.picture])
     if not known:
-        return _nothing(codes.fields, judged)
+        return Found(Numbers(Unit(None, RATES[codes.fields.system]), judged=judged), [])
     pace = pace_of(judged)
     readings = without_rows(known, detours, judged, pace)
     # a field with a chapter is the second one of its picture, unless both have the number
@@ -87,11 +87,6 @@ def _pictures_of(codes):
     numbers = Numbers(unit, pace, believed, others, judged=judged)
     numbers = with_turned(with_speeds(numbers, readings), readings)
     return Found(with_swaps(numbers, readings, {reading.field for reading in readings}), known)
-
-
-def _nothing(fields, judged, times=None):
-    """What is found of a side without a number."""
-    return Found(Numbers(Unit(None, RATES[fields.system]), None, [], set(), judged=judged), [], times)
 
 
 # ---- Times
@@ -110,9 +105,9 @@ def _minutes_alone(times):
     """The minutes of a side without a second that can be joined to one."""
     fields, readings = times.codes.fields, times.codes.readings(times.minutes)
     if not readings:
-        return _nothing(fields, judged_of(fields, Counted.times), times)
+        return Found(Numbers(Unit(None, times.rate), judged=judged_of(fields, Counted.times)), [], times)
     pace = MinutePace(fields.system)
-    return Found(Numbers(Unit("minute", times.rate), pace, chain(readings, pace), set()), readings, times)
+    return Found(Numbers(Unit("minute", times.rate), pace, chain(readings, pace)), readings, times)
 
 
 def _believed(times, readings):

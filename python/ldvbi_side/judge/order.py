@@ -74,7 +74,8 @@ def with_speeds(numbers: Numbers, readings: List[Reading],
         if _is_free(numbers.speeds, first, last):
             near = readings[bisect.bisect_left(fields, first):bisect.bisect(fields, last)]
             read = {one.field for one in near}
-            ones = _on_line(line, near, kind == "both") + complete(
+            found = [one._replace(variant=(one.field - line.field) % 2) for one in near] if kind == "both" else near
+            ones = [one for one in found if line.has(one)] + complete(
                 line, [field for field in range(first, last + 1, 2) if field not in read])
             numbers = _with_stretch(numbers, Stretch(first, last, line), sorted(ones, key=lambda one: one.field))
     return numbers._replace()
@@ -185,12 +186,6 @@ def _extent(numbers, line, ones):
         turn = meeting(line, line_from(numbers, after, False), end, after)
         last = last if turn is None else turn
     return first, last
-
-
-def _on_line(line, readings, is_both):
-    """The readings that are on the line."""
-    found = [one._replace(variant=(one.field - line.field) % 2 if is_both else 0) for one in readings]
-    return [one for one in found if line.has(one)]
 
 
 # ---- Swapped fields

@@ -2,13 +2,12 @@
 one side and the start of another."""
 
 import bisect
-import operator
 from collections import Counter
 from typing import Any, Dict, List, NamedTuple, Set, Tuple
 
 from ldvbi import ClockKind, Kind
 from .believed import Numbers, off_at_speed, passed_between
-from .clock import left_out_in, open_in
+from .clock import open_in
 from .paces import MinutePace, Pace
 from .readings import Codes, Reading
 
@@ -82,9 +81,12 @@ def places_of(numbers: Numbers, codes: Codes) -> Places:
     ends = sorted(lead_in | codes.sure_fields(Kind.lead_out))
     # of all other believed readings the next one is that of the next number
     steps = [_step(numbers, place) for place in numbers.odd_places]
-    last = _begin_of_last(numbers.values)
-    begins = sorted(lead_in)
-    joined = [step for step in steps if ends and _is_join(step, ends if step.place <= last else begins)]
+    # from this place on no number but the last one is shown: that may stay beside lead-out
+    begins, values = sorted(lead_in), numbers.values
+    last = next((place for place in range(len(values) - 1, 0, -1) if values[place - 1] != values[-1]), 0)
+    # another side begins between two readings that don't fit, if one of these ends stands there
+    joined = [step for step in steps if ends and step.kind in ("still", "break") and _is_between(
+        ends if step.place <= last else begins, step.before.field, step.after.field)]
     # where the numbers go back, it stays a break, too
     away = {step.place for step in joined if step.after.number >= step.before.number}
     steps = [step._replace(kind="join") if step.place in away else step for step in steps]
@@ -94,21 +96,17 @@ def places_of(numbers: Numbers, codes: Codes) -> Places:
     breaks = [_break(numbers, step.before, step.after, step.off) for step in steps if step.kind == "break"]
     if isinstance(numbers.pace, MinutePace):
         breaks += _minute_breaks(numbers.pace, showings, ends)
+    left_out = set().union(*(numbers.clock.left_out_in(before.number + 1, after.number - 1)
+                             for _, before, after, kind, _ in steps if kind in ("next", "break")))
     number_of = {**{field: number for number, field in due}, **numbers.taken}
     return Places(numbers, showings, sorted(breaks, key=lambda one: one.after),
                   [(step.before, step.after) for step in joined], _stills(showings, steps), due, without_field, unseen,
-                  unshown, _left_out(numbers, steps), number_of)
+                  unshown, left_out, number_of)
 
 
-def _begin_of_last(values):
-    """The place from which on no number but the last one is shown: that may stay beside lead-out."""
-    return next((place for place in range(len(values) - 1, 0, -1) if values[place - 1] != values[-1]), 0)
-
-
-def _is_join(step, ends):
-    """Whether one of these ends stands between two readings that don't fit, so that another side begins there."""
-    return step.kind in ("still", "break") and (
-        bisect.bisect(ends, step.before.field) < bisect.bisect_left(ends, step.after.field))
+def _is_between(ends, after, before):
+    """Whether one of these fields, which ascend, stands between two others."""
+    return bisect.bisect(ends, after) < bisect.bisect_left(ends, before)
 
 
 def _step(numbers, place):
@@ -127,11 +125,8 @@ def _step(numbers, place):
 def _showings(numbers, steps):
     same, fields = {step.place for step in steps if step.kind == "same"}, numbers.fields
     begins = [place for place in range(len(fields)) if place not in same]
-    firsts, lasts = fields, fields
-    if same:
-        firsts, lasts = ([fields[place] for place in places] for places in (
-            begins, [place - 1 for place in begins[1:] + [len(fields)]]))
-    return list(map(Showing, [numbers.values[place] for place in begins], firsts, lasts))
+    ends = [place - 1 for place in begins[1:] + [len(fields)]]
+    return [Showing(numbers.values[first], fields[first], fields[last]) for first, last in zip(begins, ends)]
 
 
 def _stills(showings, steps):
@@ -189,20 +184,12 @@ def _due_between(numbers, before, after):
     # of a picture with its number on both fields the first one is meant
     variant = 0 if pace.kind == "both" else after.variant
     begin = numbers.place_of(before)
-    left_out = left_out_in(numbers.clock, before.number + 1, after.number - 1)
+    left_out = numbers.clock.left_out_in(before.number + 1, after.number - 1)
     kept = [number for number in range(before.number + 1, after.number) if number not in left_out]
     found = [(number, begin + pace.between(before.number, step, before.variant, variant))
              for step, number in enumerate(kept, 1)]
     # there is no field for the last one if the number before is one that the clock leaves out
     return [one for one in found if one[1] < numbers.place_of(after)]
-
-
-# ---- Numbers that the clock leaves out
-
-def _left_out(numbers, steps):
-    """The numbers between neighbouring ones that the clock leaves out."""
-    return set().union(*(left_out_in(numbers.clock, before.number + 1, after.number - 1)
-                         for _, before, after, kind, _ in steps if kind in ("next", "break")))
 
 
 def _open(numbers, steps):
@@ -234,9 +221,9 @@ def _spacing_of(numbers: Numbers) -> int:
     next are longer, and all as long. If numbers aren't read by chance, more of them are one apart than two."""
     if numbers.unit.name != "time":
         return 1
-    fields, values = numbers.fields, numbers.values
-    steps = Counter(step for apart, step in zip(map(operator.sub, fields[1:], fields),
-                                                map(operator.sub, values[1:], values)) if apart == 2 * step)
+    pairs = zip(numbers.believed, numbers.believed[1:])
+    steps = Counter(after.number - before.number for before, after in pairs
+                    if after.field - before.field == 2 * (after.number - before.number))
     step, count = max(steps.items(), key=lambda one: one[1], default=(1, 0))
     return step if count >= LEAST and 2 * count > sum(steps.values()) else 1
 
@@ -244,11 +231,8 @@ def _spacing_of(numbers: Numbers) -> int:
 def _minute_breaks(pace: MinutePace, showings: List[Showing], ends: List[int]) -> List[Break]:
     """The minutes that show more fields than they have, and those that have room for fewer: between two others, or of
     minute 0 between lead-in and minute 1. At `ends`, fields with lead-in or lead-out, another side may begin."""
-    found: List[Break] = []
-    for number, first, last in showings:
-        many = last - first + 1 - pace.longest
-        if many > 0:
-            found.append(Break("held", first, last, number, number, many))
+    found = [Break("held", first, last, number, number, last - first + 1 - pace.longest)
+             for number, first, last in showings if last - first >= pace.longest]
     for (before, _, last), (number, _, _), (after, first, _) in zip(showings, showings[1:], showings[2:]):
         few = pace.shortest - (first - last - 1)
         if after - number == number - before == 1 and few > 0:
@@ -257,4 +241,4 @@ def _minute_breaks(pace: MinutePace, showings: List[Showing], ends: List[int]) -
         end = ends[bisect.bisect(ends, first) - 1] if ends and ends[0] < first else None
         if end is not None and (number, after) == (0, 1) and begin - end - 1 < pace.shortest:
             found.append(Break("lost", end, begin, number, after, pace.shortest - (begin - end - 1)))
-    return [one for one in found if bisect.bisect(ends, one.after) == bisect.bisect_left(ends, one.before)]
+    return [one for one in found if not _is_between(ends, one.after, one.before)]

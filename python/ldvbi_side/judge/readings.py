@@ -138,9 +138,9 @@ def codes_of(fields: Fields) -> Codes:
     kinds, aside = _collected(fields.words)
     stray = [_stray(fields, field, line, "line") for field, line, is_code in aside if is_code]
     unknown = [Unknown(field, line, *_said(fields, field, line)) for field, line, is_code in aside if not is_code]
-    name, others = _format_of(kinds)
-    codes = Codes(fields, kinds, name, stray, unknown)
-    for kind in others:
+    cav, clv = (len(set().union(*(kinds[kind] for kind in names))) for names in (CAV_KINDS, CLV_KINDS))
+    codes = Codes(fields, kinds, "neither" if not cav and not clv else "cav" if cav >= clv else "clv", stray, unknown)
+    for kind in CLV_KINDS if cav >= clv else CAV_KINDS:
         stray += codes.strays(kind, kinds[kind], "format")
         kinds[kind] = {}
     return codes
@@ -197,14 +197,6 @@ def _collected(words):
             if three:
                 take(field, third[three])
     return kinds, aside
-
-
-def _format_of(kinds):
-    """The format of which more fields have codes, and the kinds of the other one."""
-    cav, clv = (set().union(*(kinds[kind] for kind in names)) for names in (CAV_KINDS, CLV_KINDS))
-    if not cav and not clv:
-        return "neither", ()
-    return ("cav", CLV_KINDS) if len(cav) >= len(clv) else ("clv", CAV_KINDS)
 
 
 def _stray(fields, field, line, why):

@@ -12,7 +12,6 @@ from ..join.lacking import CLOCK, lacking_in, stretches_with
 from ..join.others import refuse_other_discs, shown_by
 from ..join.piles import read_together
 from ..join.standing import ALIKE, ALONE, BETTER, Standing, standings_of
-from ..judge.clock import left_out_in
 from ..judge.paces import Unit
 from .marks import chapters_at, stops_at
 from .plan import Plan, planned, refuse_unwritable
@@ -57,7 +56,7 @@ def _beyond(captures: List[Capture], last: int) -> List[int]:
     """The numbers after this one, up to the one that is given as the disc's last. Those that its clock leaves out
     aren't among them."""
     end = min((one.number for one in lasts_of(captures)), default=last)
-    left_out: Set[int] = set().union(*(left_out_in(one.clock, last + 1, end) for one in captures))
+    left_out: Set[int] = set().union(*(one.clock.left_out_in(last + 1, end) for one in captures))
     return [number for number in range(last + 1, end + 1) if number not in left_out]
 
 

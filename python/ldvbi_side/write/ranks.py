@@ -5,7 +5,6 @@ from typing import List, Sequence, Set
 
 from ldvbi import ClockKind
 from ..join.lacking import CLOCK, LOST, UNDECIDED, between, lacking_in
-from ..judge.clock import left_out_in
 from .sources import Source
 
 
@@ -42,7 +41,7 @@ def ranks_of(sources: Sequence[Source]) -> Ranks:
     lost = captures[0].numbers_of((one.first, one.last) for one in lacking if one.why in (LOST, UNDECIDED))
     clock = next((one.clock for one in captures if one.clock.kind != ClockKind.plain), None)
     if clock and lost:
-        left_out |= lost & left_out_in(clock, min(lost), max(lost))
+        left_out |= lost & clock.left_out_in(min(lost), max(lost))
     return Ranks(left_out.union(*(lost & _passed_by(source) for source in sources)))
 
 

@@ -3,7 +3,8 @@
 from typing import Any, Iterator, List, NamedTuple, Optional, Sequence, Tuple
 
 from ..answer.entries import Answer
-from ..answer.whole import NO, OPEN, YES, counted
+from ..answer.whole import NO, OPEN, YES
+from ..texts import counted
 from .again import faults_in
 from .plan import Plan
 from .ranks import spans_of

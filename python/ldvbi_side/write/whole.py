@@ -5,10 +5,11 @@ from typing import Iterator, List, Optional, Sequence, Set, Tuple
 from ..answer.ends import end_of
 from ..answer.entries import Ground
 from ..answer.last import Last, last_of
-from ..answer.whole import NO, OPEN, UNITS, YES, counted
+from ..answer.whole import NO, OPEN, YES
 from ..join.captures import DUE, NEIGHBOURS, Capture
 from ..join.entries import Lacking, Source
 from ..join.lacking import LOST, UNDECIDED
+from ..texts import UNITS, counted
 from .plan import Plan
 from .said import numbers_text
 

@@ -8,7 +8,7 @@ from typing import Any, Callable, Dict, List, Optional, Sequence, Tuple
 from ldvbi import Kind
 from ldvbi.codes import name_of
 from ldvbi.collector import paused
-from .entries import Answer, Doubt, FewWords
+from .answer.entries import Answer, Doubt, FewWords
 
 Members = Dict[str, Any]
 _KINDS = {kind: name_of(kind) for kind in Kind}
