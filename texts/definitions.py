@@ -4,9 +4,8 @@ them.
 
 For a section the command prints the contracts themselves; then the definitions **to be believed**, of which their
 statements speak; then those **only between** code and law: a law holds of whatever a call answers, so nothing of what
-that is has to be believed. What sections **beside** it have to be believed isn't printed again. A definition comes after
-those that it rests on. A function of RELATIONS gives way to a relation that is the same, as a law says. Without a
-section it lists all, with how much has to be believed for each.
+that is has to be believed. A definition comes after those that it rests on. A function of RELATIONS gives way to a
+relation that is the same, as a law says. Without a section it lists all, with how much has to be believed for each.
 
 usage: python3 texts/definitions.py [SECTION..]
 """
@@ -26,7 +25,6 @@ class Section(NamedTuple):
     """What is promised in one place. `bullet` is how README begins to say it, or empty."""
     bullet: str
     contracts: List[Tuple[str, str]]    # source files, each with a function
-    beside: List[str]                   # sections that are read before it
     between: List[str]                  # definitions of which nothing has to be believed
 
 
@@ -36,9 +34,9 @@ def sections_of(text: str) -> Dict[str, Section]:
         first, *names = line.split()
         if line[0] != " ":
             mark, _, bullet = line.partition(": ")
-            found[mark] = Section(bullet, [], [], [])
-        elif first in ("beside", "between"):
-            getattr(found[mark], first).extend(names)
+            found[mark] = Section(bullet, [], [])
+        elif first == "between":
+            found[mark].between.extend(names)
         else:
             found[mark].contracts.extend((first, name) for name in names)
     return found
@@ -182,7 +180,7 @@ def ordered(items: Iterable, before: Callable[..., Iterable]) -> List:
 
 def contract_of(path: str, function: str) -> str:
     """Returns the contract of a function as the source has it, with its comment."""
-    head = r"(?:^ *///[^\n]*\n)*(?:^ *#\[[^\n]*\n)*^ *pub (?:extern \"C\" )?fn %s\b.*?\n(?= *\{)" % function
+    head = r"(?:^ *///[^\n]*\n)*(?:^ *#\[[^\n]*\n)*^ *(?:pub )?(?:extern \"C\" )?fn %s\b.*?\n(?= *\{)" % function
     found = re.search(head, read(path), re.M | re.S)
     if not found:
         raise SystemExit("definitions: %s has no function %s" % (path, function))
@@ -203,7 +201,7 @@ def all_of(mark: str) -> List[Key]:
 
 @functools.lru_cache(maxsize=None)
 def believed(mark: str) -> List[Key]:
-    """Returns those of them that have to be believed, but for those of the sections beside it."""
+    """Returns those of them that have to be believed."""
     between = SECTIONS[mark].between
     unknown = set(between) - {key[2] for key in all_of(mark)}
     if unknown:
@@ -212,13 +210,7 @@ def believed(mark: str) -> List[Key]:
     def kept(keys: Iterable[Key]) -> List[Key]:
         return [key for key in keys if key[2] not in between]
 
-    found = ordered(kept(named_by(mark)), lambda key: kept(rests_on(key)))
-    return [key for key in found if key not in beside(mark)]
-
-
-def beside(mark: str) -> List[Key]:
-    """Returns the definitions to be believed of the sections that are read before this one."""
-    return [key for other in SECTIONS[mark].beside for key in believed(other)]
+    return ordered(kept(named_by(mark)), lambda key: kept(rests_on(key)))
 
 
 def by_file(keys: List[Key]) -> Iterator[Tuple[Module, List[str]]]:
@@ -251,20 +243,14 @@ def lines_in(keys: Iterable[Key]) -> int:
 
 
 def between(mark: str) -> List[Key]:
-    return [key for key in all_of(mark) if key not in believed(mark) + beside(mark)]
+    return [key for key in all_of(mark) if key not in believed(mark)]
 
 
 def rests(mark: str) -> str:
     """Returns on how many definitions the contracts of a section rest."""
-    return "%s: %d definitions in %d lines to be believed%s, %d in %d lines only between, for %s" % (
-        mark, len(believed(mark)), lines_in(believed(mark)), after(mark), len(between(mark)),
-        lines_in(between(mark)), ", ".join(function for _, function in SECTIONS[mark].contracts))
-
-
-def after(mark: str) -> str:
-    """Returns which sections come before one, in words."""
-    named = SECTIONS[mark].beside
-    return " beside those of " + " and ".join(named) if named else ""
+    return "%s: %d definitions in %d lines to be believed, %d in %d lines only between, for %s" % (
+        mark, len(believed(mark)), lines_in(believed(mark)), len(between(mark)), lines_in(between(mark)),
+        ", ".join(function for _, function in SECTIONS[mark].contracts))
 
 
 def told(mark: str) -> str:

@@ -21,13 +21,15 @@ use Rattle.vbi_near.specs.Recovery.{IsRecovered, none_erased}
 use Rattle.vbi_field.proofs.OneRecoveredDocument.{is_one, only_one}
 use Rattle.vbi_field.specs.Texts.{RowReads, FieldRecovers, whole_text, document, recovered_document}
 use Rattle.vbi_field.specs.Document.{value_of}
-use Rattle.vbi_field.specs.Recovered.{Near, FieldRecovered, cause_lines, hundredths, word_or_zero, recovered_of}
-use Rattle.vbi_field.specs.Shown.{as_readings, joined_rows}
+use Rattle.vbi_field.specs.Recovered.{Near, FieldRecovered, cause_line, cause_lines, hundredths, word_or_zero}
+use Rattle.vbi_field.specs.Recovered.{recovered_of}
+use Rattle.vbi_field.specs.Shown.{as_readings, reading_as, joined_rows}
 use Rattle.vbi_meta.specs.DocumentValue.{IsOfRun, object_of, whole_of, lines_value, field_with, document_with}
 use Rattle.vbi_meta.specs.DocumentValue.{document_value, near_value, nears_value, recovered_value}
 use Rattle.vbi_meta.specs.ReadBack.{IsReadAs, field_in, number_of, word_of, cause_of, pass_of, HasLine, HasReading}
 use Rattle.vbi_meta.specs.ReadBack.{HasCut, HasFields, ReadsWord, HasReadings, ReadsBack, nearest_of, count_in, HasNearest}
-use Rattle.vbi_meta.specs.ReadBack.{HasField, ShowsWord, HasRecovered, RecoversBack}
+use Rattle.vbi_meta.specs.ReadBack.{HasField, ShowsWord, HasRecovered, RecoversBack, RuleSays, HasSaid, FollowsRule}
+use Rattle.vbi_meta.specs.ReadBack.{FollowsLines}
 use Rattle.vbi_meta.specs.Settings.{whole, member_of}
 use Rattle.vbi_meta.proofs.DocumentReads.{document_is_read, recovered_is_read}
 
@@ -166,27 +168,29 @@ module _ (c : ConfigView) (z text : List ℕ) (version : ℕ) (lines causes : �
       nearest_found i k inside =
           ap (nearest_of k) (found i inside) ∙ nearest_there (i + 1) (lines i) (causes i) k (near i)
 
-      -- a number other than 0 is that of a line
+      -- a number stands at one of a field's three lines
+      number_inside : (i k word : ℕ) → word_of k (field_in text i) ≡ Some word → (i < fields_of c z) × (k < 3)
+      number_inside i k word e = go (cases_lt i (fields_of c z)) (cases_lt k 3)
+        where
+          go : (i < fields_of c z) ⊎ (fields_of c z ≤ i) → (k < 3) ⊎ (3 ≤ k) → (i < fields_of c z) × (k < 3)
+          go (inr past) line = let none : None ≡ Some word = sym (ap (word_of k) (not_found i past)) ∙ e in absurd cc
+          go (inl inside) (inr past) =
+              let none : None ≡ Some word = sym (ap (word_of k) (found i inside)
+              ∙ no_word_there (i + 1) (lines i) (causes i) (near i) k past) ∙ e in
+              absurd cc
+          go (inl inside) (inl line) = (inside, line)
+
+      -- and is that of the line
       record IsOfLine (i k word : ℕ) : Type 0 where
         field : i < fields_of c z
         line : k < 3
         same : value_of (line_of k (lines i)).outcome ≡ word
 
-      is_of_line : (i k word : ℕ) → word_of k (field_in text i) ≡ Some word → 0 < word → IsOfLine i k word
-      is_of_line i k word e some = go (cases_lt i (fields_of c z)) (cases_lt k 3)
-        where
-          go : (i < fields_of c z) ⊎ (fields_of c z ≤ i) → (k < 3) ⊎ (3 ≤ k) → IsOfLine i k word
-          go (inr past) line =
-              let none : 0 ≡ word = ap value_or (sym (ap (word_of k) (not_found i past)) ∙ e) in absurd (omega arith)
-          go (inl inside) (inr past) =
-              let none : 0 ≡ word = ap value_or (sym (ap (word_of k) (found i inside)
-              ∙ no_word_there (i + 1) (lines i) (causes i) (near i) k past) ∙ e) in
-              absurd (omega arith)
-          go (inl inside) (inl line) = record {
-            field = inside;
-            line = line;
-            same = let there = has_line i k inside line in ap value_or (sym there.word ∙ e);
-          }
+      is_of_line : (i k word : ℕ) → word_of k (field_in text i) ≡ Some word → IsOfLine i k word
+      is_of_line i k word e =
+          let (inside, line) = number_inside i k word e in
+          let there = has_line i k inside line in
+          record { field = inside; line = line; same = ap value_or (sym there.word ∙ e) }
 
 -- ---- version 2
 
@@ -216,7 +220,7 @@ module _ (c : ConfigView) (z text : List ℕ) (is : read text ≡ Some (document
 
   reads_word : (i k word : ℕ) → word_of k (field_in text i) ≡ Some word → 0 < word → ReadsWord c z text i k word
   reads_word i k word e some =
-      let of = is_of_line c z text 2 (readings_at c z) (readings_at c z) none is i k word e some in
+      let of = is_of_line c z text 2 (readings_at c z) (readings_at c z) none is i k word e in
       let levels = row_levels c.levels (line_at c.system z i (15 + k)) in
       let reading = reading_at c z i (15 + k) in
       let same : value_of reading.outcome ≡ word
@@ -235,6 +239,14 @@ module _ (c : ConfigView) (z text : List ℕ) (is : read text ≡ Some (document
     each = λ i k inside line. (reading_at c z i (15 + k), is_reading c.system _, has_reading i k inside line);
     lines = has_same_reading;
     words = reads_word;
+  }
+
+  pub follows_lines : FollowsLines c z text
+  follows_lines = record {
+    fields = has_readings.fields;
+    each = has_readings.each;
+    lines = has_readings.lines;
+    only = number_inside c z text 2 (readings_at c z) (readings_at c z) none is;
   }
 
 -- ---- version 3
@@ -338,7 +350,7 @@ module _ (c : ConfigView) (z text : List ℕ) (is : read text ≡ Some (recovere
 
   shows_word : (i k word : ℕ) → word_of k (field_in text i) ≡ Some word → 0 < word → ShowsWord c z text i k word
   shows_word i k word e some =
-      let of = is_of_line c z text 3 shown_at causes_at nears_at is i k word e some in
+      let of = is_of_line c z text 3 shown_at causes_at nears_at is i k word e in
       let here = field_at i in
       record {
         field = of.field;
@@ -365,6 +377,59 @@ module _ (c : ConfigView) (z text : List ℕ) (is : read text ≡ Some (recovere
     words = shows_word;
   }
 
+  -- what the rule says of field i, and that it is found
+  abbrev Said : ℕ → Type 0
+  Said i = (first second third : Recovered) × RuleSays c z i (first ∷ second ∷ third ∷ [])
+      × HasSaid text i 0 first × HasSaid text i 1 second × HasSaid text i 2 third
+
+  has_said : (i k : ℕ) (line : Recovered) (reading : Reading)
+      → HasLine text i k (reading_as line) (cause_line (reading_as line) reading) → HasSaid text i k line
+  has_said i k line reading has = record {
+    word = has.word;
+    pass = has.pass;
+    cause = λ other. has.cause
+        ∙ ap (λ (b : Bool). let from : Reading = cond b reading (reading_as line) in Some (cause_text_of from.outcome))
+        (ne_eqb line.pass 3 other);
+  }
+
+  said_by_three : (i : ℕ) (readings : FieldReadings) (shown : List Recovered) (a b d : Recovered)
+      → shown ≡ a ∷ b ∷ d ∷ [] → RuleSays c z i shown
+      → ((k : ℕ) → k < 3
+      → HasLine text i k (line_of k (as_readings shown)) (line_of k (cause_lines (as_readings shown) readings)))
+      → Said i
+  said_by_three i readings shown a b d e =
+      subst (λ (l : List Recovered). RuleSays c z i l
+      → ((k : ℕ) → k < 3
+      → HasLine text i k (line_of k (as_readings l)) (line_of k (cause_lines (as_readings l) readings))) → Said i)
+      (sym e) (λ says has. (
+        a,
+        b,
+        d,
+        says,
+        has_said i 0 a readings.first (has 0 (omega arith)),
+        has_said i 1 b readings.second (has 1 (omega arith)),
+        has_said i 2 d readings.third (has 2 (omega arith)),
+      ))
+
+  said_at : (i : ℕ) → i < fields_of c z → Said i
+  said_at i inside = by here.shown (recovers i).shown (λ k line. has_line_of i k inside line)
+    where
+      here : FieldRecovered
+      here = field_at i
+      by : (shown : List Recovered) → RuleSays c z i shown
+          → ((k : ℕ) → k < 3
+          → HasLine text i k (line_of k (as_readings shown)) (line_of k (cause_lines (as_readings shown) here.readings)))
+          → Said i
+      by shown (first, second, third, both, seen, three) =
+          said_by_three i here.readings shown _ _ _ three (first, second, third, both, seen, three)
+
+  pub follows_rule : FollowsRule c z text
+  follows_rule = record {
+    fields = has_fields c z text 3 shown_at causes_at nears_at is;
+    each = said_at;
+    only = number_inside c z text 3 shown_at causes_at nears_at is;
+  }
+
 -- ---- a text that is the document of a stream
 
 pub extracted : (c : ConfigView) (z text : List ℕ) → IsOfRun c z → text ≡ whole_text document c z → ReadsBack c z text
@@ -386,3 +451,14 @@ extracted_recovered c z text run e =
       is_read = is;
       shown = has_recovered c z text is.value_of_text;
     }
+
+pub extracted_by_lines : (c : ConfigView) (z text : List ℕ) → IsOfRun c z → text ≡ whole_text document c z
+    → FollowsLines c z text
+extracted_by_lines c z text run e =
+    subst (FollowsLines c z) (sym e) (follows_lines c z (whole_text document c z) (document_is_read c z run).value_of_text)
+
+pub extracted_by_rule : (c : ConfigView) (z text : List ℕ) → IsOfRun c z → text ≡ whole_text recovered_document c z
+    → FollowsRule c z text
+extracted_by_rule c z text run e =
+    subst (FollowsRule c z) (sym e)
+    (follows_rule c z (whole_text recovered_document c z) (recovered_is_read c z run).value_of_text)

@@ -7,6 +7,8 @@ pub mod NearTexts
 pub mod PlainBytes
 pub mod PlainDocument
 pub mod PlainTokens
+pub mod PrintedBytes
+pub mod RecordLines
 pub mod RecordTexts
 pub mod RecoveredLines
 pub mod Refusals

@@ -21,6 +21,7 @@ use Rattle.vbi_words.specs.Words.{IsWord}
 use Rattle.vbi_line.specs.OneReading.{reading_of}
 use Rattle.vbi_line.proofs.OneReading.{is_reading}
 use Rattle.vbi_field.specs.Document.{value_of}
+use Rattle.vbi_meta.proofs.PrintedBytes.{Printed, then, known, count}
 
 -- a reading that a line of a stream can have
 pub record IsShown (reading : Reading) : Type 0 where
@@ -28,6 +29,7 @@ pub record IsShown (reading : Reading) : Type 0 where
   pub pass : reading.pass < 2 ^ 64
   pub free : escape (cause_text_of reading.outcome) ≡ cause_text_of reading.outcome
   pub utf8 : IsUtf8 (cause_text_of reading.outcome)
+  pub printed : Printed (cause_text_of reading.outcome)
 
 -- all three of a field's
 pub record AreShown (readings : FieldReadings) : Type 0 where
@@ -75,6 +77,7 @@ word_shown word pass is small =
       pass = small;
       free = refl;
       utf8 = IsUtf8-are_ascii _ refl;
+      printed = known (codes "word") refl;
     }
 
 -- what levels show
@@ -82,10 +85,20 @@ pub outcome_shown : (system : System) (levels : List Bool) → length levels < 2
     → IsOutcome system levels outcome → pass < 2 ^ 64 → IsShown (record { outcome = outcome; pass = pass })
 unfolding escape_byte
 outcome_shown system levels short (Word w) pass shows small = word_shown w pass shows.is_word small
-outcome_shown system levels short Blank pass is small =
-    record { value = lit< tt; pass = small; free = refl; utf8 = IsUtf8-are_ascii _ refl }
-outcome_shown system levels short Unfinished pass is small =
-    record { value = lit< tt; pass = small; free = refl; utf8 = IsUtf8-are_ascii _ refl }
+outcome_shown system levels short Blank pass is small = record {
+  value = lit< tt;
+  pass = small;
+  free = refl;
+  utf8 = IsUtf8-are_ascii _ refl;
+  printed = known (codes "blank") refl;
+}
+outcome_shown system levels short Unfinished pass is small = record {
+  value = lit< tt;
+  pass = small;
+  free = refl;
+  utf8 = IsUtf8-are_ascii _ refl;
+  printed = known (codes "unfinished") refl;
+}
 outcome_shown system levels short (Change c) pass is small =
     let column = small_column system levels c short is.2 in
     record {
@@ -93,6 +106,7 @@ outcome_shown system levels short (Change c) pass is small =
       pass = small;
       free = column_free (codes "change ") c refl column;
       utf8 = column_utf8 (codes "change ") c refl column;
+      printed = then (known (codes "change ") refl) (count c column);
     }
 outcome_shown system levels short (Hold c) pass is small =
     let column = small_column system levels c short is.2 in
@@ -101,6 +115,7 @@ outcome_shown system levels short (Hold c) pass is small =
       pass = small;
       free = column_free (codes "hold ") c refl column;
       utf8 = column_utf8 (codes "hold ") c refl column;
+      printed = then (known (codes "hold ") refl) (count c column);
     }
 
 pub is_shown : (system : System) (levels : List Bool) → length levels < 2 ^ 64 → (outcome : Outcome) (pass : ℕ)

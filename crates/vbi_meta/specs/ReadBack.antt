@@ -1,18 +1,19 @@
 -- What readers of JSON (RFC 8259) find in a text, and when that is what the lines of a stream show.
 use Rattle.std.specs.Prelude.{◌≡◌, ℕ, ◌+◌, ◌<◌, ◌≤◌, List, Option, Some, None, option_and_then, codes, IsUtf8, ◌≢◌, ◌^◌}
-use Rattle.std.specs.Prelude.{◌⊎◌, All, decimal, slice_get}
+use Rattle.std.specs.Prelude.{◌⊎◌, [], ◌∷◌, ◌++◌, All, decimal, slice_get}
 use Rattle.json.specs.Json.{Json, document}
 use Rattle.json.specs.Strict.{HasUniqueKeys}
 use Rattle.serde_json.specs.Data.{Data, null}
 use Rattle.serde_json.specs.Find.{at, as_str}
 use Rattle.serde_json.specs.Read.{read}
 use Rattle.vbi_field.specs.CodeTexts.{Word, cause_text_of}
-use Rattle.vbi_field.specs.Stream.{Reading, fields_of, rest_of}
+use Rattle.vbi_field.specs.Stream.{Reading, fields_of, rest_of, line_at}
 use Rattle.vbi_field.specs.Texts.{RowReads, FieldRecovers}
 use Rattle.vbi_field.specs.ConfigView.{ConfigView}
 use Rattle.vbi_field.specs.Document.{value_of}
-use Rattle.vbi_field.specs.Recovered.{Near, FieldRecovered, cause_line, word_or_zero, hundredths}
+use Rattle.vbi_field.specs.Recovered.{Near, Recovered, FieldRecovered, cause_line, word_or_zero, hundredths}
 use Rattle.vbi_field.specs.Shown.{as_readings}
+use Rattle.vbi_near.specs.Recovery.{IsRecovered, none_erased}
 use Rattle.vbi_meta.specs.DocumentValue.{document_value, recovered_value}
 use Rattle.vbi_meta.specs.Settings.{whole, member_of}
 use Rattle.json.specs.Lex.{tokens}
@@ -99,6 +100,15 @@ pub record HasReadings (c : ConfigView) (z text : List ℕ) : Type 0 where
   -- a number other than 0 among the words is the word of that line, in pass 1 or 2
   pub words : (i k word : ℕ) → word_of k (field_in text i) ≡ Some word → 0 < word → ReadsWord c z text i k word
 
+-- The same in short: a number among the words stands at one of these lines.
+pub record FollowsLines (c : ConfigView) (z text : List ℕ) : Type 0 where
+  pub fields : HasFields c z text
+  pub each : (i k : ℕ) → i < fields_of c z → k < 3
+      → (reading : Reading) × RowReads c z i (15 + k) reading × HasLine text i k reading reading
+  pub lines : (i k : ℕ) (reading : Reading) → i < fields_of c z → k < 3 → RowReads c z i (15 + k) reading
+      → HasLine text i k reading reading
+  pub only : (i k word : ℕ) → word_of k (field_in text i) ≡ Some word → (i < fields_of c z) × (k < 3)
+
 -- the text is read as the stream's document, and has the readings of its lines
 pub record ReadsBack (c : ConfigView) (z text : List ℕ) : Type 0 where
   pub is_read : IsReadAs text (document_value c z)
@@ -159,7 +169,35 @@ pub record RecoversBack (c : ConfigView) (z text : List ℕ) : Type 0 where
   pub is_read : IsReadAs text (recovered_value c z)
   pub shown : HasRecovered c z text
 
+-- ---- the same in short, by the rule of recovery, whatever that is
+
+-- the rule says this of lines 16, 17 and 18 of field i, by the bytes of their rows; it says nothing else of them, as
+-- the law `one_recovered` of the crate `vbi_near` says
+abbrev pub RuleSays : ConfigView → List ℕ → ℕ → List Recovered → Type 0
+RuleSays c z i lines = IsRecovered c.system c.levels
+    (line_at c.system z i 15 ++ (line_at c.system z i 16 ++ line_at c.system z i 17)) (none_erased c.system) lines
+
+-- for line 16 + k of field i the text has the word or 0 and the pass that the rule says, and unless it recovered the
+-- word, the cause, with its column
+pub record HasSaid (text : List ℕ) (i k : ℕ) (line : Recovered) : Type 0 where
+  pub word : word_of k (field_in text i) ≡ Some (value_of line.outcome)
+  pub pass : pass_of k (field_in text i) ≡ Some line.pass
+  pub cause : line.pass ≢ 3 → cause_of k (field_in text i) ≡ Some (cause_text_of line.outcome)
+
+-- What is found in the text is what the rule says of the lines of the stream.
+pub record FollowsRule (c : ConfigView) (z text : List ℕ) : Type 0 where
+  pub fields : HasFields c z text
+  pub each : (i : ℕ) → i < fields_of c z → (first second third : Recovered)
+      × RuleSays c z i (first ∷ second ∷ third ∷ [])
+      × HasSaid text i 0 first × HasSaid text i 1 second × HasSaid text i 2 third
+  -- a number among the words stands at one of these lines
+  pub only : (i k word : ℕ) → word_of k (field_in text i) ≡ Some word → (i < fields_of c z) × (k < 3)
+
 -- ---- a text of bytes that stand for themselves, and of whole numbers that a float of 32 bits (IEEE 754) holds
+
+-- the byte is printed ASCII, so it is no line feed
+abbrev pub IsPrinted : ℕ → Type 0
+IsPrinted byte = (32 ≤ byte) × (byte ≤ 126)
 
 -- the byte is of ASCII and stands for itself: it is printed, and isn't the backslash of an escape, or it is a line feed
 abbrev pub IsPlain : ℕ → Type 0

@@ -1,18 +1,26 @@
 //! Laws over the definitions: each function's contract is one, for every config and stream.
 
-ghost use Rattle.std.specs.Prelude.{ℕ, ◌<◌, ◌^◌, Bool, List, Option};
+ghost use Rattle.std.specs.Prelude.{ℕ, ◌<◌, ◌^◌, All, Bool, List, Option, Ok};
+ghost use Rattle.std.specs.Io.KnownBytes.{Appends, Consumes, IsAtEnd};
 ghost use Rattle.vbi_words.specs.declared.system.System.{System};
 ghost use Rattle.vbi_words.specs.Levels.{Slicing};
 ghost use Rattle.vbi_field.specs.ConfigView.{ConfigView};
-ghost use Rattle.vbi_field.specs.Extracts.{ExtractsAll};
+ghost use Rattle.vbi_line.specs.Counted.{device_of};
+ghost use Rattle.vbi_line.specs.Intake.{counted_of};
+ghost use Rattle.vbi_line.specs.declared.intake.Intake.{Intake};
+ghost use Rattle.vbi_field.specs.declared.outlet.Outlet.{Outlet};
+ghost use Rattle.vbi_field.specs.Extracts.{ExtractsAll, Runs};
+ghost use Rattle.vbi_field.specs.Outlet as outlets;
 ghost use Rattle.vbi_field.specs.Recovered.{recovered_record_of, recovered_without};
 ghost use Rattle.vbi_field.specs.Stream.{rows_in};
 ghost use Rattle.vbi_field.specs.Texts.{document, recovered_document, whole_text};
-ghost use Rattle.vbi_meta.specs.ReadBack.{IsPlainText, IsReadAs, HasReadings, HasRecovered, ReadsBack};
-ghost use Rattle.vbi_meta.specs.ReadBack.{RecoversBack};
+ghost use Rattle.vbi_meta.specs.ReadBack.{IsPlainText, IsPrinted, IsReadAs, HasReadings, HasRecovered, ReadsBack};
+ghost use Rattle.vbi_meta.specs.ReadBack.{FollowsLines, FollowsRule, RecoversBack};
 ghost use Rattle.vbi_field.specs.declared.summary.Summary.{Summary};
 ghost use Rattle.vbi_meta.specs.DocumentValue.{IsConfig, IsOfRun, document_value, recovered_value};
 ghost use Rattle.vbi_meta.specs.DocumentValue.{recovered_field_value};
+
+use std::io::{Read, Write};
 
 /// The document of a stream is JSON in UTF-8, its value is the one that `specs/DocumentValue` names member by member,
 /// and no object in it has a key twice.
@@ -55,11 +63,42 @@ pub fn record_reads()
         IsReadAs (recovered_record_of slicing number field) (recovered_field_value slicing number field) }
 {}
 
+/// Such a record is on one line: each of its bytes is printed ASCII.
+pub fn record_is_line()
+    ensures { (system : System) (slicing : Slicing) (number : ℕ) (bytes : List ℕ) (marks : List Bool)
+        → slicing.white < 2 ^ 16 → number < 2 ^ 64
+        → let field = recovered_without system slicing (rows_in system bytes) marks in
+        All IsPrinted (recovered_record_of slicing number field) }
+{}
+
 /// The bytes that `extract_recovered` wrote when it answered Ok are read as the document of the bytes that it fetched
 /// with recovered words, and have what the lines in them show. Its contract says `ExtractsAll` then.
 pub fn extracted_recovered()
     ensures { (c : ConfigView) (input : Option (List ℕ)) (z text : List ℕ) (summary : Summary)
         → IsConfig c → ExtractsAll recovered_document c input z text summary → RecoversBack c z text }
+{}
+
+/// If `extract` answered Ok, its reader gave some bytes and was at its end, and its writer took a text, as far as the
+/// two tell. This text has the readings of the lines in these bytes. `Runs` is what the contract of `extract` says, and
+/// `settings` gives such configs.
+pub fn extracted_by_lines<R: Read, W: Write>()
+    ensures { (c : ConfigView) (i0 i : Intake R) (o0 o : Outlet W) (summary : Summary) → IsConfig c
+        → Runs document R.remaining W.contents c i0 i o0 o (Ok summary)
+        → (z text : List ℕ) × IsAtEnd (R.remaining (device_of (counted_of i)))
+        × Consumes (R.remaining (device_of (counted_of i0))) (R.remaining (device_of (counted_of i))) z
+        × Appends (W.contents (device_of (outlets.counted_of o0))) (W.contents (device_of (outlets.counted_of o))) text
+        × FollowsLines c z text }
+{}
+
+/// The same of `extract_recovered`: for each line in the bytes the text has the word and the pass that the rule of
+/// recovery says, or why it says none.
+pub fn extracted_by_rule<R: Read, W: Write>()
+    ensures { (c : ConfigView) (i0 i : Intake R) (o0 o : Outlet W) (summary : Summary) → IsConfig c
+        → Runs recovered_document R.remaining W.contents c i0 i o0 o (Ok summary)
+        → (z text : List ℕ) × IsAtEnd (R.remaining (device_of (counted_of i)))
+        × Consumes (R.remaining (device_of (counted_of i0))) (R.remaining (device_of (counted_of i))) z
+        × Appends (W.contents (device_of (outlets.counted_of o0))) (W.contents (device_of (outlets.counted_of o))) text
+        × FollowsRule c z text }
 {}
 
 /// The document of a stream is plain: its bytes are printed ASCII without a backslash, so without escapes, and line
