@@ -210,7 +210,6 @@ def measured():
                 yield number in known, f"docs/MEASURED.md says {number}, which none of {files} has"
 
 
-# Each check, with the least that it has to look at
 # The most lines of definitions that have to be believed for a promise of README
 MOST_BELIEVED = 150
 
@@ -230,6 +229,7 @@ def promises():
     yield len(begins) == len(bullets), f"README.md has {len(bullets)} promises, and texts/promised.txt {len(begins)}"
 
 
+# Each check, with the least that it has to look at
 CHECKS = {"promises": (promises, 17), "links": (links, 70), "paths": (paths, 120), "names": (names, 800),
           "faults": (faults, 28), "numbers": (numbers, 100), "measured": (measured, 20)}
 
