@@ -416,6 +416,7 @@ module _ (c : ConfigView) (z text : List ℕ) (is : read text ≡ Some (recovere
     where
       here : FieldRecovered
       here = field_at i
+
       by : (shown : List Recovered) → RuleSays c z i shown
           → ((k : ℕ) → k < 3
           → HasLine text i k (line_of k (as_readings shown)) (line_of k (cause_lines (as_readings shown) here.readings)))

@@ -1,5 +1,5 @@
 -- A record of version 3 is on one line.
-use Rattle.std.proofs.Common.{◌≡◌, ℕ, ◌<◌, ◌^◌, ◌==◌, Bool, List, ◌++◌, decimal, refl, arith}
+use Rattle.std.proofs.Common.{ℕ, ◌<◌, ◌^◌, ◌==◌, Bool, List, ◌++◌, decimal, refl, arith}
 use Rattle.std.proofs.lemmas.List.Elements.{All-from_recursion}
 use Rattle.std.specs.Prelude.{All, codes}
 use Rattle.vbi_words.specs.declared.system.System.{System}
@@ -9,7 +9,8 @@ use Rattle.vbi_field.specs.Document.{lines_of}
 use Rattle.vbi_field.specs.Recovered.{Near, FieldRecovered, cause_lines, word_or_zero, hundredths, near_text_of}
 use Rattle.vbi_field.specs.Recovered.{nears_text_of, record_with, recovered_record_of, recovered_without}
 use Rattle.vbi_field.specs.Shown.{as_readings}
-use Rattle.vbi_field.specs.Stream.{Reading, FieldReadings, rows_in}
+use Rattle.vbi_field.specs.Stream.{Reading, rows_in}
+use Rattle.vbi_field.specs.declared.readings.FieldReadings.{FieldReadings}
 use Rattle.vbi_meta.specs.ReadBack.{IsPrinted}
 use Rattle.vbi_meta.proofs.FieldWrites.{AreShort, is_written}
 use Rattle.vbi_meta.proofs.PrintedBytes.{Printed, then, known, count}
