@@ -1,6 +1,7 @@
 pub mod DocumentReadings
 pub mod DocumentReads
 pub mod DocumentTexts
+pub mod DocumentValues
 pub mod FieldWrites
 pub mod LineFeeds
 pub mod NearTexts
