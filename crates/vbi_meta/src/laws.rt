@@ -20,7 +20,7 @@ ghost use Rattle.vbi_field.specs.declared.summary.Summary.{Summary};
 ghost use Rattle.vbi_meta.specs.DocumentValue.{IsConfig, IsOfRun, document_value, recovered_value};
 ghost use Rattle.vbi_meta.specs.DocumentValue.{recovered_field_value};
 
-use std::io::{Read, Write};
+use std::io;
 
 /// The document of a stream is JSON in UTF-8, its value is the one that `specs/DocumentValue` names member by member,
 /// and no object in it has a key twice.
@@ -81,7 +81,7 @@ pub fn extracted_recovered()
 /// If `extract` answered Ok, its reader gave some bytes and was at its end, and its writer took a text, as far as the
 /// two tell. This text has the readings of the lines in these bytes. `Runs` is what the contract of `extract` says, and
 /// `settings` gives such configs.
-pub fn extracted_by_lines<R: Read, W: Write>()
+pub fn extracted_by_lines<R: io::Read, W: io::Write>()
     ensures { (c : ConfigView) (i0 i : Intake R) (o0 o : Outlet W) (summary : Summary) → IsConfig c
         → Runs document R.remaining W.contents c i0 i o0 o (Ok summary)
         → (z text : List ℕ) × IsAtEnd (R.remaining (device_of (counted_of i)))
@@ -92,7 +92,7 @@ pub fn extracted_by_lines<R: Read, W: Write>()
 
 /// The same of `extract_recovered`: for each line in the bytes the text has the word and the pass that the rule of
 /// recovery says, or why it says none.
-pub fn extracted_by_rule<R: Read, W: Write>()
+pub fn extracted_by_rule<R: io::Read, W: io::Write>()
     ensures { (c : ConfigView) (i0 i : Intake R) (o0 o : Outlet W) (summary : Summary) → IsConfig c
         → Runs recovered_document R.remaining W.contents c i0 i o0 o (Ok summary)
         → (z text : List ℕ) × IsAtEnd (R.remaining (device_of (counted_of i)))
