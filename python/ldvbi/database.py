@@ -23,6 +23,7 @@ MOST_STEPS = 100000 * STEPS  # of one database: a hundred times what one of a mi
 MOST_LENGTH = 1 << 20  # bytes of a value, so that no step takes long
 _LIMIT_LENGTH = 0  # SQLite's number of that limit
 _FUNCTION = 31  # and of what calls a function
+_OWN = ("count", "min", "max", "sum")  # which our own statements call, and none of which takes long for a row
 WAIT = 5  # seconds for a database that another process writes to
 _OPTIONAL = {"field_width": "fieldWidth", "field_height": "fieldHeight",
              "number_of_sequential_fields": "numberOfSequentialFields"}
@@ -106,8 +107,8 @@ def limit_steps(database: sqlite3.Connection) -> None:
 
 
 def _may(action: int, _: Any, function: Any, *more: Any) -> int:
-    """Whether SQLite may do this: call no function but the one of our own statements."""
-    return sqlite3.SQLITE_DENY if action == _FUNCTION and function != "count" else sqlite3.SQLITE_OK
+    """Whether SQLite may do this: call no function but those of our own statements."""
+    return sqlite3.SQLITE_DENY if action == _FUNCTION and function not in _OWN else sqlite3.SQLITE_OK
 
 
 def _patiently(read: Callable[[], Any]) -> None:

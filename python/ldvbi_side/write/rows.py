@@ -97,9 +97,10 @@ def _attached(new: sqlite3.Connection, path: str) -> Iterator[None]:
 def _copied_tables(new: sqlite3.Connection) -> Dict[str, List[str]]:
     """Makes the old database's tables and indexes, and copies those rows that are of no field. The answer is the
     columns of each table."""
-    for (statement,) in new.execute("SELECT sql FROM old.sqlite_master WHERE type IN ('table', 'index') AND sql IS NOT "
-                                    "NULL AND name NOT LIKE 'sqlite_%'").fetchall():
-        new.execute(statement)
+    for name, statement in new.execute("SELECT name, sql FROM old.sqlite_master WHERE type IN ('table', 'index') AND "
+                                       "sql IS NOT NULL").fetchall():
+        if not name.startswith("sqlite_"):
+            new.execute(statement)
     tables = {name: columns_of(new, name) for name in tables_of(new) if not name.startswith("sqlite_")}
     for name, columns in tables.items():
         if "field_id" not in columns:
