@@ -9,6 +9,7 @@ import re
 from typing import Any, Callable, Dict, Iterable, Iterator, List, NamedTuple, Optional, TextIO, Tuple
 
 from .collector import paused
+from .codes import LINES
 from .library import System
 from .readings import (PACKED_FIELD, PACKED_LINE, Cause, Cut, Levels, PackedFields, field_bytes, size_of,
                        unknown_cause)
@@ -30,6 +31,8 @@ _RECORD = re.compile(r'\{"seqNo":([^,]*),"vbi":\{"vbiData":\[(%s,%s,%s)\]\},([^]
                      + r'(?:,"vbiNear":\[%s,%s,%s\])?\}' % (3 * (_NEAR,)))
 _CAUSES_AND_PASSES = re.compile(re.escape(CAUSES).replace("%d", "(%s)" % _NUMBER).replace("%s", "([a-z0-9 ]*)"))
 _LEAST_WORD, _GREATEST_WORD = 0x800000, 0xFFFFFF
+_STOP = 0x82CFFF
+_NEAR_STOP = '{"word":%d,' % _STOP
 _PIECE = 1 << 17  # characters of records that are taken apart at once
 _FRAME = 400  # characters: more than what stands before the records and after them
 _LONGEST = 1135  # samples of a line
@@ -38,13 +41,18 @@ _CAUSES = [["word"], ["blank"], ["unfinished"], ["change %d" % column for column
            ["hold %d" % column for column in range(_LONGEST)]]
 
 
+Leads = Dict[Tuple[int, int], int]
+
+
 class Document(NamedTuple):
-    """What a document has: the system, the readings of the whole fields, the field in which the stream was cut, and the
-    levels with which it was read."""
+    """What a document has: the system, the readings of the whole fields, the field in which the stream was cut, the
+    levels with which it was read, and by field and line how far a picture stop that is the nearest word of a worn line
+    is ahead of its rival, in hundredths of a column."""
     system: System
     readings: PackedFields
     cut: Optional[Cut]
     levels: Levels
+    leads: Leads
 
 
 # ---- Read
@@ -74,7 +82,18 @@ def _as_json(data):
             packed.append(_quick_field(record, number, known) or _field(record, number, known))
         except ValueError as error:
             raise ValueError("field %d: %s" % (number, error)) from None
-    return Document(system, PackedFields(b"".join(packed)), _cut(document, len(packed) + 1, system), _levels(document))
+    leads = {place: lead for record in records for place, lead in _leads_of(record)}
+    return Document(system, PackedFields(b"".join(packed)), _cut(document, len(packed) + 1, system), _levels(document),
+                    leads)
+
+
+def _leads_of(record):
+    """Yields the leads of a record. What isn't as `extract` writes it says nothing."""
+    nears = record.get("vbiNear")
+    for line, near in zip(LINES, nears if isinstance(nears, list) else ()):
+        word, distance, rival = map(near.get, ("word", "distance", "rival")) if isinstance(near, dict) else (0, 0, 0)
+        if word == _STOP and type(distance) is type(rival) is int:
+            yield (record["seqNo"], line), rival - distance
 
 
 def _levels(document):
@@ -213,7 +232,7 @@ def _as_written(data: bytes) -> Optional[Document]:
         is_framed = head_of(version, system, *levels) == head + "\n" and tail_of(cut) == "\n]," + tail
         if not is_framed or version not in (2, 3):
             return None
-        return Document(system, PackedFields(packed), cut, levels)
+        return Document(system, PackedFields(packed), cut, levels, dict(_leads_in(body)))
     except (KeyError, TypeError, ValueError):
         return None
 
@@ -235,6 +254,15 @@ def _packed_pieces(body, known):
         # an int from each text takes half as long again
         yield _packed_fields(array.array("I", json.loads("[%s]" % ",".join(words))), [known[one] for one in causes])
         number += len(numbers)
+
+
+def _leads_in(body):
+    """Yields the leads of records, of which few have a picture stop that was recovered."""
+    place = body.find(_NEAR_STOP)
+    while place >= 0:
+        begin, end = body.rfind("\n", 0, place) + 1, body.find(",\n", place)
+        yield from _leads_of(json.loads(body[begin:end if end >= 0 else None]))
+        place = body.find(_NEAR_STOP, place + 1)
 
 
 def _packed_fields(words, lines):

@@ -47,6 +47,13 @@ def nearest_word_in(stream: Stream, field: int, first: int, last: int) -> Option
     return None if goes_on or near.rival - near.distance <= uncertain else near.word
 
 
+def stop_lead_in(stream: Stream, field: int, line: int) -> Optional[int]:
+    """How far a picture stop that is the nearest word of a line is ahead of its rival, in hundredths of a column."""
+    near = measured(stream, field, line)
+    is_stop = near.word is not None and classify(near.word).kind == Kind.picture_stop
+    return near.rival - near.distance if is_stop else None
+
+
 def measured(stream: Stream, field: int, line: int) -> Measured:
     """The nearest word of one line of a field, and how near it is."""
     near, column = nearest_in(stream, field, line, line), stream.white - stream.black

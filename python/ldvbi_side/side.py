@@ -6,15 +6,15 @@ from typing import Any, Callable, Dict, Iterable, Iterator, List, Optional, Tupl
 
 from ldvbi import FieldReadings, Reading, Stream, System, format_of, read_rows
 from ldvbi.codes import code, codes_by_kind
-from ldvbi.document import read_document
+from ldvbi.document import Leads, read_document
 from ldvbi.metadata import Metadata, Settings
 from ldvbi.readings import PACKED_FIELD, Cut, Levels, PackedFields
 from ldvbi.stream import BLOCK, StreamDropouts, cut_of
 from .answer.analysis import Analysis, analysed
 from .as_json import as_json
-from .judge.readings import Fields
+from .judge.readings import Fields, StopLead
 from .levels import tried_on
-from .near import nearest_word_in
+from .near import nearest_word_in, stop_lead_in
 from .seek import seek, wanted_of
 
 
@@ -28,7 +28,8 @@ class Side:
     `expected` is the number of fields that the metadata has, `sequential` that of its videoParameters, or None. With
     `is_strict`, a side without lead-in or lead-out, or with an unread number, isn't whole. With `may_end`, a side
     without lead-out may be. `given_last` is the number, or the part of a time, with which the disc is said to end, as
-    text, or None. `samples` is the stream from which words were recovered, or None.
+    text, or None. `samples` is the stream from which words were recovered, or None; `leads` says of a document's
+    picture stops on worn lines how far they are ahead.
 
     `answer` says what the words mean, as docs/ANSWER.md describes it; `pictures`, `times`, `chapters`, `stops` and
     `format` are parts of it. `analysis` has the same as an `Answer` of answer/entries.py. `codes` is what each field
@@ -43,6 +44,7 @@ class Side:
         self.levels = levels
         self.first = first
         self.samples = samples
+        self.leads: Leads = {}
         self.pad: Optional[List[bool]] = None
         self.expected: Optional[int] = None
         self.sequential: Optional[int] = None
@@ -58,10 +60,15 @@ class Side:
         """The side as plain data, for the analysis."""
         nearest_word = functools.partial(nearest_word_in, self.samples) if self.samples else None
         try_levels = functools.partial(tried_on, self.samples) if self.samples else None
+        stop_lead = functools.partial(stop_lead_in, self.samples) if self.samples else self._lead_of()
         fields = self.readings
         return Fields(self.system.name, fields.words(), fields.passes(), fields.causes(), fields.data, self.cut,
                       self.first, self.expected, self.is_strict, self.may_end, nearest_word, try_levels, self.pad,
-                      self.given_last, self.sequential)
+                      self.given_last, self.sequential, stop_lead)
+
+    def _lead_of(self) -> Optional[StopLead]:
+        leads = self.leads
+        return (lambda field, line: leads.get((field, line))) if leads else None
 
     @functools.cached_property
     def analysis(self) -> Analysis:
@@ -171,4 +178,7 @@ def side_of_tbc(path: str, system: System, black: int, white: int, first: Option
 
 def side_of_document(data: bytes) -> Side:
     """The side of a document, given by its bytes."""
-    return Side(*read_document(data))
+    document = read_document(data)
+    side = Side(document.system, document.readings, document.cut, document.levels)
+    side.leads = document.leads
+    return side

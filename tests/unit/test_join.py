@@ -250,6 +250,10 @@ def test_chapters_and_stops_together():
     assert chapters_text("PAL", joined_spans(found), "x.txt") == (
         "0.020000\t0.620000\tChapter 1\n0.620000\t1.600000\tChapter 2\n")
     assert together("1..9", "B 1..9 1:9=B").stops == []
+    worn = together("1..9 3=S^/#2/#2 5=S^/#3/#3 7=S/#4/#4 -11:14", "1..9 3=S^/#2/#2 5=S/#3/#3 7=S^/#4/#4")
+    assert [row for row in joined_rows(worn, ()) if row[0] == "stop"] == [
+        ("stop", 2, 3, 2, "unsure", "b"), ("stop", 3, 5, 3, "read", "b"), ("stop", 4, 7, 4, "read", "b")]
+    assert [one["how"] for one in as_json(worn)["stops"]] == ["unsure", "read", "read"]
     assert not list(joined_spans(together("m0..1x3000", "m0..1x3000")))
 
 

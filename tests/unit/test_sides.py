@@ -143,8 +143,8 @@ def test_what_stands_beside_entries():
     assert found["stops"] == [{"field": 4, "frame": 2, "number": 3, "lines": [16, 17]},
                               {"field": 15, "frame": 7, "number": 8, "lines": [16, 17, 18]},
                               {"field": 20, "frame": 10, "number": None, "lines": [16]}]
-    assert [one["pass"] for one in found["stray"]] == [2]
-    assert found["unsureStops"] == [{"field": 3, "frame": 1, "number": 2, "lines": [17]}]
+    assert found["unsureStops"] == [{"field": 1, "frame": 0, "number": 2, "lines": [16]},
+                                    {"field": 3, "frame": 1, "number": 2, "lines": [17]}]
 
 
 def test_an_unknown_clock_of_numbers_on_both_fields():

@@ -15,6 +15,7 @@ from .entries import Chapter, Conflict, Doubt, Status, Stop, Stretch, Users, fra
 LEAST_SHARE = 200  # fields to a chapter code at most: of a disc with chapters each picture has one
 APART = 100  # fields without the code between two stretches of lead-in or lead-out: a scratch on a disc is shorter
 FEW = 2  # fields with a number or a chapter that may be read wrongly inside a stretch
+MARGIN = 0  # hundredths of a column by which a stop on one worn line has to be ahead, by docs/measured/stops.txt
 _OTHERS = (Kind.picture, Kind.clv_picture, Kind.time, Kind.chapter)
 
 
@@ -107,18 +108,24 @@ def ends_of(codes: Codes, kind: Kind, numbers: Numbers) -> Tuple[List[Stretch], 
 # ---- Stops and other codes
 
 def stops_of(codes: Codes, places: Places, begin: int) -> Tuple[List[Stop], List[Stop], List[Stray]]:
-    """The fields with a picture stop that the library believes, each with its picture; those of which line 16 or 17 has
-    one that was recovered, where the library doesn't believe it; and the lines of others, as stray ones. `begin` is the
-    first field that begins a frame."""
+    """The fields with a picture stop that the library believes, or of which one worn line has one that is far enough
+    ahead, each with its picture; those of which it isn't; and the lines of others, as stray ones. `begin` is the first
+    field that begins a frame."""
     stops = codes.kinds[Kind.picture_stop]
     states = judge_stops(codes.fields.packed) if stops else []
-    believed = {field for field in stops if states[field - 1] == State.believed}
+    believed, worn = ({field for field in stops if states[field - 1] == state}
+                      for state in (State.believed, State.doubtful))
     lines = {field: sum(stops[field].values(), ()) for field in sorted(stops)}
-    recovered = {field for field, ones in lines.items() if field not in believed and all(
-        line < 18 and codes.fields.passes[field - 1][line - 16] == 3 for line in ones)}
+    ahead = {field for field in worn if _is_ahead(codes.fields, field, min(lines[field]))}
     found, unsure = ([Stop(field, frame_of(field, begin), places.number_at(field), ones)
-                      for field, ones in lines.items() if field in fields] for fields in (believed, recovered))
-    return found, unsure, codes.strays(Kind.picture_stop, stops.keys() - believed - recovered, "unsure")
+                      for field, ones in lines.items() if field in fields] for fields in (believed | ahead, worn - ahead))
+    return found, unsure, codes.strays(Kind.picture_stop, stops.keys() - believed - worn, "unsure")
+
+
+def _is_ahead(fields, field, line):
+    """Whether the stop of a worn line is far enough ahead of what else it may be."""
+    lead = fields.stop_lead(field, line) if fields.stop_lead else None
+    return lead is not None and lead >= MARGIN
 
 
 def status_of(codes: Codes) -> List[Status]:

@@ -59,4 +59,4 @@ def joined_rows(joined: Joined, captures: Sequence[Capture]) -> Iterator[Tuple[A
     for chapter in joined.chapters:
         yield "chapter", chapter.chapter, chapter.field, chapter.frame, "read", chapter.source
     for stop in joined.stops:
-        yield "stop", stop.number, stop.field, stop.frame, "read", stop.source
+        yield "stop", stop.number, stop.field, stop.frame, stop.how, stop.source

@@ -97,11 +97,12 @@ class ChapterAt(NamedTuple):
 
 
 class StopAt(NamedTuple):
-    """A number with a picture stop, and where, likewise."""
+    """A number with a picture stop, and where, likewise; whether it is `read`, or `unsure` in all captures."""
     number: Any
     source: str
     field: int
     frame: int
+    how: str
 
 
 class Joined(NamedTuple):

@@ -14,6 +14,9 @@ Values = Dict[Any, Lines]  # what a field says by codes of one kind, each value 
 ByField = Dict[int, Values]
 # Of a field, and the first and the last of some of its lines, the word that is nearer to them than any other, or None
 NearestWord = Callable[[int, int, int], Optional[int]]
+# Of a line of a field how far a picture stop that is its nearest word is ahead of its rival, in hundredths of a column,
+# or None if that isn't known
+StopLead = Callable[[int, int], Optional[int]]
 
 
 class Fields(NamedTuple):
@@ -24,7 +27,7 @@ class Fields(NamedTuple):
     padding. `expected` is the number of fields that the metadata has. `is_strict` says that a side without lead-in or
     lead-out, or with an unread number, isn't whole, and `may_end` that it may end without lead-out. If the samples are
     at hand, `nearest_word` finds the nearest words of lines, and `try_levels` what other levels would read.
-    `given_last` is the number with which the disc is said to end, or the part of a time, as text.
+    `stop_lead` says how far stops of worn lines are ahead. `given_last` is the number with which the disc is said to end, or the part of a time, as text.
     `sequential` is the number of fields by the metadata's videoParameters."""
     system: str
     words: List[Tuple[int, int, int]]
@@ -41,6 +44,7 @@ class Fields(NamedTuple):
     pad: Optional[List[bool]] = None
     given_last: Optional[str] = None
     sequential: Optional[int] = None
+    stop_lead: Optional[StopLead] = None
 
 
 class Reading(NamedTuple):

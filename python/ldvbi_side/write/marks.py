@@ -29,11 +29,14 @@ def chapters_at(captures: Sequence[Capture], taken: Sequence[Taken], made: Plan)
 
 
 def stops_at(captures: Sequence[Capture], taken: Sequence[Taken], unit: Unit) -> List[StopAt]:
-    """Where each number with a picture stop is, once for each of its fields that any capture shows with one."""
+    """Where each number with a picture stop is, once for each of its fields that any capture shows with one. It is
+    unsure if it is so in each of these."""
     of_number = {one.number: one for one in taken}
-    said = {(number, offset) for capture in captures for number, _, offset in _Beside(capture).stops()}
-    return [StopAt(unit.text_of(number), *_place(of_number[number], offset))
-            for number, offset in sorted(said) if number in of_number]
+    said, sure = ({(number, offset) for capture in captures for number, _, offset in _Beside(capture).stops(is_sure)}
+                  for is_sure in (False, True))
+    return [StopAt(unit.text_of(number), *_place(of_number[number], offset),
+                   "read" if (number, offset) in sure else "unsure")
+            for number, offset in sorted(said | sure) if number in of_number]
 
 
 def _place(one: Taken, offset: int) -> Tuple[str, int, int]:
@@ -55,8 +58,8 @@ class _Beside:
         for one in self._capture.answer.chapters:
             yield from self._said(one.number, one.chapter, one.field)
 
-    def stops(self) -> Iterator[_Said]:
-        for one in self._capture.answer.stops:
+    def stops(self, is_sure: bool) -> Iterator[_Said]:
+        for one in self._capture.answer.stops if is_sure else self._capture.answer.unsure_stops:
             yield from self._said(one.number, 0, one.field)
 
     def _said(self, number: Any, chapter: int, field: int) -> Iterator[_Said]:
