@@ -11,7 +11,7 @@ folder=$2
 version=$3
 architecture=$(dpkg --print-architecture)
 package=ldvbi_${version}_$architecture.deb
-maintainer=${MAINTAINER:-the ldvbi developers <ldvbi@example.org>}
+maintainer=${MAINTAINER:-the ldvbi contributors <ldvbi@example.org>}
 documents=$folder/usr/share/doc/ldvbi
 day=$(sed -n "s/^## $version (\(.*\))$/\1/p" "$top/CHANGELOG.md")
 [ "$day" ] || { echo "make deb: CHANGELOG.md has no date of version $version" >&2; exit 1; }

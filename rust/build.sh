@@ -40,6 +40,7 @@ fi
 
 rm -rf "$here/crate.new"
 python3 "$here/erase.py" "$here/../crates" "$here/hand" "$here/crate.new"
+cp "$here/../LICENSE" "$here/crate.new"
 # Debian's folder stands in place of the registry where it has all of them.
 if dependencies | while read -r name; do ls -d "$registry/$name"-[0-9]* || exit; done > /dev/null 2>&1; then
     mkdir "$here/crate.new/.cargo"

@@ -85,6 +85,7 @@ check 'it is packed' quiet cargo package --quiet --no-metadata --allow-dirty
 tar -C "$work" -xzf "$CARGO_TARGET_DIR/package/ldvbi-$version.crate" || exit 1
 check 'the package is the crate' [ "$(cd "$work/ldvbi-$version" && find . -type f ! -name 'Cargo.*' | sort)" = \
     "$(find . -type f ! -name 'Cargo.*' ! -path './.cargo/*' | sort)" ]
+check 'it has the licence' cmp -s "$top/LICENSE" "$work/ldvbi-$version/LICENSE"
 git init -q "$work/ldvbi-$version"
 git -C "$work/ldvbi-$version" add -A
 git -C "$work/ldvbi-$version" -c user.name=test -c user.email=test@localhost commit -qm crate || exit 1

@@ -62,6 +62,7 @@ check 'each target that is no file is said to be none' [ "$targets" = "$(cat out
 # rust/build.sh for another machine: by the compiler on the PATH if that has its library, else by Debian's
 mkdir -p other/rust own/lib/rustlib/mips debian/lib/rustlib/mips
 cp "$top/rust/build.sh" other/rust
+cp "$top/LICENSE" other
 stub bin/python3 'mkdir "$4"'
 stub bin/rustfmt 'exit 1'
 for folder in bin debian; do
