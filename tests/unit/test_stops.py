@@ -42,7 +42,7 @@ def test_the_margin(lead, wanted):
 def test_on_which_lines():
     """Lines 16 and 17, by pass 2 or 3. On line 18 alone a stop is out of place, and beside another it has no say."""
     one = made("1..9 4.16=S^ 8.17=S* 12.18=S 14.16=S* 14.18=S 16.17=S^", side)
-    one.leads = {(field, line): 900 for field in range(1, 16) for line in (16, 17, 18)}
+    one.leads = {(field, line): -1 if line == 18 else 900 for field in range(1, 16) for line in (16, 17, 18)}
     assert (stops_in(one), [(stray["field"], stray["line"]) for stray in one.answer["stray"]]) == (
         ([4, 8, 14], [16]), [(12, 18)])
 
