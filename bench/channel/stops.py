@@ -1,7 +1,7 @@
 #!/usr/bin/env python3
-"""Has the library recover simulated lines, each alone in its field as line 16 and as line 17, and prints how many of them
-it says have a picture stop (82CFFF) by pass 2 or 3, and by how many columns that is ahead: the rival's distance less its
-own (ldvbi_nearest), if it is the nearest word of the line as it is. The lines are
+"""Has the library recover simulated lines, each alone in its field as line 16 and as line 17, and prints how many of
+them it says have a picture stop (82CFFF) by pass 2 or 3, and by how many columns that is ahead: the rival's distance
+less its own (ldvbi_nearest), if it is the nearest word of the line as it is. The lines are
 
 other words      codes of discs, any words: worn in each way of damages.py
 no word          those of signals.py, with little noise and with much

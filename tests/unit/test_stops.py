@@ -1,5 +1,5 @@
-"""Picture stops that one worn line has: believed if no other word is nearer to the line as it is, by its samples or by a
-document's distances, and unsure otherwise."""
+"""Picture stops that one worn line has: believed if no other word is nearer to the line as it is, by its samples or by
+a document's distances, and unsure otherwise."""
 
 import io
 import json
@@ -77,9 +77,9 @@ def test_of_a_line_read_after_smoothing(room):
     rows[4][0] = rows[9][1] = worn_line(STOP, NTSC, 5, 3)
     write_stream(room.path, NTSC, rows)
     one = side_of_tbc(room.path, ldvbi.System.NTSC, *NTSC[1:])
-    assert {(field[place].pass_, field[place].word) for field, place in ((one.readings[4], 0), (one.readings[9], 1))} == {
-        (2, STOP)}
-    assert [stops_in(found) for found in (one, *documents_of(room.path, NTSC)[1])] == [([5, 10], []), *[([], [5, 10])] * 2]
+    assert [(line.pass_, line.word) for line in (one.readings[4][0], one.readings[9][1])] == [(2, STOP)] * 2
+    assert stops_in(one) == ([5, 10], [])
+    assert [stops_in(found) for found in documents_of(room.path, NTSC)[1]] == [([], [5, 10])] * 2
 
 
 def test_of_a_document(room):

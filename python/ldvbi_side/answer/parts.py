@@ -118,7 +118,8 @@ def stops_of(codes: Codes, places: Places, begin: int) -> Tuple[List[Stop], List
     lines = {field: sum(stops[field].values(), ()) for field in sorted(stops)}
     ahead = {field for field in worn if _is_ahead(codes.fields, field, min(lines[field]))}
     found, unsure = ([Stop(field, frame_of(field, begin), places.number_at(field), ones)
-                      for field, ones in lines.items() if field in fields] for fields in (believed | ahead, worn - ahead))
+                      for field, ones in lines.items() if field in fields]
+                     for fields in (believed | ahead, worn - ahead))
     return found, unsure, codes.strays(Kind.picture_stop, stops.keys() - believed - worn, "unsure")
 
 
