@@ -9,7 +9,7 @@ one bit turned   a stop with one bit turned, as no disc has it, worn in each way
 a stop           likewise
 
 Last it prints the least margin, in hundredths of a column, at which of the lines with other words or no word at most
-one in ALLOWED says a stop, in either system: MARGIN in python/ldvbi_side/answer/parts.py.
+one in ALLOWED says a stop, in either system: MARGIN in python/ldvbi_side/near.py.
 
 It needs Debian's python3-numpy and python3-scipy, and takes ten minutes of one processor in all, half with two.
 

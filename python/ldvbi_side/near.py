@@ -7,6 +7,7 @@ from ldvbi.codes import LINES, value_of
 from .judge.paces import Unit
 
 BEYOND = 4  # columns of a line by which a longer word may be nearer
+MARGIN = 0  # hundredths of a column by which a stop on one worn line has to be ahead, by docs/measured/stops.txt
 
 
 class Measured(NamedTuple):

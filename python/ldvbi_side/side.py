@@ -12,9 +12,9 @@ from ldvbi.readings import PACKED_FIELD, Cut, Levels, PackedFields
 from ldvbi.stream import BLOCK, StreamDropouts, cut_of
 from .answer.analysis import Analysis, analysed
 from .as_json import as_json
-from .judge.readings import Fields, StopLead
+from .judge.readings import Fields
 from .levels import tried_on
-from .near import nearest_word_in, stop_lead_in
+from .near import MARGIN, nearest_word_in, stop_lead_in
 from .seek import seek, wanted_of
 
 
@@ -60,15 +60,15 @@ class Side:
         """The side as plain data, for the analysis."""
         nearest_word = functools.partial(nearest_word_in, self.samples) if self.samples else None
         try_levels = functools.partial(tried_on, self.samples) if self.samples else None
-        stop_lead = functools.partial(stop_lead_in, self.samples) if self.samples else self._lead_of()
+        is_ahead = self._is_ahead if self.samples or self.leads else None
         fields = self.readings
         return Fields(self.system.name, fields.words(), fields.passes(), fields.causes(), fields.data, self.cut,
                       self.first, self.expected, self.is_strict, self.may_end, nearest_word, try_levels, self.pad,
-                      self.given_last, self.sequential, stop_lead)
+                      self.given_last, self.sequential, is_ahead)
 
-    def _lead_of(self) -> Optional[StopLead]:
-        leads = self.leads
-        return (lambda field, line: leads.get((field, line))) if leads else None
+    def _is_ahead(self, field: int, line: int) -> bool:
+        lead = stop_lead_in(self.samples, field, line) if self.samples else self.leads.get((field, line))
+        return lead is not None and lead >= MARGIN
 
     @functools.cached_property
     def analysis(self) -> Analysis:

@@ -10,8 +10,8 @@ from compact import made
 from discs import side
 import ldvbi
 from ldvbi.document import write_recovered
-from ldvbi_side.answer.parts import MARGIN
 from ldvbi_side.command.map import map_rows
+from ldvbi_side.near import MARGIN
 from ldvbi_side.side import side_of_document, side_of_tbc
 import pytest
 from streams import NTSC, PAL, TOP, worn_line, write_stream
@@ -92,7 +92,8 @@ def test_of_a_document(room):
     assert text.count(near) == 1
     for other, is_stop in ((near, True), (near.replace("1120", "840"), True), (near.replace("1120", "839"), False),
                            ("null", False), (near.replace(str(STOP), str(STOP ^ 1)), False), ("5", False),
-                           (near.replace("840", '"840"'), False), (near.replace("1120", "1120.5"), False), ("{}", False)):
+                           (near.replace("840", '"840"'), False), (near.replace("1120", "1120.5"), False),
+                           ("{}", False)):
         for begin in ("", " "):  # with a space before it, it isn't as it was written
             assert stops_in(side_of_document((begin + text.replace(near, other)).encode())) == (
                 ([5], []) if is_stop else ([], [5]))

@@ -15,7 +15,6 @@ from .entries import Chapter, Conflict, Doubt, Status, Stop, Stretch, Users, fra
 LEAST_SHARE = 200  # fields to a chapter code at most: of a disc with chapters each picture has one
 APART = 100  # fields without the code between two stretches of lead-in or lead-out: a scratch on a disc is shorter
 FEW = 2  # fields with a number or a chapter that may be read wrongly inside a stretch
-MARGIN = 0  # hundredths of a column by which a stop on one worn line has to be ahead, by docs/measured/stops.txt
 _OTHERS = (Kind.picture, Kind.clv_picture, Kind.time, Kind.chapter)
 
 
@@ -116,17 +115,11 @@ def stops_of(codes: Codes, places: Places, begin: int) -> Tuple[List[Stop], List
     believed, worn = ({field for field in stops if states[field - 1] == state}
                       for state in (State.believed, State.doubtful))
     lines = {field: sum(stops[field].values(), ()) for field in sorted(stops)}
-    ahead = {field for field in worn if _is_ahead(codes.fields, field, min(lines[field]))}
+    is_ahead = codes.fields.is_ahead
+    ahead = {field for field in worn if is_ahead and is_ahead(field, min(lines[field]))}
     found, unsure = ([Stop(field, frame_of(field, begin), places.number_at(field), ones)
-                      for field, ones in lines.items() if field in fields]
-                     for fields in (believed | ahead, worn - ahead))
+                      for field, ones in lines.items() if field in one] for one in (believed | ahead, worn - ahead))
     return found, unsure, codes.strays(Kind.picture_stop, stops.keys() - believed - worn, "unsure")
-
-
-def _is_ahead(fields, field, line):
-    """Whether the stop of a worn line is far enough ahead of what else it may be."""
-    lead = fields.stop_lead(field, line) if fields.stop_lead else None
-    return lead is not None and lead >= MARGIN
 
 
 def status_of(codes: Codes) -> List[Status]:

@@ -14,9 +14,6 @@ Values = Dict[Any, Lines]  # what a field says by codes of one kind, each value 
 ByField = Dict[int, Values]
 # Of a field, and the first and the last of some of its lines, the word that is nearer to them than any other, or None
 NearestWord = Callable[[int, int, int], Optional[int]]
-# Of a line of a field how far a picture stop that is its nearest word is ahead of its rival, in hundredths of a column,
-# or None if that isn't known
-StopLead = Callable[[int, int], Optional[int]]
 
 
 class Fields(NamedTuple):
@@ -27,7 +24,8 @@ class Fields(NamedTuple):
     padding. `expected` is the number of fields that the metadata has. `is_strict` says that a side without lead-in or
     lead-out, or with an unread number, isn't whole, and `may_end` that it may end without lead-out. If the samples are
     at hand, `nearest_word` finds the nearest words of lines, and `try_levels` what other levels would read.
-    `stop_lead` says how far stops of worn lines are ahead. `given_last` is the number with which the disc is said to end, or the part of a time, as text.
+    `is_ahead` says of a field and its worn line whether a picture stop there is far ahead of any other word.
+    `given_last` is the number with which the disc is said to end, or the part of a time, as text.
     `sequential` is the number of fields by the metadata's videoParameters."""
     system: str
     words: List[Tuple[int, int, int]]
@@ -44,7 +42,7 @@ class Fields(NamedTuple):
     pad: Optional[List[bool]] = None
     given_last: Optional[str] = None
     sequential: Optional[int] = None
-    stop_lead: Optional[StopLead] = None
+    is_ahead: Optional[Callable[[int, int], bool]] = None
 
 
 class Reading(NamedTuple):
