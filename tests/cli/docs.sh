@@ -102,7 +102,7 @@ while read -r name alterations; do
     sed -i "$alterations" "copy/docs/$name.md"
 done << 'END'
 ANSWER s/^- `cause`: as/- `why`: as/; s/, `confirmed`//
-DECISIONS s/`Progress::add_row`/`Progress::added_row`/
+DECISIONS s/`outcome_of`/`outcome_for`/
 FORMATS s/^- line 17: CLV mark$/- line 18: CLV mark/; s/`field width differs`/`field width differ`/
 FORMATS s/else `hold` and that/else `held` and that/; s/#####[.]*######/#####....#####/; s/low byte/high byte/
 MEASURED s/judged 894 right/judged 898 right/
