@@ -105,7 +105,7 @@ ANSWER s/^- `cause`: as/- `why`: as/; s/, `confirmed`//
 DECISIONS s/`outcome_of`/`outcome_for`/
 FORMATS s/^- line 17: CLV mark$/- line 18: CLV mark/; s/`field width differs`/`field width differ`/
 FORMATS s/else `hold` and that/else `held` and that/; s/#####[.]*######/#####....#####/; s/low byte/high byte/
-MEASURED s/judged 894 right/judged 898 right/
+MEASURED s/judged 883 right/judged 898 right/
 PROMISES s/(#not-promised)/(#not-proved)/; s/`fetched`, `written`/`fetched`, `rewritten`/; s/`Said.antt`/`Saids.antt`/
 END
 while read -r count said; do
