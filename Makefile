@@ -280,6 +280,11 @@ channel:
 	sh bench/channel/tables.sh $(firstword $(wildcard $(dir $(PROGRAM))libldvbi.so.$(ABI)) libldvbi.so.$(ABI)) \
 	    docs/measured/channel
 
+# Plants errors into Python's packages, and says which no test sees: in a part of the places (PART=n), in a folder
+# (FOLDER=python/..), or those with these names (AGAIN=name)
+mutants:
+	/usr/bin/python3 tests/mutants.py --jobs $(PROCESSORS) $(PART:%=--part %) $(FOLDER:%=--folder %) $(AGAIN:%=--again %)
+
 clean:
 	rm -rf ldvbi libldvbi.a libldvbi.so libldvbi.so.$(ABI) dist .venv .ci/ran.new
 	rm -rf crates/*/out rust/out rust/crate rust/ldvbi rust/libldvbi.* rust/*-*-*
@@ -290,4 +295,4 @@ toolchain:
 	    echo "make: without it: make rust && make install FROM=rust" >&2; exit 1; }
 
 .PHONY: lib test ran rust rust-compare setup places said-from install install-lib uninstall check wheel venv deb dist
-.PHONY: bench peers channel clean toolchain
+.PHONY: bench peers channel mutants clean toolchain

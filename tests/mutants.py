@@ -1,0 +1,324 @@
+#!/usr/bin/env python3
+"""Plants errors into the Python packages, one at a time, and says which of them no test sees.
+
+What is planted, tests/planted.py says. A plant is tried in a copy of the tree, by the tests that run its line: the
+quickest first, until one fails. Which they are a file in the folder for temporary ones keeps, which is made anew when
+the packages change, and of a test file when that changes.
+
+A plant's name is made of its file, its function and its text; its hash picks the part of about 60 that it belongs to.
+Those that have no effect stand in tests/mutants.txt, with the reasons.
+
+usage: /usr/bin/python3 tests/mutants.py [--part N] [--folder FOLDER] [--again NAME].. [--most N] [--seed TEXT]
+           [--jobs N] [--list]     (once `make rust` or `make lib` has built the library)
+"""
+import argparse
+import collections
+import contextlib
+import hashlib
+import json
+import multiprocessing.connection
+import os
+import pathlib
+import resource
+import shutil
+import signal
+import subprocess
+import sys
+import tempfile
+import time
+
+import coverage
+import hypothesis  # noqa: F401: once, for all that is tried
+import pytest
+
+from planted import planted, plants_of, TOP
+
+RECORD = pathlib.Path(tempfile.gettempdir(), "ldvbi-mutants%s.json" % str(TOP).replace("/", "-"))
+REASONS = TOP / "tests" / "mutants.txt"
+LEFT_ASIDE = "test_archive.py", "test_mutants.py", "test_package.py", "test_page.py"  # they take long, or run no line
+COPIED = "python", "simulated", "tests"  # folders of the copy; it has links to all others
+PARTS = 380  # each of about 60 plants
+FIRST = 40  # tests of a plant, which are run before the others
+MOST = 45  # seconds that the tests of a plant take, and no more are run
+GRACE = 20  # seconds, besides four times those that its tests take, after which a plant is seen, since it hangs
+DOUBTED = 1  # seconds: a test that takes longer has to fail twice
+MEMORY = 3 << 30  # bytes
+NOBODY = 65534  # who runs the tests where root would: a plant may end processes, or remove files
+
+
+# ---- Which tests run a line
+
+def digest(*patterns):
+    paths = sorted(path for pattern in patterns for path in TOP.glob(pattern) if path.is_file())
+    return hashlib.sha256(b"".join(str(path).encode() + path.read_bytes() for path in paths)).hexdigest()
+
+
+class Recorder:
+    """A plugin of pytest by which coverage knows the test that runs, also in the processes that it starts."""
+
+    @pytest.hookimpl(hookwrapper=True)
+    def pytest_runtest_protocol(self, item):
+        os.environ["MUTANTS_TEST"] = item.nodeid
+        coverage.Coverage.current().switch_context(item.nodeid)
+        yield
+
+    def pytest_runtest_logreport(self, report):
+        with open(os.environ["MUTANTS_TIMES"], "a", encoding="utf-8") as file:
+            print(json.dumps([report.nodeid, report.duration, report.passed]), file=file)
+
+
+def pytest_configure(config):
+    if "MUTANTS_TIMES" in os.environ and hasattr(config, "workerinput"):
+        config.pluginmanager.register(Recorder())
+
+
+def known_tests(jobs):
+    """Of each test its seconds and the lines that it runs, as {test: [seconds, {file: lines}]}."""
+    names = sorted(path.name for path in (TOP / "tests" / "unit").glob("test_*.py"))
+    names = {name: digest("tests/unit/" + name) for name in names if name not in LEFT_ASIDE}
+    base = digest("python/**/*.py", "simulated/*.py", "tests/unit/[!t]*.*")
+    known = json.loads(RECORD.read_text()) if RECORD.exists() else {}
+    if known.get("base") != base:
+        known = {"base": base, "files": {}, "tests": {}}
+    new = [name for name in names if known["files"].get(name) != names[name]]
+    if new:
+        with room() as folder:
+            for name in new:
+                known["tests"] = {test: one for test, one in known["tests"].items() if test.split("::")[0] != name}
+                known["tests"].update(recorded(folder, name, jobs))
+                known["files"][name] = names[name]
+                RECORD.write_text(json.dumps(known))
+    return {test: one for test, one in known["tests"].items() if test.split("::")[0] in names}
+
+
+def recorded(folder, name, jobs):
+    """The same of the tests of a file that pass, and aren't too slow to have their lines recorded."""
+    site = folder / "site"
+    shutil.rmtree(site, ignore_errors=True)
+    site.mkdir()
+    site.chmod(0o777)
+    (site / "sitecustomize.py").write_text("import coverage; coverage.process_startup()")
+    (site / "rc").write_text("[run]\nsource = %s/python\nparallel = true\ndata_file = %s/lines\ncontext = "
+                             "${MUTANTS_TEST-}\ndisable_warnings = no-data-collected\n" % (folder, site))
+    more = {"COVERAGE_PROCESS_START": str(site / "rc"), "MUTANTS_TIMES": str(site / "times"),
+            "PYTHONPATH": "%s/python:%s/simulated:%s:%s/tests" % (folder, folder, site, folder)}
+    subprocess.run([sys.executable, "-m", "pytest", "-n", str(jobs), "-p", "mutants", "-m", "not unrecorded", "-q",
+                    "--basetemp", folder / "out", name], cwd=folder / "tests" / "unit", env={**os.environ, **more},
+                   preexec_fn=lambda: confine(folder), stdout=subprocess.DEVNULL, check=False)
+    tests, failed = {}, set()
+    rows = (site / "times").read_text("utf-8").splitlines() if (site / "times").exists() else []
+    for test, seconds, passed in map(json.loads, rows):
+        tests.setdefault(test, [0, {}])[0] += seconds
+        failed |= set() if passed else {test}
+    if rows:
+        lines = coverage.Coverage(config_file=str(site / "rc"))
+        lines.combine([str(site)])
+        for path in lines.get_data().measured_files():
+            for line, contexts in lines.get_data().contexts_by_lineno(path).items():
+                for context in set(contexts) & set(tests):
+                    tests[context][1].setdefault(os.path.relpath(path, folder), []).append(line)
+    print("%s: %d tests, of which %d fail or are left out without a plant" % (name, len(tests), len(failed)),
+          file=sys.stderr)
+    return {test: one for test, one in tests.items() if test not in failed}
+
+
+# ---- A plant is tried
+
+@contextlib.contextmanager
+def room():
+    """A copy of the tree, which is another user's if root asks."""
+    with tempfile.TemporaryDirectory(prefix="ldvbi-mutants-") as name:
+        folder = pathlib.Path(os.path.realpath(name))
+        for path in TOP.iterdir():
+            if path.name in COPIED:
+                shutil.copytree(path, folder / path.name, ignore=shutil.ignore_patterns("__pycache__"))
+            elif path.name != ".git":
+                (folder / path.name).symlink_to(path)
+        if os.getuid() == 0:
+            for place, _, names in os.walk(folder):
+                for one in (place, *(os.path.join(place, name) for name in names)):
+                    os.chown(one, NOBODY, NOBODY, follow_symlinks=False)
+        subprocess.run([sys.executable, "-m", "pytest", "-q", "--collect-only"], cwd=folder / "tests" / "unit",
+                       preexec_fn=lambda: confine(folder), stdout=subprocess.DEVNULL, check=False)  # all is compiled
+        yield folder
+
+
+def confine(folder):
+    """Has this process be one of its own group, without rights, and with bounded memory."""
+    os.setsid()
+    os.environ.update(HOME=str(folder), TMPDIR=str(folder / "tests"))
+    tempfile.tempdir = str(folder / "tests")
+    resource.setrlimit(resource.RLIMIT_DATA, (MEMORY, MEMORY))
+    if os.getuid() == 0:
+        os.setgroups([])
+        os.setgid(NOBODY)
+        os.setuid(NOBODY)
+
+
+class Chosen:
+    """A plugin of pytest that runs these tests alone, in this order."""
+
+    def __init__(self, tests, path):
+        self._ranks, self._path = {test: rank for rank, test in enumerate(tests)}, path
+
+    @pytest.hookimpl(trylast=True)
+    def pytest_collection_modifyitems(self, items):
+        items[:] = sorted((one for one in items if one.nodeid in self._ranks), key=lambda one: self._ranks[one.nodeid])
+
+    def pytest_runtest_logreport(self, report):
+        if report.failed:
+            self._path.write_text(report.nodeid)
+
+
+def failing(folder, tests, seconds):
+    """The first of these tests that fails in the copy, "time" if they hang, "all" if they can't begin; or None."""
+    failed = folder / "tests" / "unit" / "failed"
+    failed.unlink(missing_ok=True)
+    process = os.fork()
+    if process == 0:
+        status = 255
+        try:
+            confine(folder)
+            os.chdir(folder / "tests" / "unit")
+            for number in (1, 2):
+                os.dup2(os.open("said", os.O_WRONLY | os.O_CREAT | os.O_TRUNC), number)
+            files = sorted({test.split("::")[0] for test in tests})
+            status = pytest.main(["-x", "-q", "--basetemp", str(folder / "out"), *files], [Chosen(tests, failed)])
+        finally:
+            os._exit(status)
+    end = time.monotonic() + GRACE + 4 * seconds
+    while not (ended := os.waitid(os.P_PID, process, os.WEXITED | os.WNOHANG | os.WNOWAIT)) and time.monotonic() < end:
+        time.sleep(0.01)
+    with contextlib.suppress(ProcessLookupError):
+        os.killpg(process, signal.SIGKILL)
+    status = os.waitstatus_to_exitcode(os.waitpid(process, 0)[1])
+    if status in (pytest.ExitCode.OK, pytest.ExitCode.NO_TESTS_COLLECTED):
+        return None
+    return "time" if not ended else failed.read_text() if failed.exists() else "all"
+
+
+def tried(folder, plant, tests):
+    """The test that sees a plant in the copy, if one does."""
+    path, (seconds, found) = folder / plant.file, (0, None)
+    old, times = path.read_text("utf-8"), path.stat()
+    path.write_text(planted(plant), "utf-8")
+    os.utime(path, (0, 0))  # so that it isn't taken for what is compiled
+    for some in filter(None, (tests[:FIRST], tests[FIRST:])):
+        seconds = sum(one for _, one in some)
+        found = failing(folder, [test for test, _ in some], seconds)
+        slow = [(test, one) for test, one in some if test == found and one > DOUBTED]
+        if slow and not failing(folder, [found], slow[0][1]):
+            rest = some[some.index(slow[0]) + 1:]
+            found = failing(folder, [test for test, _ in rest], seconds) if rest else None
+        if found:
+            break
+    path.write_text(old, "utf-8")
+    os.utime(path, ns=(times.st_atime_ns, times.st_mtime_ns))
+    return found
+
+
+def work(folder, jobs, connection):
+    sys.dont_write_bytecode = True
+    os.environ["PYTHONDONTWRITEBYTECODE"] = "1"
+    for plant, tests in jobs:
+        connection.send((plant, tried(folder, plant, tests)))
+    connection.close()
+
+
+def side_by_side(jobs, count):
+    """Each plant with the test that sees it, from so many processes."""
+    context = multiprocessing.get_context("fork")
+    with contextlib.ExitStack() as rooms:
+        left = []
+        for number in range(min(count, len(jobs))):
+            ours, theirs = context.Pipe(False)
+            process = context.Process(target=work, args=(rooms.enter_context(room()), jobs[number::count], theirs))
+            process.start()
+            rooms.callback(process.terminate)
+            theirs.close()
+            left.append(ours)
+        while left:
+            for one in multiprocessing.connection.wait(left):
+                try:
+                    yield one.recv()
+                except EOFError:
+                    left.remove(one)
+
+
+def tests_of(plant, known):
+    """Those that run its line, the quickest first, with their seconds; as many as there is time for."""
+    found = sorted((seconds, test) for test, (seconds, lines) in known.items()
+                   if any(plant.first <= line <= plant.last for line in lines.get(plant.file, ())))
+    rows, total = [], 0
+    for seconds, test in found:
+        total += seconds
+        if total > MOST and rows:
+            break
+        rows.append((test, seconds))
+    return rows
+
+
+def reasons():
+    """The beginnings of names of plants that have no effect; the line after each, set in, says why."""
+    lines = REASONS.read_text("utf-8").splitlines()
+    return tuple(line for line in lines if line and line[0] not in "# ")
+
+
+def chosen(words, plants):
+    """The plants that are asked for."""
+    if words.again:
+        return [one for one in plants if one.key in words.again]
+    found = [one for one in plants if one.file.startswith(words.folder.rstrip("/") + "/")]
+    if words.part is not None:
+        found = [one for one in found if int(one.key, 16) % PARTS == words.part % PARTS]
+    ranks = {one: hashlib.sha256((words.seed + one.name).encode()).digest() for one in found}
+    return sorted(found, key=ranks.__getitem__)[:words.most]
+
+
+def main():
+    signal.signal(signal.SIGTERM, lambda *_: sys.exit(1))
+    parser = argparse.ArgumentParser(description=__doc__, formatter_class=argparse.RawDescriptionHelpFormatter)
+    parser.add_argument("--part", type=int)
+    parser.add_argument("--folder", default="python")
+    parser.add_argument("--again", action="append", metavar="NAME")
+    parser.add_argument("--most", type=int)
+    parser.add_argument("--seed", default="1")
+    parser.add_argument("--jobs", type=int, default=os.cpu_count())
+    parser.add_argument("--list", action="store_true")
+    words = parser.parse_args()
+    files = sorted(str(path.relative_to(TOP)) for path in (TOP / "python").rglob("*.py"))
+    plants = [plant for file in files for plant in plants_of(file)]
+    known_reasons = reasons()
+    stale = [one for one in known_reasons if not any(plant.name.startswith(one) for plant in plants)]
+    asked = chosen(words, plants)
+    if words.list:
+        print("\n".join("%s %s" % (one.key, one.name) for one in asked))
+        return 0
+    counts = collections.defaultdict(collections.Counter)
+    without = [one for one in asked if one.name.startswith(known_reasons)]
+    for one in without:
+        counts[one.file]["without effect"] += 1
+    known = known_tests(words.jobs)
+    jobs = [(one, tests_of(one, known)) for one in asked if one not in without]
+    for plant, found in side_by_side(jobs, words.jobs):
+        counts[plant.file]["seen" if found else "not seen"] += 1
+        print("%s %s %s%s" % ("seen" if found else "NOT SEEN", plant.key, plant.name, found and " (by %s)" % found or ""),
+              flush=True)
+    return say(counts, stale)
+
+
+def say(counts, stale):
+    """Prints the table, of folders and of all files; returns the status."""
+    for file in list(counts):
+        counts[os.path.dirname(file) + "/"].update(counts[file])
+    print("| File | Planted | Seen | Not seen | Without effect |\n|---|---|---|---|---|")
+    for file, one in sorted(counts.items()):
+        print("| %s | %d | %d | %d | %d |" % (file, sum(one.values()), one["seen"], one["not seen"],
+                                              one["without effect"]))
+    for one in stale:
+        print("tests/mutants.txt: no plant begins so: %s" % one)
+    return 1 if stale or any(one["not seen"] for one in counts.values()) else 0
+
+
+if __name__ == "__main__":
+    sys.exit(main())
