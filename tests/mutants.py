@@ -26,6 +26,7 @@ import subprocess
 import sys
 import tempfile
 import time
+import types
 
 import coverage
 import hypothesis  # noqa: F401: once, for all that is tried
@@ -40,7 +41,8 @@ COPIED = "python", "simulated", "tests"  # folders of the copy; it has links to 
 PARTS = 380  # each of about 60 plants
 FIRST = 40  # tests of a plant, which are run before the others
 MOST = 45  # seconds that the tests of a plant take, and no more are run
-GRACE = 20  # seconds, besides four times those that its tests take, after which a plant is seen, since it hangs
+GRACE = 20  # seconds of a processor, besides four times those of its tests, after which a plant is seen, since it hangs
+WAITING = 4  # times as long may pass, for the machine may be busy
 DOUBTED = 1  # seconds: a test that takes longer has to fail twice
 MEMORY = 3 << 30  # bytes
 NOBODY = 65534  # who runs the tests where root would: a plant may end processes, or remove files
@@ -60,11 +62,16 @@ class Recorder:
     def pytest_runtest_protocol(self, item):
         os.environ["MUTANTS_TEST"] = item.nodeid
         coverage.Coverage.current().switch_context(item.nodeid)
+        begun = sum(os.times()[:4])  # of a processor: the machine may be busy
         yield
+        self._note(item.nodeid, sum(os.times()[:4]) - begun, True)
 
     def pytest_runtest_logreport(self, report):
+        self._note(report.nodeid, 0, report.passed)
+
+    def _note(self, *row):
         with open(os.environ["MUTANTS_TIMES"], "a", encoding="utf-8") as file:
-            print(json.dumps([report.nodeid, report.duration, report.passed]), file=file)
+            print(json.dumps(row), file=file)
 
 
 def pytest_configure(config):
@@ -143,9 +150,10 @@ def room():
         yield folder
 
 
-def confine(folder):
-    """Has this process be one of its own group, without rights, and with bounded memory."""
+def confine(folder, seconds=3600):
+    """Has this process be one of its own group, without rights, and with bounded memory and seconds."""
     os.setsid()
+    resource.setrlimit(resource.RLIMIT_CPU, (seconds, seconds))
     os.environ.update(HOME=str(folder), TMPDIR=str(folder / "tests"))
     tempfile.tempdir = str(folder / "tests")
     resource.setrlimit(resource.RLIMIT_DATA, (MEMORY, MEMORY))
@@ -172,13 +180,14 @@ class Chosen:
 
 def failing(folder, tests, seconds):
     """The first of these tests that fails in the copy, "time" if they hang, "all" if they can't begin; or None."""
-    failed = folder / "tests" / "unit" / "failed"
+    failed, most = folder / "tests" / "unit" / "failed", int(GRACE + 4 * seconds)
     failed.unlink(missing_ok=True)
     process = os.fork()
     if process == 0:
         status = 255
         try:
-            confine(folder)
+            confine(folder, most)
+            sys.modules["__main__"] = types.ModuleType("__main__")  # processes that tests start would read in this one
             os.chdir(folder / "tests" / "unit")
             for number in (1, 2):
                 os.dup2(os.open("said", os.O_WRONLY | os.O_CREAT | os.O_TRUNC), number)
@@ -186,15 +195,15 @@ def failing(folder, tests, seconds):
             status = pytest.main(["-x", "-q", "--basetemp", str(folder / "out"), *files], [Chosen(tests, failed)])
         finally:
             os._exit(status)
-    end = time.monotonic() + GRACE + 4 * seconds
-    while not (ended := os.waitid(os.P_PID, process, os.WEXITED | os.WNOHANG | os.WNOWAIT)) and time.monotonic() < end:
+    end = time.monotonic() + WAITING * most
+    while not os.waitid(os.P_PID, process, os.WEXITED | os.WNOHANG | os.WNOWAIT) and time.monotonic() < end:
         time.sleep(0.01)
     with contextlib.suppress(ProcessLookupError):
         os.killpg(process, signal.SIGKILL)
     status = os.waitstatus_to_exitcode(os.waitpid(process, 0)[1])
     if status in (pytest.ExitCode.OK, pytest.ExitCode.NO_TESTS_COLLECTED):
         return None
-    return "time" if not ended else failed.read_text() if failed.exists() else "all"
+    return failed.read_text() if failed.exists() else "time" if status < 0 else "all"
 
 
 def tried(folder, plant, tests):
@@ -259,9 +268,8 @@ def tests_of(plant, known):
 
 
 def reasons():
-    """The beginnings of names of plants that have no effect; the line after each, set in, says why."""
-    lines = REASONS.read_text("utf-8").splitlines()
-    return tuple(line for line in lines if line and line[0] not in "# ")
+    """The names of plants that have no effect; the line after each, set in, says why."""
+    return [line for line in REASONS.read_text("utf-8").splitlines() if line and line[0] not in "# "]
 
 
 def chosen(words, plants):
@@ -289,21 +297,20 @@ def main():
     files = sorted(str(path.relative_to(TOP)) for path in (TOP / "python").rglob("*.py"))
     plants = [plant for file in files for plant in plants_of(file)]
     known_reasons = reasons()
-    stale = [one for one in known_reasons if not any(plant.name.startswith(one) for plant in plants)]
+    stale = [one for one in known_reasons if one not in {plant.name for plant in plants}]
     asked = chosen(words, plants)
     if words.list:
         print("\n".join("%s %s" % (one.key, one.name) for one in asked))
         return 0
     counts = collections.defaultdict(collections.Counter)
-    without = [one for one in asked if one.name.startswith(known_reasons)]
+    without = [one for one in asked if one.name in known_reasons]
     for one in without:
         counts[one.file]["without effect"] += 1
     known = known_tests(words.jobs)
     jobs = [(one, tests_of(one, known)) for one in asked if one not in without]
     for plant, found in side_by_side(jobs, words.jobs):
         counts[plant.file]["seen" if found else "not seen"] += 1
-        print("%s %s %s%s" % ("seen" if found else "NOT SEEN", plant.key, plant.name, found and " (by %s)" % found or ""),
-              flush=True)
+        print("seen" if found else "NOT SEEN", plant.key, plant.name, "(by %s)" % found if found else "", flush=True)
     return say(counts, stale)
 
 
@@ -316,7 +323,7 @@ def say(counts, stale):
         print("| %s | %d | %d | %d | %d |" % (file, sum(one.values()), one["seen"], one["not seen"],
                                               one["without effect"]))
     for one in stale:
-        print("tests/mutants.txt: no plant begins so: %s" % one)
+        print("tests/mutants.txt: no plant has the name %s" % one)
     return 1 if stale or any(one["not seen"] for one in counts.values()) else 0
 
 

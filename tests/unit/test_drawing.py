@@ -166,6 +166,7 @@ DRAWN = """
     NTSC m59x20 m60x28 | @number-label 140 432 0:59; 140 312 1:00 | @run 1-48 4 160 428 1100 308 | doubt
     MANY 9601.16=? | @line-16 1-9600 150-630 blank 28; 9601-9620 630-631 noise 1; 9601-9620 630-631 blank 27;
       9621-19200 631-1110 blank 28 | +line-16 line 16, fields 9601 to 9620: noise in 5 % of these fields
+      | +line-16 line 16, fields 9601 to 9620: blank in 95 % of these fields
     MANY 95:19200/192=B 10083=B | #unread 100 | +@unread 10078-10084 654-656
     MANY 9601=B 9605=B 9609=B
       | @run 1-9599 481 150 488 630 368; 9603-9603 1 630 368 630 368; 9611-19199 481 630 368 1110 248

@@ -47,6 +47,7 @@ REFUSED = """
     join side.tbc side.vbi.json --system NTSC --black=60000 --white=60001 | side.tbc has no numbers to join
     side.tbc LEVELS --document -o side.tbc | =side.tbc || other.tbc --meta rows.db --into rows.db-wal | =rows.db-wal
     other.tbc -o other.tbc.json | =other.tbc.json || other.tbc --meta rows.db --into rows.db-journal | =rows.db-journal
+    other.tbc --meta rows.db --into rows.db-shm | =rows.db-shm
     other.tbc --into other.tbc | =other.tbc || other.tbc --meta rows.db --into rows.db | =rows.db
 """
 # What stands for parts of that

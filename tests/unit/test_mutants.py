@@ -52,7 +52,7 @@ def test_a_plant_of_each_kind():
             (top / name).mkdir(parents=True)
         for name in ("mutants.py", "planted.py"):
             shutil.copy(os.path.join(TOP, "tests", name), top / "tests")
-        (top / "tests" / "mutants.txt").write_text("# comment\n" + SWAPPED % "unseen" + "\n    a reason\ngone\n    why\n")
+        (top / "tests" / "mutants.txt").write_text("# A list\n%s\n    a reason\ngone\n    why\n" % SWAPPED % "unseen")
         (top / "tests" / "unit" / "test_both.py").write_text(TESTS)
         (top / "tests" / "unit" / "conftest.py").write_text(CONFTEST)
         for name in ("seen", "unseen"):
@@ -68,5 +68,5 @@ def test_a_plant_of_each_kind():
             "| python/ | %d | %d | %d | 1 |" % (2 * PLANTS, PLANTS, PLANTS - 1),
             "| python/seen.py | %d | %d | 0 | 0 |" % (PLANTS, PLANTS),
             "| python/unseen.py | %d | 0 | %d | 1 |" % (PLANTS, PLANTS - 1),
-            "tests/mutants.txt: no plant begins so: gone"]
+            "tests/mutants.txt: no plant has the name gone"]
         assert ran.returncode == 1
