@@ -1,5 +1,5 @@
 /* A player. It does each command in turn, and prints the field that it shows then, from 1, and its picture. `search N`
- * or `search H:MM:SS.PP` goes to a picture; if the capture lacks it, to the next one of a hundred. `chapter N`, `next`
+ * or `search H:MM:SS.PP` goes to a picture; if the capture lacks it, to the nearest one beside it. `chapter N`, `next`
  * and `previous` go to where a chapter begins, `play` to the next stop, and `still` stays. All but `play` fetch a few
  * MB: so numbers and chapters have to rise, and on a worn side one may be missed. System and levels are the first rows
  * of a map (ldvbi-side --map). Status 1: something wasn't found; 2: standard error says what is wrong. It is C++, too.
@@ -64,25 +64,25 @@ static size_t seek_chapter(const Side *side, uint32_t chapter) {
     check(ldvbi_seek_chapter(side->system, side->black, side->white, side->bytes, side->length, chapter, &at));
     return at.field;
 }
-static size_t go_on(const Side *side, size_t field, int step) { /* to the next chapter of the side, or the one before */
+static size_t chapter_from(const Side *side, int at, int step) { /* the first one from this one on that is found */
     size_t found = side->fields;
-    for (int at = chapter_of(side, field) + step; 0 <= at && at < 80 && found == side->fields; at += step)
-        found = seek_chapter(side, (uint32_t)at);
+    for (; 0 <= at && at < 80 && found == side->fields; at += step) found = seek_chapter(side, (uint32_t)at);
     return found;
 }
-static size_t search(const Side *side, int is_chapter, const char *place, uint32_t *lacked) {
+static size_t search(const Side *side, int is_chapter, const char *place, uint32_t *is_lacking) {
     uint32_t n[4] = {0, 0, 0, 0}, counted = LDVBI_PICTURES, rate = side->system == LDVBI_NTSC ? 30 : 25;
     int parts = place[strspn(place, "0123456789:.")] ? 0 : sscanf(place, "%5u:%2u:%2u.%2u", n, n + 1, n + 2, n + 3);
     require(parts == 1 ? !is_chapter || n[0] < 80 : parts == 4 && !is_chapter && n[1] < 60 && n[2] < 60 &&
             n[3] < rate, "no picture, no time, and no chapter");
     if (parts == 4) counted = LDVBI_TIMES, n[0] = ((n[0] * 60 + n[1]) * 60 + n[2]) * rate + n[3];
+    if (is_chapter) return *is_lacking = seek_chapter(side, n[0]) == side->fields, chapter_from(side, (int)n[0], 1);
     LdvbiSought sought;
-    sought.field = side->fields;
-    while (sought.field == side->fields && *lacked < (is_chapter ? 80 - n[0] : 100)) /* they fetch few fields more */
-        if (is_chapter) sought.field = seek_chapter(side, n[0] + (*lacked)++);
-        else check(ldvbi_seek(side->system, side->black, side->white, counted, LDVBI_FIND_PACE, side->bytes,
-                              side->length, n[0] + (*lacked)++, &sought));
-    return --*lacked, sought.field;
+    check(ldvbi_seek(side->system, side->black, side->white, counted, LDVBI_FIND_PACE, side->bytes, side->length, n[0],
+                     &sought));
+    if (!(*is_lacking = sought.field == side->fields)) return sought.field;
+    LdvbiNeighbour low = sought.before, high = sought.after; /* what to show in its place: the nearer one, if any */
+    return high.field == side->fields || (low.field < side->fields &&
+           n[0] - low.number.number <= high.number.number - n[0]) ? low.field : high.field;
 }
 static size_t stop_from(const Side *side, size_t field, size_t most) {
     LdvbiPlace at;
@@ -100,17 +100,17 @@ static size_t next_stop(const Side *side, size_t field) { /* the first one, if a
 int main(int count, char **words) {
     require(count > 3, "usage: player FILE MAP search PLACE|chapter N|next|previous|play|still ..");
     Side side = open_side(words[1], words[2]);
-    uint32_t picture, lacked, is_missed = 0;
+    uint32_t picture, is_lacking, is_missed = 0;
     size_t shown = 0, field;
     for (char **word = words + 3; *word; word++) {
-        const char *name = (lacked = 0, *word);
+        const char *name = (is_lacking = 0, *word);
         if (strcmp(name, "search") == 0 || strcmp(name, "chapter") == 0)
-            field = search(&side, *name == 'c', word[1] ? *++word : "-", &lacked);
+            field = search(&side, *name == 'c', word[1] ? *++word : "-", &is_lacking);
         else if (strcmp(name, "next") == 0 || strcmp(name, "previous") == 0)
-            field = go_on(&side, shown, *name == 'n' ? 1 : -1);
+            field = chapter_from(&side, chapter_of(&side, shown) + (*name == 'n' ? 1 : -1), *name == 'n' ? 1 : -1);
         else if (strcmp(name, "play") == 0) field = next_stop(&side, shown);
         else require(strcmp(name, "still") == 0, "no such command"), field = shown;
-        uint32_t is_lacking = lacked > 0 || field == side.fields;
+        is_lacking |= field == side.fields;
         printf("%s:%s", name, is_lacking ? " not found" : "");
         if (field < side.fields) printf("%s field %zu", is_lacking ? "," : "", (shown = field) + 1);
         if (field < side.fields && has_picture(&side, field, &picture)) printf(" picture %u", picture);

@@ -1,6 +1,6 @@
 #!/usr/bin/env python3
 """A player. It does each command in turn, and prints the field that it shows then, from 1, and its picture. `search N`
-or `search H:MM:SS.PP` goes to a picture; if the capture lacks it, to the next one of a hundred. `chapter N`, `next` and
+or `search H:MM:SS.PP` goes to a picture; if the capture lacks it, to the nearest one beside it. `chapter N`, `next` and
 `previous` go to where a chapter begins, `play` to the next stop, and `still` stays. All but `play` find their way by
 halving and fetch a few MB. So numbers and chapters have to rise, and on a worn side one may be missed. System and
 levels are those of the metadata beside the file. Status 1: something wasn't found; 2: something can't be read, and
@@ -62,11 +62,12 @@ def search(side, text):
     if time:
         hours, minutes, seconds, picture = map(int, time.groups())
         number = ((hours * 60 + minutes) * 60 + seconds) * rate + picture
-    for lacked in range(100):  # all after the first fetch few fields more
-        sought = ldvbi.seek(side, number + lacked, counted)
-        if sought is not None:
-            return sought.field, not lacked
-    return None, False
+    sought = ldvbi.seek(side, number, counted)
+    if sought is not None:
+        return sought.field, True
+    beside = filter(None, ldvbi.neighbours(side, number, counted))
+    nearest = min(beside, key=lambda one: abs(one.number - number), default=None)
+    return nearest and nearest.field, False
 
 
 def play(side, place):

@@ -137,8 +137,9 @@ while IFS='|' read -r ended words played said; do
 done << END
 0|side.tbc search 30 play search 7 play still chapter 0|search: field 65 picture 30\nplay: field 97 picture 46\n\
 search: field 21 picture 7\nplay: field 33 picture 17\nstill: field 33 picture 17\nchapter: field 10\n|
-1|side.tbc search 10 search 79999 chapter 1 next next previous chapter 3|search: not found, field 27 picture 14\n\
-search: not found\nchapter: field 36\nnext: field 78\nnext: not found\nprevious: field 36\nchapter: not found\n|
+1|side.tbc search 10 search 79999 chapter 1 next next previous chapter 3|search: not found, field 25 picture 9\n\
+search: not found, field 109 picture 52\nchapter: field 36\nnext: field 78\nnext: not found\n\
+previous: field 36\nchapter: not found\n|
 1|twice.tbc play play play|play: field 5 picture 3\nplay: field 7 picture 4\nplay: not found\n|
 2|side.tbc search||usage: player FILE search PLACE, chapter N, next, previous, play, still ..
 2|side.tbc search 1:2||neither a picture nor a time: 1:2

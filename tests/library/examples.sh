@@ -118,8 +118,8 @@ $stops|0|field 5 picture 3;1 stops|stops_5_1|@|$cut 6 has 1 of 478660 bytes
 $stops|2||folder|@|*
 $stops|2||cav|@ cav.tbc|*
 $player|1|search: field 65 picture 30;play: field 97 picture 46;search: field 21 picture 7;play: field 33 picture 17\
-;still: field 33 picture 17;search: not found;still: field 33 picture 17\
-;search: not found, field 27 picture 14|side|@ search 30 play search 7 play still search 79999 still search 10|
+;still: field 33 picture 17;search: not found, field 109 picture 52;still: field 109 picture 52\
+;search: not found, field 25 picture 9|side|@ search 30 play search 7 play still search 79999 still search 10|
 $player|1|chapter: field 36;next: field 78;next: not found;previous: field 36;previous: field 10;chapter: not found\
 |side|@ chapter 1 next next previous previous chapter 3|
 $player|1|search: field 7 picture 4;play: field 8;play: field 9 picture 5;play: not found|stops\

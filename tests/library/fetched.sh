@@ -18,7 +18,7 @@ bounded $cxx -x c++ -std=c++17 $strict -o player_cpp "$top/examples/player.c" $l
 settles great $on_cav
 bounded python3 "$here/great.py" draw great.tbc
 bounded python3 "$here/great.py" answers great.tbc > answers
-check 'the whole side is judged' [ "$(wc -l < answers)" = 7 ]
+check 'the whole side is judged' [ "$(wc -l < answers)" = 8 ]
 players="./player|great.map;./player_cpp|great.map;python3 $top/examples/player.py|"
 if [ "$built" = "$top/rust" ]; then
     cp -r "$top/examples/rust" project
@@ -28,7 +28,7 @@ if [ "$built" = "$top/rust" ]; then
     check 'the player in Rust is built' does sh -c 'cd project && cargo build --quiet'
     players="$players;$CARGO_TARGET_DIR/debug/player|"
 else
-    leave_out 15
+    leave_out 17
 fi
 
 # fetches NAME STATUS COMMAND..: checks that a command ends so, writes what is in `wanted`, and fetches 1 to 12 MB

@@ -62,7 +62,7 @@ def answers(path):
         return "%s:%s field %d%s" % (command, how, place + 1, shown)
 
     def search(number):
-        found = min(one for one in known if one >= number)
+        found = min(known, key=lambda one: (abs(one - number), one))
         return said("search", ldvbi.first_of(pictures, found), "" if found == number else " not found,")
 
     def chapter(number, command="chapter"):
@@ -71,7 +71,8 @@ def answers(path):
     begin = ldvbi.first_of(pictures, 12000)
     print("search 12345", search(12345), sep="|")
     print("search 30005", search(30005), sep="|")
-    print("search 60000", "search: not found", sep="|")
+    print("search 30009", search(30009), sep="|")
+    print("search 60000", search(60000), sep="|")
     print("chapter 5", chapter(5), sep="|")
     print("search 12000 play", search(12000), said("play", next(one for one in stops if one > begin)), sep="|")
     print("search 12345 next", search(12345), chapter(12345 // 1500 + 1, "next"), sep="|")

@@ -1,11 +1,11 @@
 //! A player. It does each command in turn, and prints the field that it shows then, from 1, and its picture.
-//! `search N` or `search H:MM:SS.PP` goes to a picture; if the capture lacks it, to the next one of a hundred.
+//! `search N` or `search H:MM:SS.PP` goes to a picture; if the capture lacks it, to the nearest one beside it.
 //! `chapter N`, `next` and `previous` go to where a chapter begins, `play` to the next stop, and `still` stays. All but
 //! `play` find their way by halving and fetch a few MB. So numbers and chapters have to rise, and on a worn side one
 //! may be missed. System and levels are those of the metadata beside the file. Status 1: something wasn't found; 2:
 //! something can't be read.
 //!     cargo run -- side.tbc search 12345 play chapter 3 next search 0:59:29.07
-use ldvbi::{Counted, Field, Place, Side};
+use ldvbi::{Counted, Field, Place, Side, System};
 use std::{error::Error, io, io::Write, process::ExitCode};
 
 fn place_of(text: &str) -> Result<Place, String> {
@@ -18,6 +18,22 @@ fn place_of(text: &str) -> Result<Place, String> {
 
 fn picture_of(side: &Side, index: usize) -> Option<u32> {
     side.number(Counted::Pictures, index)?.known()
+}
+
+/// Where a picture or a time is, and that it is there; or else what to show in its place: the nearest one beside it.
+fn search(side: &Side, place: Place) -> Option<(Field, u32)> {
+    if let Some(field) = side.seek(place) {
+        return Some((field, 0));
+    }
+    let rate = if side.system() == System::Ntsc { 30 } else { 25 };
+    let number = match place {
+        Place::Picture(picture) => picture,
+        Place::Time(hours, minutes, seconds, picture) => ((hours * 60 + minutes) * 60 + seconds) * rate + picture,
+        _ => return None,
+    };
+    let beside = side.beside(place)?;
+    let near = [beside.before, beside.after].into_iter().flatten().min_by_key(|one| one.number.abs_diff(number))?;
+    Some((side.field(near.field)?, near.number.abs_diff(number)))
 }
 
 /// The next stop. If all fields of a picture have its stop, the first one counts.
@@ -39,7 +55,7 @@ fn run() -> Result<ExitCode, Box<dyn Error>> {
     while let Ok(command) = word() {
         let alone = |field| (field, 0);
         let found = match command.as_str() {
-            "search" => side.seek_on(place_of(&word()?)?, 99),
+            "search" => search(&side, place_of(&word()?)?),
             "chapter" => side.seek_on(Place::Chapter(word()?.parse()?), 80),
             "next" => side.next_chapter(at).map(alone),
             "previous" => side.previous_chapter(at).map(alone),
