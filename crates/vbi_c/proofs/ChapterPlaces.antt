@@ -1,11 +1,11 @@
 -- The field in which a chapter begins, by the answers of the fields around it.
-use Rattle.std.proofs.Common.{◌≡◌, ℕ, ◌+◌, ◌-◌, ◌<◌, ◌≤◌, List, length, map, ap, sym, subst, ◌∙◌, arith, inl, inr}
+use Rattle.std.proofs.Common.{◌≡◌, ℕ, ◌+◌, ◌-◌, ◌<◌, ◌≤◌, List, map, ap, sym, subst, ◌∙◌, arith, inl, inr}
 use Rattle.std.proofs.Common.{add-one, refl, zero-add}
-use Rattle.std.specs.Prelude.{◌==◌, ◌⊎◌, ◌↔◌, Bool, true, false, Some, None, get_or, slice_get, min}
+use Rattle.std.specs.Prelude.{◌==◌, ◌⊎◌, ◌↔◌, Some, None, get_or, slice_get, min}
 use Rattle.std.specs.List.{range_with_len}
 use Rattle.std.proofs.lemmas.Bool.Decides.{leb_tells}
 use Rattle.std.proofs.lemmas.List.FromFn.{get_or-map-range_with_len, length-map-range_with_len}
-use Rattle.std.proofs.lemmas.Option.{slice_get_past, slice_get_within, slice_get-get_or, get_or_from_slice_get}
+use Rattle.std.proofs.lemmas.Option.{slice_get_past, slice_get-get_or}
 use Rattle.vbi_side.specs.declared.number.Number.{Number}
 use Rattle.vbi_side.specs.declared.sighting.Sightings.{Sightings}
 use Rattle.vbi_side.specs.Beliefs.{reach, field_weight}
@@ -14,10 +14,12 @@ use Rattle.vbi_side.specs.Numbers.{believed, IsMarked}
 use Rattle.vbi_side.specs.Truth.{IsNear}
 use Rattle.vbi_side.proofs.ChapterAnswers.{answer_believed, one_answer}
 use Rattle.vbi_side.proofs.ChapterParts.{chapter_in_part}
+use Rattle.vbi_side.proofs.Filling.{shown_within}
 use Rattle.vbi_c.specs.declared.chapter_seeking.Window.{Window}
 use Rattle.vbi_c.specs.declared.side_bytes.SideBytes.{SideBytes}
 use Rattle.vbi_c.specs.ChapterSeeking.{chapters_at, side_from, said_below, HasChapter, Begins, BeginsAmong}
 use Rattle.vbi_c.specs.ChapterSeeking.{AreSeenBefore, IsWindowOf, before_most}
+use Rattle.vbi_c.specs.ChapterLeads.{IsFirstOf, IsReached}
 
 -- ---- weights
 
@@ -43,7 +45,7 @@ pub record IsClear (answers : List Number) (first from i clear n : ℕ) : Type 0
 
 -- ---- a window
 
-at : {A : Type 0} (f : ℕ → A) (first count i j : ℕ) → i < count → first + i ≡ j
+pub at : {A : Type 0} (f : ℕ → A) (first count i j : ℕ) → i < count → first + i ≡ j
     → slice_get (map f (range_with_len first count)) i ≡ Some (f j)
 at f first count i j inside is =
     slice_get-get_or (map f (range_with_len first count)) i (f j)
@@ -157,3 +159,51 @@ found_none side w answers n looked window are few none = elim window.wide [
         (subst (λ f. Begins side.setup side.bytes.now side.count f n) is begins)),
   )
 ]
+
+-- ---- the first field with the chapter
+
+-- it is one of the side
+pub first_inside : (side : SideBytes) (t n : ℕ) → IsFirstOf side.setup side.bytes.now side.count n t → t < side.count
+first_inside side t n first = omega (
+  arith,
+  shown_within (side_from side 0 side.count) t n first.has.shown,
+  length-map-range_with_len (chapters_at side.setup side.bytes.now) 0 side.count,
+)
+
+-- if it is one of those in which the chapter is looked for, the chapter is found to begin there
+module _ (side : SideBytes) (w : Window) (answers : List Number) (n t : ℕ) (window : IsWindowOf side.count w)
+    (are : AreChapters (side_from side w.first w.many) answers)
+    (first : IsFirstOf side.setup side.bytes.now side.count n t) (reached : IsReached t w) where
+  -- its place among them
+  abbrev k : ℕ
+  k = t - w.first
+
+  place : w.first + k ≡ t
+  place = elim reached.before [ inl far ↦ omega (arith, far) | inr none ↦ omega (arith, none) ]
+
+  from : w.from ≤ k
+  from = elim reached.before [ inl far ↦ omega (arith, far) | inr none ↦ omega (arith, none) ]
+
+  seen : AreSeenBefore w.first w.from k
+  seen = elim reached.before [ inl far ↦ inl (omega (arith, far)) | inr none ↦ inr none ]
+
+  begins : BeginsAmong answers w.from k n
+  begins = begins_back side w answers k n window are from (omega (arith, place, reached.to))
+      (subst (λ f. Begins side.setup side.bytes.now side.count f n) (sym place)
+      (record { has = first.has; first = λ j less near has. first.others j less has }))
+
+  pub found_there : (at : ℕ) → w.from ≤ at → at < w.to → BeginsAmong answers w.from at n
+      → ((i : ℕ) → w.from ≤ i → i < at → AreSeenBefore w.first w.from i → BeginsAmong answers w.from i n → ⊥)
+      → w.first + at ≡ t
+  found_there at low high found passed = elim (leb_tells k at) [
+    | inr (f, before) ↦ absurd (first.others (w.first + at) (omega (arith, place, before))
+        ((told side w answers at n window are low high).0 found.has))
+    | inl (s, after) ↦ elim (leb_tells at k) [
+      | inl (u, same) ↦ omega (arith, place, after, same)
+      | inr (u, later) ↦ absurd (passed k from later seen begins)
+    ]
+  ]
+
+  pub never_none : ((i : ℕ) → w.from ≤ i → i < w.to → AreSeenBefore w.first w.from i
+      → BeginsAmong answers w.from i n → ⊥) → ⊥
+  never_none none = none k from (omega (arith, place, reached.to)) seen begins

@@ -53,7 +53,7 @@ silent_outside search t a b field leads silent from to =
     let (k, n, few, tells) = leads.told field from to in silent k n few tells.inside tells.tells
 
 -- the middles of sixteen parts aren't all silent
-part_first : (count a b p : ℕ) → count + 16 * a ≤ 16 * (b + 1) → b < count → 32 * p ≤ count → (p ≤ b → a ≤ p → ⊥)
+pub part_first : (count a b p : ℕ) → count + 16 * a ≤ 16 * (b + 1) → b < count → 32 * p ≤ count → (p ≤ b → a ≤ p → ⊥)
     → p < a
 part_first count a b p part inside low outside = elim (leb_tells (b + 1) p) [
   | inl (t, after) ↦ absurd (omega (arith, part, inside, low, after))
@@ -63,7 +63,7 @@ part_first count a b p part inside low outside = elim (leb_tells (b + 1) p) [
   ]
 ]
 
-part_next : (count a b x p q : ℕ) → count + 16 * a ≤ 16 * (b + 1) → b < count → p < a → x < 32 * (p + 1)
+pub part_next : (count a b x p q : ℕ) → count + 16 * a ≤ 16 * (b + 1) → b < count → p < a → x < 32 * (p + 1)
     → 32 * q ≤ x + 2 * count → (q ≤ b → a ≤ q → ⊥) → q < a
 part_next count a b x p q part inside below high low outside = elim (leb_tells (b + 1) q) [
   | inl (t, after) ↦ absurd (omega (arith, part, inside, low, high, below, after))
@@ -93,7 +93,7 @@ not_all_silent search t a b leads silent =
 
 -- ---- a step of halving
 
-none_some : (x : Option ℕ) (n : ℕ) → x ≡ None → x ≡ Some n → ⊥
+pub none_some : (x : Option ℕ) (n : ℕ) → x ≡ None → x ≡ Some n → ⊥
 none_some x n none some = cc
 
 -- if the middle is silent, only one end has told a number

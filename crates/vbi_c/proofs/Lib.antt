@@ -16,6 +16,7 @@ pub mod Running
 pub mod CompletedTimes
 pub mod Placed
 pub mod ChapterPlaces
+pub mod ChapterLeading
 mod NoneBeyond
 mod SidesCalled
 mod CleanJudged
@@ -23,3 +24,4 @@ pub mod Tellers
 pub mod CleanLeading
 pub mod CleanSought
 pub mod DrawnSides
+pub mod ChaptersRead

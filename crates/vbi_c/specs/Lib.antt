@@ -29,3 +29,5 @@ pub mod Worked
 pub mod Plans
 pub mod StopSeeking
 pub mod ChapterSeeking
+pub mod ChapterLeads
+pub mod ChapterRuns

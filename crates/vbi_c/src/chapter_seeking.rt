@@ -8,18 +8,21 @@
 //!
 //! 176 fields are judged at most: 24 + 72 before the place, which is 32 fields wide at most, 24 that may tell what is
 //! told there, and 24 after them. So 824 are left of the 1,000 of include/ldvbi.h for spots of 24 fields at most: 16
-//! until the first chapter is told, and 18 for halving. Most spots tell a chapter by three or four fields.
-//! specs/ChapterSeeking.antt has these numbers for proofs.
+//! until the first chapter is told, and 15 for halving a million fields, which makes 744 (`LeadsToChapter`). Most spots
+//! tell a chapter by three or four fields. What is left over is for a middle that is silent between two ends that have
+//! told one (`ask_beside`): on a worn side. specs/ChapterSeeking.antt has these numbers for proofs.
 
 ghost use Rattle.std.specs.Prelude.{◌≡◌, ◌≢◌, ◌↔◌, ℕ, ◌+◌, ◌*◌, ◌/◌, ◌<◌, ◌≤◌, false, true, length, None, IfOk, IfSome};
 ghost use Rattle.vbi_side.specs.Chapters.{AreChapters};
 ghost use Rattle.vbi_side.specs.Numbers.{believed};
 ghost use Rattle.vbi_words.specs.Geometry.{field_bytes};
+ghost use Rattle.vbi_c.specs.ChapterLeads.{IsAtPlace, IsChapterComplete, IsFirstOf, IsHalvedTo, IsNarrowedFrom};
+ghost use Rattle.vbi_c.specs.ChapterLeads.{IsReached, IsSilentAt, LeadsThere, sixteenth_of};
 ghost use Rattle.vbi_c.specs.ChapterSeeking.{AreSeenBefore, BeginsAmong, IsBetween, IsChapterSought, IsWindowOf};
-ghost use Rattle.vbi_c.specs.ChapterSeeking.{TellChapter, around_most, before_most, placed_most, side_from, spot_most};
+ghost use Rattle.vbi_c.specs.ChapterSeeking.{around_most, before_most, placed_most, side_from, spot_most};
+ghost use Rattle.vbi_c.specs.Seeking.{left_most};
 ghost use Rattle.vbi_c.specs.Setups.{setup_of};
 ghost use Rattle.vbi_c.specs.Statuses.{status_of};
-ghost use Rattle.vbi_c.specs.Telling.{IsNarrowed};
 
 use crate::chapter_probing::{SPOT, probe_chapter, see_chapters};
 use crate::halving::LEFT;
@@ -39,6 +42,9 @@ const AROUND: usize = 2 * REACH + BEFORE + LEFT + SPOT;
 
 /// This many fields at most are read while the place is sought: 1,000 without those that are judged around it.
 const PLACED: usize = 824;
+
+/// So many spots are asked if the middle is silent between two ends that have told a chapter.
+const BESIDE: usize = 6;
 
 /// So many spots are asked until one tells a chapter, the middles of as many equal parts of the side.
 const PARTS: usize = 16;
@@ -67,8 +73,8 @@ fn narrow(
     ensures part { IsBetween side.now.count between.new }
     ensures few { looked.new ≤ looked.old + spot_most }
     ensures kept { result ≡ false → between.new ≡ between.old }
-    ensures narrowed { result ≡ true → (read told : ℕ) × TellChapter (side_from side.now spot read) told
-        × IsNarrowed chapter spot told between.old between.new }
+    ensures silent { result ≡ false → IsSilentAt side.now spot }
+    ensures narrowed { result ≡ true → IsNarrowedFrom side.now chapter spot between.old between.new }
 {
     let (told, _) = probe_chapter(side, spot, looked);
     let Some(told) = told else {
@@ -92,6 +98,10 @@ fn begin(side: &SideBytes, chapter: u32, between: &mut Between, looked: &mut usi
     requires room { looked.old ≡ 0 }
     ensures part { IsBetween side.now.count between.new }
     ensures few { looked.new ≤ 16 * spot_most }
+    ensures silent { result ≡ false → (part : ℕ) → part < 16
+        → IsSilentAt side.now (sixteenth_of side.now.count part) }
+    ensures narrowed { result ≡ true → (spot : ℕ) × (spot ≤ side.now.count)
+        × IsNarrowedFrom side.now chapter spot between.old between.new }
 {
     for part in 0..PARTS {
         let middle = side.count * (2 * part + 1) / (2 * PARTS);
@@ -102,26 +112,59 @@ fn begin(side: &SideBytes, chapter: u32, between: &mut Between, looked: &mut usi
     false
 }
 
+/// So many eighths of the fields lie before the spot that is asked in this step, if the middle is silent.
+fn eighths_at(step: usize) -> usize
+    ensures { result ≤ 8 }
+{
+    match step {
+        0 => 6,
+        1 => 2,
+        2 => 7,
+        3 => 5,
+        4 => 3,
+        _ => 1,
+    }
+}
+
+/// Narrows the fields between which the chapter is sought if both ends have told one and the middle none: by what is
+/// told at the first of their quarters and eighths that tells any, as far as fields may be read. If none does, the
+/// chapter is sought in the last half: what tells it at the end begins there, or little before.
+fn ask_beside(side: &SideBytes, chapter: u32, between: &mut Between, looked: &mut usize)
+    requires part { IsBetween side.now.count between.old }
+    requires room { looked.old ≤ placed_most }
+    ensures part { IsBetween side.now.count between.new }
+    ensures few { looked.new ≤ placed_most }
+{
+    let (low, width) = (between.low, between.high - between.low);
+    for step in 0..BESIDE {
+        let spot = low + eighths_at(step) * width / 8;
+        if *looked + SPOT <= PLACED && narrow(side, chapter, spot, between, looked) {
+            return;
+        }
+    }
+    between.low = low + width / 2;
+}
+
 /// Narrows the fields between which the chapter is sought, by what is told in the middle. Silence there says that the
-/// chapter begins on the side of the end that has told one, if only one has. If both have, the quarters are asked.
+/// chapter begins on the side of the end that has told one, if only one has. If both have, other spots are asked.
 fn halve(side: &SideBytes, chapter: u32, between: &mut Between, looked: &mut usize)
     requires part { IsBetween side.now.count between.old }
+    requires wide { between.old.low + left_most < between.old.high }
     requires room { looked.old + 3 * spot_most ≤ placed_most }
     ensures part { IsBetween side.now.count between.new }
-    ensures few { looked.new ≤ looked.old + 3 * spot_most }
+    ensures few { looked.new ≤ placed_most }
+    ensures halved { IsHalvedTo side.now chapter between.old looked.old between.new looked.new }
 {
-    let width = between.high - between.low;
-    let (low, middle) = (between.low, between.low + width / 2);
+    let middle = between.low + (between.high - between.low) / 2;
     if narrow(side, chapter, middle, between, looked) {
         return;
     }
-    if between.lower.is_none() {
-        between.low = middle;
-    } else if between.higher.is_none()
-        || !narrow(side, chapter, middle + width / 4, between, looked)
-            && !narrow(side, chapter, low + width / 4, between, looked)
-    {
-        between.high = middle;
+    match between.lower {
+        None => between.low = middle,
+        Some(lower) => match between.higher {
+            None => between.high = middle,
+            Some(higher) => ask_beside(side, chapter, between, looked),
+        },
     }
 }
 
@@ -130,6 +173,8 @@ fn halve(side: &SideBytes, chapter: u32, between: &mut Between, looked: &mut usi
 fn place_of(side: &SideBytes, chapter: u32) -> (Between, usize)
     ensures part { IsBetween side.now.count result.0 }
     ensures few { result.1 ≤ placed_most }
+    ensures leads { (t a b : ℕ) → side.now.count ≤ 1000000 → LeadsThere side.now chapter t a b
+        → IsAtPlace t result.0 }
 {
     let mut between = Between {
         low: 0,
@@ -167,6 +212,7 @@ fn window_of(count: usize, place: &Between) -> Window
     requires { IsBetween count place.now }
     ensures window { IsWindowOf count result }
     ensures few { result.many ≤ around_most }
+    ensures reached { (t : ℕ) → t < count → IsAtPlace t place.now → IsReached t result }
 {
     let low = place.low.min(count.saturating_sub(SPOT));
     let from = low.saturating_sub(BEFORE);
@@ -225,6 +271,9 @@ fn first_begin(chapters: &[Number], window: &Window, chapter: u32) -> Option<usi
     ensures inside { IfSome result (λ at. (window.now.from ≤ at) × (at < window.now.to)) }
     ensures begins { IfSome result (λ at. BeginsAmong chapters.now window.now.from at chapter) }
     ensures seen { IfSome result (λ at. AreSeenBefore window.now.first window.now.from at) }
+    ensures passed { IfSome result (λ at. (i : ℕ) → window.now.from ≤ i → i < at
+        → AreSeenBefore window.now.first window.now.from i
+        → BeginsAmong chapters.now window.now.from i chapter → ⊥) }
     ensures none { result ≡ None → (i : ℕ) → window.now.from ≤ i → i < window.now.to
         → AreSeenBefore window.now.first window.now.from i
         → BeginsAmong chapters.now window.now.from i chapter → ⊥ }
@@ -247,7 +296,9 @@ fn first_begin(chapters: &[Number], window: &Window, chapter: u32) -> Option<usi
 fn look_around(side: &SideBytes, chapter: u32, place: &Between, mut looked: usize) -> LdvbiPlace
     requires part { IsBetween side.now.count place.now }
     requires few { looked ≤ placed_most }
-    ensures { IsChapterSought side.now.setup side.now.bytes.now side.now.count chapter result }
+    ensures sought { IsChapterSought side.now.setup side.now.bytes.now side.now.count chapter result }
+    ensures complete { (t : ℕ) → IsFirstOf side.now.setup side.now.bytes.now side.now.count chapter t
+        → IsAtPlace t place.now → result.field ≡ t }
 {
     let window = window_of(side.count, place);
     let mut all_chapters = [NO_CHAPTER; AROUND];
@@ -280,6 +331,8 @@ pub extern "C" fn ldvbi_seek_chapter(
     ensures status { result ≡ status_of (setup_of system black white) }
     ensures seeks { IfOk (setup_of system black white) (λ setup.
         IsChapterSought setup bytes.now (length bytes.now / field_bytes setup.system) chapter place.new) }
+    ensures complete { IfOk (setup_of system black white) (λ setup.
+        IsChapterComplete setup bytes.now (length bytes.now / field_bytes setup.system) chapter place.new) }
     ensures unwritten { result ≢ 0 → place.new ≡ place.old }
 {
     match setup_of(system, black, white) {

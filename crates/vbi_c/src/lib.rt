@@ -9,6 +9,7 @@
 //! between two calls, so calls from several threads don't meet.
 #![tactic(auto)]
 
+pub mod chapter_laws;
 mod chapter_probing;
 mod chapter_seeking;
 mod chapters;
