@@ -155,13 +155,20 @@ pub(crate) struct Neighbours {
     ghost order: { here.field < there.field },
 }
 
-/// Whether two numbers go on, to within this many fields.
-pub(crate) fn goes_on(pace: Pace, slack: u64, here: Place, there: Place) -> bool
+/// Whether numbers go on from one field to another, to within this many fields.
+pub(crate) fn nearly(
+    pace: Pace,
+    slack: u64,
+    field: u128,
+    number: u32,
+    other: u128,
+    count: u32,
+) -> bool
     requires slack { slack ≤ 1 }
-    ensures { result ≡ nearly pace slack here.field here.number there.field there.number }
+    requires far { (field < 2 ^ 100) × (other < 2 ^ 100) }
+    ensures { result ≡ nearly pace slack field number other count }
 {
-    let (field, number) = (here.field as u64, u64::from(here.number));
-    let (other, count) = (there.field as u64, u64::from(there.number));
+    let (number, count, slack) = (u128::from(number), u128::from(count), u128::from(slack));
     match pace {
         Pace::Video => {
             other + 2 * number <= field + 2 * count + slack
@@ -172,6 +179,21 @@ pub(crate) fn goes_on(pace: Pace, slack: u64, here: Place, there: Place) -> bool
                 && 2 * field + 5 * count <= 2 * other + 5 * number + 2
         }
     }
+}
+
+/// Whether two numbers go on, to within this many fields.
+pub(crate) fn goes_on(pace: Pace, slack: u64, here: Place, there: Place) -> bool
+    requires slack { slack ≤ 1 }
+    ensures { result ≡ nearly pace slack here.field here.number there.field there.number }
+{
+    nearly(
+        pace,
+        slack,
+        here.field as u128,
+        here.number,
+        there.field as u128,
+        there.number,
+    )
 }
 
 /// Whether two numbers go on by the clock.

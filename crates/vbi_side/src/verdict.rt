@@ -1,10 +1,11 @@
 //! Whether a capture of a side is whole.
 //!
-//! `judge_whole` asks four passes over the answers: the gaps (gaps.rt), the swapped fields (swaps.rt), the numbers that
-//! drift (drift.rt) and the fields without any (blank.rt). What they find is `Found`, with the first and the last number; each thing that speaks against
-//! the capture is a reason, and reasons are bits, so that their sum says which hold. Bits below 64, `IS_INSERTED` and
-//! `IS_PADDED` are seen on the capture itself: with one of these the verdict is `NO`. The others leave it open, so with
-//! these alone it is `CANNOT_TELL`. A capture without a number has the reason `NO_NUMBERS` alone.
+//! `judge_whole` asks four passes over the answers: the gaps (gaps.rt), the swapped fields (swaps.rt), the numbers
+//! that drift (drift.rt) and the fields without any (blank.rt). What they find is `Found`, with the first and the last
+//! number. Each thing that speaks against the capture is a reason, and reasons are bits, so that their sum says which
+//! hold. Bits below 64, `IS_INSERTED` and `IS_PADDED` are seen on the capture itself: with one of these the verdict is
+//! `NO`. The others leave it open, so with these alone it is `CANNOT_TELL`. A capture without a number has the reason
+//! `NO_NUMBERS` alone.
 //!
 //! A reason more, or another bound, changes `specs/Verdicts.antt`, the worked reasons of `reason_laws`,
 //! include/ldvbi.h, `Reason` of python/ldvbi/sides.py and docs/SIDES.md.
@@ -21,7 +22,7 @@ ghost use Rattle.vbi_side.specs.Swaps.{IsSwapTold};
 use crate::blank::first_blank;
 use crate::drift::has_drift;
 use crate::ends::{LEAD_OUT, PADDING};
-use crate::gap::{Gap, Rule, Tally};
+use crate::gap::{Gap, Rule, Tally, nearly};
 use crate::gaps::{find_gaps, since_at};
 use crate::number::{BELIEVED, DOUBTFUL, Number};
 use crate::pace::Pace;
@@ -158,20 +159,14 @@ fn is_off(rule: Rule, tally: &Tally, first: Place, last: Place) -> bool
 {
     let field = first.field as u128 + u128::from(tally.stood);
     let field = field + u128::from(tally.inserted);
-    let number = u128::from(first.number);
-    let other = last.field as u128;
-    let count = u128::from(last.number);
-    let slack = u128::from(rule.slack);
-    let goes_on = match rule.pace {
-        Pace::Video => {
-            other + 2 * number <= field + 2 * count + slack
-                && field + 2 * count <= other + 2 * number + slack
-        }
-        Pace::Film => {
-            2 * other + 5 * number <= 2 * field + 5 * count + 2
-                && 2 * field + 5 * count <= 2 * other + 5 * number + 2
-        }
-    };
+    let goes_on = nearly(
+        rule.pace,
+        rule.slack,
+        field,
+        first.number,
+        last.field as u128,
+        last.number,
+    );
     tally.open_gaps == 0 && !goes_on
 }
 
