@@ -23,6 +23,7 @@ pub mod Detours
 pub mod Told
 pub mod ClocksFound
 pub mod Verdicts
+pub mod Aside
 pub mod Swaps
 pub mod Blanks
 pub mod Both

@@ -60,7 +60,7 @@ fn is_odd_turn(last: Option<Last>, field: usize, answer: Number) -> bool
 }
 
 /// A count, and one more if that holds.
-fn counted(count: usize, holds: bool) -> usize
+pub(crate) fn counted(count: usize, holds: bool) -> usize
     requires { count < 2 ^ 60 }
     ensures value { result ≡ if holds then suc count else count }
     ensures few { result ≤ count + 1 }

@@ -8,6 +8,7 @@
 #![tactic(auto)]
 
 mod answers;
+mod aside;
 mod belief;
 mod blank;
 mod both;
@@ -51,6 +52,7 @@ pub mod vote_laws;
 mod votes;
 
 pub use answers::{PART, judge, judge_one};
+pub use aside::set_aside;
 pub use belief::{ENOUGH, REACH, judge_field, support};
 pub use both::is_on_both;
 pub use chapters::{chapters_shown, judge_chapters};

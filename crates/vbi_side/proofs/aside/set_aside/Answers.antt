@@ -1,0 +1,33 @@
+use Rattle.std.proofs.Common.{◌≡◌, refl, sym, ap, subst, ◌∙◌, length}
+use Rattle.std.specs.Prelude.{Some, slice_get}
+use Rattle.vbi_side.specs.Aside.{run_before, begun, is_of_run, is_aside, left_of}
+use Rattle.vbi_side.proofs.SetAside.{gap_at, run_more, aside_more, left_twice}
+use Rattle.vbi_side.proofs.aside.set_aside.Goals as goal
+
+pub loop-index-init : goal.loop-index-init
+unfolding run_before is_aside
+loop-index-init c = record {
+  first = refl;
+  count = ap length c.copy_from_slice.ensures.after;
+  each = λ i answer at. subst (λ xs. slice_get xs i ≡ Some answer) (sym c.copy_from_slice.ensures.after) at;
+}
+
+pub loop-index-preserved : goal.loop-index-preserved
+loop-index-preserved c =
+    let clock = c.args.rule.numbering.clock in
+    let pace = c.args.rule.pace in
+    let slack = c.args.rule.slack in
+    let gaps = c.args.gaps.now in
+    let numbers = c.args.numbers.now in
+    let k = c.loop-index.index in
+    let before = c.loop-index.invariant in
+    let inside = c.loop-index-test.true in
+    record {
+      first = c.begun-first.ensures ∙ ap (λ o. begun o (Some (gap_at gaps k))) before.first ∙ run_more gaps k inside;
+      count = c.end_run.ensures.count ∙ before.count;
+      each = λ i answer at. c.end_run.ensures.each i _ (before.each i answer at)
+          ∙ ap Some (ap (λ o. left_of (is_of_run clock pace slack numbers i o (Some (gap_at gaps k)))
+          (left_of (is_aside clock pace slack gaps numbers i k) answer)) before.first
+          ∙ left_twice (is_aside clock pace slack gaps numbers i k) _ answer
+          ∙ ap (λ b. left_of b answer) (aside_more clock pace slack gaps numbers i k inside));
+    }
