@@ -102,6 +102,7 @@ _LATER: Dict[str, Tuple[str, List[Any]]] = {
     "ldvbi_find_clock": ("find clocks", [_NUMBER] * 4 + [_MEMORY, _SIZE, _MEMORY]),
     "ldvbi_judge_side_by_clock": ("judge sides by clocks",
                                   [_NUMBER] * 5 + [_MEMORY] + [_MEMORY, _SIZE] * 4 + [_MEMORY]),
+    "ldvbi_set_aside": ("judge whole sides", [_NUMBER] * 4 + [_MEMORY] + [_MEMORY, _SIZE] * 3 + [_MEMORY]),
     "ldvbi_check_plan": ("check plans", [_NUMBER, _SIZE, _NUMBER, _MEMORY] + [_MEMORY, _SIZE] * 3 + [_MEMORY]),
     "ldvbi_nearest": ("find nearest words", _SETUP + [_MEMORY, _SIZE, _MEMORY]),
     "ldvbi_recover_rows": ("recover words", _SETUP + [_MEMORY, _SIZE, _MEMORY]),

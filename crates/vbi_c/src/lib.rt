@@ -9,6 +9,7 @@
 //! between two calls, so calls from several threads don't meet.
 #![tactic(auto)]
 
+mod aside;
 pub mod chapter_laws;
 mod chapter_probing;
 mod chapter_seeking;
@@ -50,6 +51,7 @@ pub mod whole_laws;
 mod whole_side;
 mod word;
 
+pub use aside::ldvbi_set_aside;
 pub use chapter_seeking::ldvbi_seek_chapter;
 pub use chapters::ldvbi_judge_chapters;
 pub use clock::LdvbiClock;

@@ -38,7 +38,7 @@ fn pace_given(number: u32) -> Option<Pace>
 }
 
 /// What these numbers ask for, if the lengths of the arrays fit, or why they are refused.
-fn siding_of(
+pub(crate) fn siding_of(
     system: u32,
     counted: u32,
     pace: u32,
@@ -94,7 +94,7 @@ fn slack_by(pace: Pace, both: u32, numbers: &[Number]) -> u64
 
 impl Siding {
     /// The rule by which numbers go on.
-    fn rule(self, both: u32, numbers: &[Number]) -> Rule
+    pub(crate) fn rule(self, both: u32, numbers: &[Number]) -> Rule
         ensures pace { result.pace ≡ self.pace }
         ensures slack { result.slack ≡ slack_by self.pace both numbers.now }
         ensures numbering { result.numbering ≡ self.numbering }

@@ -1,18 +1,21 @@
 -- How numbers are set aside: row by row, field by field, and run by run.
 use Rattle.std.proofs.Common.{◌≡◌, ◌≢◌, ℕ, zero, suc, ◌+◌, ◌<◌, ◌≤◌, Bool, true, false, List, length, get_or}
 use Rattle.std.proofs.Common.{refl, sym, ap, subst, arith, ◌∙◌, inl, inr}
-use Rattle.std.specs.Prelude.{Option, Some, None, slice_get, slice_set, ◌&&◌, ◌||◌, ◌==◌, if◌then◌else◌}
+use Rattle.std.specs.Prelude.{Option, Some, None, slice_get, slice_set, ◌&&◌, ◌||◌, ◌==◌, ◌⊎◌, if◌then◌else◌, nat_le}
+use Rattle.std.proofs.lemmas.Bool.{and_parts, and_from, or_cases, or_left, or_right, leb-true, le-leb}
+use Rattle.std.proofs.lemmas.Bool.{eqb-true, eq-eqb, false≢true}
 use Rattle.std.proofs.lemmas.Bool.Decides.{eqb_tells}
+use Rattle.std.proofs.Math.Dec.{eqb}
 use Rattle.std.proofs.lemmas.List.{length-set, get_or-set_other}
 use Rattle.std.proofs.lemmas.Grind.{get_or-set_at}
-use Rattle.std.proofs.lemmas.Option.{slice_get-get_or, slice_get_within, get_or_from_slice_get}
+use Rattle.std.proofs.lemmas.Option.{slice_get-get_or, slice_get_within, get_or_from_slice_get, none-some, same_Some}
 use Rattle.vbi_side.specs.declared.clock.Clock.{Clock}
 use Rattle.vbi_side.specs.declared.gap.Gap.{Gap}
 use Rattle.vbi_side.specs.declared.number.Number.{Number}
 use Rattle.vbi_side.specs.declared.pace.Pace.{Pace}
-use Rattle.vbi_side.specs.Gaps.{gap_made}
-use Rattle.vbi_side.specs.Numbers.{nothing}
-use Rattle.vbi_side.specs.Aside.{has_of_row, row_weight, begun, run_before, is_of_run, is_aside, left_of, AreLeft}
+use Rattle.vbi_side.specs.Gaps.{gap_made, replaced}
+use Rattle.vbi_side.specs.Numbers.{nothing, believed, IsMarked}
+use Rattle.vbi_side.specs.Aside.{has_of_row, row_weight, begun, run_before, is_of_run, is_aside, left_of, AreLeft, AreAside, is_set_aside}
 
 -- ---- rows
 
@@ -117,3 +120,125 @@ again true answer = elim (eqb_tells answer.state 1) [
 pub left_twice : (a b : Bool) (answer : Number) → left_of b (left_of a answer) ≡ left_of (a || b) answer
 left_twice false b answer = refl
 left_twice true b answer = again b answer
+
+-- ---- what is left
+
+-- an answer that is left believed was believed
+left_believed : (aside : Bool) (answer : Number) (n : ℕ) → left_of aside answer ≡ believed n → answer ≡ believed n
+left_believed false answer n e = e
+left_believed true answer n e = elim (eqb_tells answer.state 1) [
+  | inl (t, is) ↦
+      let made : (record answer { state = 2 }) ≡ believed n = simp t at e in
+      absurd (omega (arith, ap (λ (one : Number). one.state) made))
+  | inr (f, other) ↦ simp f at e
+]
+
+pub left_sound : (clock : Clock) (pace : Pace) (slack : ℕ) (gaps : List Gap) (numbers left : List Number) (i n : ℕ)
+    → AreLeft clock pace slack gaps numbers left → IsMarked left i n → IsMarked numbers i n
+left_sound clock pace slack gaps numbers left i n all at =
+    let within = slice_get_within left i (believed n) at in
+    let was = slice_get-get_or numbers i nothing (omega (arith, within, all.count)) in
+    was ∙ ap Some (left_believed (is_aside clock pace slack gaps numbers i (length gaps)) (get_or numbers i nothing) n
+    (same_Some _ _ (sym (all.each i (get_or numbers i nothing) was) ∙ at)))
+
+-- ---- which runs
+
+-- a run begins with a gap that replaces others
+begun_is : (first second : Option Gap) (a : Gap) → begun first second ≡ Some a
+    → (second ≡ Some a) × (a.kind ≡ replaced)
+begun_is None None a e = absurd (none-some a e)
+begun_is None (Some gap) a e = elim (eqb_tells gap.kind replaced) [
+  | inl (t, is) ↦
+      let same : gap ≡ a = same_Some gap a (simp t at e) in
+      (ap Some same, ap (λ (g : Gap). g.kind) (sym same) ∙ is)
+  | inr (f, other) ↦ absurd (none-some a (simp f at e))
+]
+begun_is (Some one) second a e = absurd (none-some a e)
+
+run_is : (gaps : List Gap) (k : ℕ) (a : Gap) → run_before gaps k ≡ Some a
+    → (j : ℕ) × (k ≡ suc j) × (slice_get gaps j ≡ Some a) × (a.kind ≡ replaced)
+unfolding run_before
+run_is gaps zero a e = absurd (none-some a e)
+run_is gaps (suc j) a e =
+    let is = begun_is (run_before gaps j) (slice_get gaps j) a e in
+    (j, refl, is.0, is.1)
+
+-- the two gaps around a run that has the field
+of_run : (clock : Clock) (pace : Pace) (slack : ℕ) (numbers : List Number) (i : ℕ) (first second : Option Gap)
+    → is_of_run clock pace slack numbers i first second ≡ true
+    → (a b : Gap) × (first ≡ Some a) × (second ≡ Some b) × (b.kind ≡ replaced)
+    × (is_set_aside clock pace slack numbers a b ≡ true) × (a.before ≤ i) × (i ≤ b.after)
+of_run clock pace slack numbers i None second e = absurd (false≢true e)
+of_run clock pace slack numbers i (Some a) None e = absurd (false≢true e)
+of_run clock pace slack numbers i (Some a) (Some b) e =
+    let halves = and_parts _ _ e in
+    let ends = and_parts _ _ halves.0 in
+    let kinds = and_parts _ _ halves.1 in
+    (a, b, refl, refl, eqb-true b.kind replaced kinds.0, kinds.1, leb-true a.before i ends.0, leb-true i b.after ends.1)
+
+pub aside_run : (clock : Clock) (pace : Pace) (slack : ℕ) (gaps : List Gap) (numbers : List Number) (i k : ℕ)
+    → is_aside clock pace slack gaps numbers i k ≡ true
+    → (j : ℕ) × (a b : Gap) × AreAside clock pace slack gaps numbers j a b × (a.before ≤ i) × (i ≤ b.after)
+unfolding is_aside
+aside_run clock pace slack gaps numbers i zero e = absurd (false≢true e)
+aside_run clock pace slack gaps numbers i (suc k) e = elim (or_cases _ _ e) [
+  | inl before ↦ aside_run clock pace slack gaps numbers i k before
+  | inr here ↦ ended (of_run clock pace slack numbers i (run_before gaps k) (slice_get gaps k) here)
+]
+  where
+    ended : (a b : Gap) × (run_before gaps k ≡ Some a) × (slice_get gaps k ≡ Some b) × (b.kind ≡ replaced)
+        × (is_set_aside clock pace slack numbers a b ≡ true) × (a.before ≤ i) × (i ≤ b.after)
+        → (j : ℕ) × (a b : Gap) × AreAside clock pace slack gaps numbers j a b × (a.before ≤ i) × (i ≤ b.after)
+    ended (a, b, first, second, kind, aside, from, to) =
+        let begins = run_is gaps k a first in
+        (
+          begins.0,
+          a,
+          b,
+          record {
+            first = begins.2;
+            second = subst (λ n. slice_get gaps n ≡ Some b) begins.1 second;
+            begins = begins.3;
+            ends = kind;
+            aside = aside;
+          },
+          from,
+          to,
+        )
+
+-- a field that is set aside stays so, whatever gaps follow
+stays_aside : (clock : Clock) (pace : Pace) (slack : ℕ) (gaps : List Gap) (numbers : List Number) (i k n : ℕ) → k ≤ n
+    → is_aside clock pace slack gaps numbers i k ≡ true → is_aside clock pace slack gaps numbers i n ≡ true
+unfolding is_aside
+stays_aside clock pace slack gaps numbers i k zero less e =
+    let none : k ≡ zero = omega (arith, less) in
+    subst (λ m. is_aside clock pace slack gaps numbers i m ≡ true) none e
+stays_aside clock pace slack gaps numbers i k (suc n) less e = elim (eqb_tells k (suc n)) [
+  | inl (t, same) ↦ subst (λ m. is_aside clock pace slack gaps numbers i m ≡ true) same e
+  | inr (f, other) ↦ or_left _ _ (stays_aside clock pace slack gaps numbers i k n (omega (arith, less, other)) e)
+]
+
+-- a run that begins with gap j, and is to be set aside, is
+pub all_aside : (clock : Clock) (pace : Pace) (slack : ℕ) (gaps : List Gap) (numbers : List Number) (i j : ℕ)
+    (a b : Gap) → run_before gaps j ≡ None → AreAside clock pace slack gaps numbers j a b → a.before ≤ i
+    → i ≤ b.after → is_aside clock pace slack gaps numbers i (length gaps) ≡ true
+unfolding run_before is_aside
+all_aside clock pace slack gaps numbers i j a b none run from to =
+    stays_aside clock pace slack gaps numbers i (suc (suc j)) (length gaps)
+    (omega (arith, slice_get_within gaps (suc j) b run.second)) (or_right _ _ here)
+  where
+    begins : begun (run_before gaps j) (slice_get gaps j) ≡ Some a
+    begins =
+        ap (λ o. begun o (slice_get gaps j)) none ∙ ap (begun None) run.first
+        ∙ ap (λ kind. if kind == replaced then Some a else None) run.begins
+
+    ends : is_of_run clock pace slack numbers i (Some a) (Some b) ≡ true
+    ends =
+        and_from _ _ (and_from _ _ (le-leb a.before i from) (le-leb i b.after to))
+        (and_from _ _ (eq-eqb b.kind replaced run.ends) run.aside)
+
+    here : is_of_run clock pace slack numbers i (begun (run_before gaps j) (slice_get gaps j)) (slice_get gaps (suc j))
+        ≡ true
+    here =
+        ap (λ o. is_of_run clock pace slack numbers i o (slice_get gaps (suc j))) begins
+        ∙ ap (is_of_run clock pace slack numbers i (Some a)) run.second ∙ ends

@@ -1,13 +1,14 @@
 -- Numbers that are set aside: those of a run that replaces what is due there, if the rows of numbers around weigh more.
-use Rattle.std.specs.Prelude.{◌≡◌, ℕ, zero, suc, ◌+◌, ◌*◌, ◌-◌, ◌/◌, ◌==◌, nat_le, nat_lt, not, ◌&&◌, ◌||◌, Bool, false}
-use Rattle.std.specs.Prelude.{if◌then◌else◌, List, length, slice_get, Option, Some, None}
+use Rattle.std.specs.Prelude.{◌≡◌, ℕ, zero, suc, ◌+◌, ◌*◌, ◌-◌, ◌/◌, ◌==◌, nat_le, nat_lt, not, ◌&&◌, ◌||◌, Bool, true, false}
+use Rattle.std.specs.Prelude.{if◌then◌else◌, List, [], ◌∷◌, length, slice_get, Option, Some, None}
 use Rattle.vbi_side.specs.declared.clock.Clock.{Clock}
 use Rattle.vbi_side.specs.declared.gap.Gap.{Gap}
 use Rattle.vbi_side.specs.declared.number.Number.{Number}
 use Rattle.vbi_side.specs.declared.pace.Pace.{Pace}
 use Rattle.vbi_side.specs.declared.pace.Pace.TheVariants.{Video, Film}
 use Rattle.vbi_side.specs.Clocks.{kept}
-use Rattle.vbi_side.specs.Gaps.{replaced}
+use Rattle.vbi_side.specs.Gaps.{replaced, gap_made}
+use Rattle.vbi_side.specs.Numbers.{believed, nothing}
 
 -- ---- rows
 
@@ -97,3 +98,25 @@ pub record AreLeft (clock : Clock) (pace : Pace) (slack : ℕ) (gaps : List Gap)
   pub count : length left ≡ length answers
   pub each : (i : ℕ) (answer : Number) → slice_get answers i ≡ Some answer
       → slice_get left i ≡ Some (left_of (is_aside clock pace slack gaps answers i (length gaps)) answer)
+
+-- ---- what is true of them
+
+-- gaps j and j + 1 are these two, and the run between them replaces others and is set aside
+pub record AreAside (clock : Clock) (pace : Pace) (slack : ℕ) (gaps : List Gap) (answers : List Number) (j : ℕ)
+    (a b : Gap) : Type 0 where
+  pub first : slice_get gaps j ≡ Some a
+  pub second : slice_get gaps (suc j) ≡ Some b
+  pub begins : a.kind ≡ replaced
+  pub ends : b.kind ≡ replaced
+  pub aside : is_set_aside clock pace slack answers a b ≡ true
+
+-- ---- sides worked by hand
+
+-- an answer in each second field, from the first one on: these numbers, believed
+unfoldable pub shown_by_turns : List ℕ → List Number
+shown_by_turns [] = []
+shown_by_turns (n ∷ numbers) = believed n ∷ nothing ∷ shown_by_turns numbers
+
+-- the two gaps around a run
+abbrev pub run_of : ℕ → ℕ → ℕ → ℕ → ℕ → ℕ → ℕ → ℕ → List Gap
+run_of i m j n k p l q = gap_made i m j n replaced 0 0 ∷ gap_made k p l q replaced 0 0 ∷ []

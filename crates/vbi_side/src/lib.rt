@@ -9,6 +9,7 @@
 
 mod answers;
 mod aside;
+pub mod aside_laws;
 mod belief;
 mod blank;
 mod both;

@@ -12,7 +12,7 @@ from typing import Dict, List, NamedTuple, Optional
 from ldvbi import Counted, JudgedSide, Kind, State
 from .believed import Line, Numbers
 from .chain import anchored, chain, judged_of, pace_of
-from .detours import without_replaced, without_rows
+from .detours import set_aside, without_rows
 from .order import with_speeds, with_swaps, with_turned
 from .paces import RATES, MinutePace, Unit
 from .readings import ByField, Codes, Reading
@@ -75,12 +75,12 @@ def numbers_of(codes: Codes) -> Found:
 
 def _pictures_of(codes):
     """The picture numbers of a CAV side, or of one without codes of either format."""
-    judged, detours = without_replaced(judged_of(codes.fields, Counted.pictures))
+    judged = judged_of(codes.fields, Counted.pictures)
     known = codes.readings(codes.kinds[Kind.picture])
     if not known:
         return Found(Numbers(Unit(None, RATES[codes.fields.system]), judged=judged), [])
     pace = pace_of(judged)
-    readings = without_rows(known, detours, judged, pace)
+    readings = without_rows(known, set_aside(judged), judged, pace)
     # a field with a chapter is the second one of its picture, unless both have the number
     others = set() if pace.kind == "both" else codes.sure_fields(Kind.chapter)
     unit, believed = Unit("picture", RATES[codes.fields.system]), anchored(readings, pace, judged)
@@ -114,11 +114,11 @@ def _believed(times, readings):
     """The numbers of these times. Fields without a minute that is believed get the one that brings them nearest to the
     believed times around them, and the chain is drawn again."""
     codes = times.codes
-    judged, detours = without_replaced(judged_of(codes.fields, Counted.times))
+    judged = judged_of(codes.fields, Counted.times)
     pace = pace_of(judged)
     others = set().union(*map(codes.sure_fields, (Kind.chapter, Kind.cx_on, Kind.cx_off)))
     readings = times.with_voted(readings, judged)
-    known = without_rows(readings, detours, judged, pace)
+    known = without_rows(readings, set_aside(judged), judged, pace)
     believed = anchored(known, pace, judged)
     numbers = Numbers(Unit("time", times.rate), pace, believed, others, judged=judged)
     more = _completions(times, numbers, known)

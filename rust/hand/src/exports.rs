@@ -119,6 +119,8 @@ exports! {
         clock: &mut LdvbiClock) -> u32;
     fn ldvbi_judge_side_by_clock(system: u32, counted: u32, pace: u32, both: u32, may_end: u32, clock: &LdvbiClock,
         seen: &[Sightings], numbers: &[Number], ends: &[u32], gaps: &mut [Gap], side: &mut Finding) -> u32;
+    fn ldvbi_set_aside(system: u32, counted: u32, pace: u32, both: u32, clock: &LdvbiClock, gaps: &[Gap],
+        numbers: &[Number], left: &mut [Number], count: &mut usize) -> u32;
     fn ldvbi_check_plan(spacing: u32, begin: usize, end: u32, clock: &LdvbiClock, numbers: &[Number],
         captures: &[Capture], plan: &[Stretch], checked: &mut Checked) -> u32;
     fn ldvbi_first_of(numbers: &[Number], number: u32) -> usize;

@@ -1,10 +1,10 @@
 //! Whole sides: whether a capture is whole, and where its numbers and fields don't go on together.
 
 use crate::c::{self, LdvbiClock};
-use crate::judged::rooms;
+use crate::judged::{rooms, NO_NUMBER};
 use crate::lines::{done, number_of, Error};
 use crate::side::{self, Counted, Finding, Sightings, Tally};
-use crate::sides::Side;
+use crate::sides::{Number, Side};
 
 /// How a whole side is judged.
 #[derive(Clone, Copy, Debug, PartialEq, Eq)]
@@ -237,28 +237,46 @@ struct Fields {
     ends: Vec<u32>,
 }
 
+/// The same with the answer for the side, and all its gaps.
+struct JudgedFields {
+    fields: Fields,
+    found: Finding,
+    gaps: Vec<side::Gap>,
+}
+
 impl Side<'_> {
     /// Says whether the capture is whole. The whole side is read and judged, at the pace that is found. An NTSC CLV
     /// disc leaves out numbers: ask [`whole_by_clock`](Side::whole_by_clock) with the clock of
     /// [`find_clock`](Side::find_clock).
     pub fn whole(&self, options: SideOptions) -> Whole {
-        Whole::of(&self.judge_side(options, &PLAIN).0)
+        Whole::of(&self.judge_side(options, &PLAIN).found)
     }
 
     /// The same of a disc that keeps to this clock. [`Error::NoClock`] if there is no such clock.
     pub fn whole_by_clock(&self, options: SideOptions, clock: Clock) -> Result<Whole, Error> {
-        Ok(Whole::of(&self.judge_side(options, &clock.for_c()?).0))
+        Ok(Whole::of(&self.judge_side(options, &clock.for_c()?).found))
     }
 
     /// The places where the numbers and the fields don't go on together, in order. The whole side is read and judged,
     /// at the pace that is found.
     pub fn gaps(&self, options: SideOptions) -> Vec<Gap> {
-        self.judge_side(options, &PLAIN).1.iter().map(Gap::of).collect()
+        self.judge_side(options, &PLAIN).gaps.iter().map(Gap::of).collect()
     }
 
     /// The same of a disc that keeps to this clock. [`Error::NoClock`] if there is no such clock.
     pub fn gaps_by_clock(&self, options: SideOptions, clock: Clock) -> Result<Vec<Gap>, Error> {
-        Ok(self.judge_side(options, &clock.for_c()?).1.iter().map(Gap::of).collect())
+        Ok(self.judge_side(options, &clock.for_c()?).gaps.iter().map(Gap::of).collect())
+    }
+
+    /// The number of each field, at the pace that is found. Those of a run that is [`GapKind::Replaced`] are in doubt if
+    /// on this side more numbers go on with those around it, and it has none of the numbers that are due there.
+    pub fn numbers_left(&self, options: SideOptions) -> Vec<Number> {
+        self.set_aside(options, &PLAIN)
+    }
+
+    /// The same of a disc that keeps to this clock. [`Error::NoClock`] if there is no such clock.
+    pub fn numbers_left_by_clock(&self, options: SideOptions, clock: Clock) -> Result<Vec<Number>, Error> {
+        Ok(self.set_aside(options, &clock.for_c()?))
     }
 
     /// The clock to which the believed numbers keep, at the pace that is found; [`Clock::Plain`] if they tell none, as
@@ -284,17 +302,27 @@ impl Side<'_> {
         Fields { pace, seen, numbers, ends }
     }
 
-    /// Reads and judges the side. Returns the answer for it and all its gaps.
-    fn judge_side(&self, options: SideOptions, clock: &LdvbiClock) -> (Finding, Vec<side::Gap>) {
-        let Fields { pace, seen, numbers, ends } = self.judge_fields(options.counted);
+    /// Reads and judges the side.
+    fn judge_side(&self, options: SideOptions, clock: &LdvbiClock) -> JudgedFields {
+        let fields = self.judge_fields(options.counted);
+        let Fields { pace, seen, numbers, ends } = &fields;
         // Each gap ends at a field of its own, so there is room for all.
         let (mut gaps, mut found) = (vec![NO_GAP; numbers.len()], NOT_FOUND);
         let ((system, counted, both), may_end) = (asked(self, options), u32::from(options.may_end));
         done(c::ldvbi_judge_side_by_clock(
-            system, counted, pace, both, may_end, clock, &seen, &numbers, &ends, &mut gaps, &mut found,
+            system, counted, *pace, both, may_end, clock, seen, numbers, ends, &mut gaps, &mut found,
         ));
         gaps.truncate(found.tally.gaps);
-        (found, gaps)
+        JudgedFields { fields, found, gaps }
+    }
+
+    /// The numbers of the fields, without those that are set aside.
+    fn set_aside(&self, options: SideOptions, clock: &LdvbiClock) -> Vec<Number> {
+        let JudgedFields { fields: Fields { pace, numbers, .. }, gaps, .. } = self.judge_side(options, clock);
+        let (system, counted, both) = asked(self, options);
+        let (mut left, mut count) = (vec![NO_NUMBER; numbers.len()], 0);
+        done(c::ldvbi_set_aside(system, counted, pace, both, clock, &gaps, &numbers, &mut left, &mut count));
+        left.iter().map(Number::of).collect()
     }
 }
 
