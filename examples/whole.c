@@ -1,6 +1,7 @@
 /* Says whether a TBC file has a whole side, or why it hasn't, and where its numbers and fields don't go on together.
  * For each gap it prints the kind, how many fields, and the two fields around it, from 1, with their numbers: pictures,
- * or times as pictures from the disc's beginning. With the word `cut` the capture may end before the disc does.
+ * or times as pictures from the disc's beginning; and each number that is set aside, since it stands in the place of
+ * another. With the word `cut` the capture may end before the disc does.
  * Status 0: it is whole; 1: it isn't; 4: it can't be told; 2: something can't be read, and standard error says what.
  *
  *     cc -o whole whole.c -lldvbi && ./whole side.tbc NTSC 16384 51200
@@ -58,6 +59,12 @@ static void read_side(uint32_t system, uint32_t black, uint32_t white, uint8_t *
     }
 }
 
+/* Prints the numbers that were set aside: what each field shows instead of its own. */
+static void print_aside(const LdvbiNumber *numbers, const LdvbiNumber *left, size_t fields) {
+    for (size_t i = 0; i < fields; i++)
+        if (numbers[i].state != left[i].state) printf("aside: field %zu has %u\n", i + 1, (unsigned)numbers[i].number);
+}
+
 /* Prints the answer and the gaps that there was room for. Returns the program's status. */
 static int print(const LdvbiSide *found, const LdvbiGap *gaps) {
     int is_whole = found->verdict == LDVBI_WHOLE, is_told = found->verdict != LDVBI_CANNOT_TELL;
@@ -86,7 +93,8 @@ int main(int count, char **words) {
     LdvbiSightings *seen = (LdvbiSightings *)calloc(fields, sizeof *seen);
     LdvbiNumber *numbers = (LdvbiNumber *)calloc(fields, sizeof *numbers);
     uint32_t *ends = (uint32_t *)calloc(fields, sizeof *ends);
-    require(side != MAP_FAILED && read && seen && numbers && ends, "no field of the file can be mapped");
+    LdvbiNumber *left = (LdvbiNumber *)calloc(fields, sizeof *left);
+    require(side != MAP_FAILED && read && seen && numbers && left && ends, "no field of the file can be mapped");
     madvise(side, fields * bytes, MADV_RANDOM); /* few pages of a field are read: read none ahead */
     read_side(system, black, white, (uint8_t *)side, fields, read);
     check(ldvbi_judge_ends(read, fields, ends, fields));
@@ -100,6 +108,9 @@ int main(int count, char **words) {
         check(ldvbi_find_clock(system, counted, pace, LDVBI_FIND_BOTH, numbers, fields, &clock));
         check(ldvbi_judge_side_by_clock(system, counted, pace, LDVBI_FIND_BOTH, (uint32_t)may_end, &clock, seen,
                                         fields, numbers, fields, ends, fields, gaps, ROOM, &found));
+        size_t told = found.tally.gaps < ROOM ? found.tally.gaps : (size_t)ROOM, aside;
+        check(ldvbi_set_aside(system, counted, pace, LDVBI_FIND_BOTH, &clock, gaps, told, numbers, fields, left,
+                              fields, &aside));
         if (clock.kind != LDVBI_PLAIN || system != LDVBI_NTSC || counted != LDVBI_TIMES) continue;
         /* a few minutes don't show enough of drop-frame: if no clock is found, what is whole by that is whole */
         clock.kind = LDVBI_DROP_FRAME;
@@ -107,5 +118,7 @@ int main(int count, char **words) {
                                         fields, numbers, fields, ends, fields, NULL, 0, &dropped));
         if (dropped.verdict == LDVBI_WHOLE) found = dropped;
     }
-    return print(&found, gaps);
+    int status = print(&found, gaps);
+    print_aside(numbers, left, fields);
+    return status;
 }

@@ -721,6 +721,23 @@ LDVBI_RESULT LDVBI_POINTER(6) LDVBI_POINTER(15) uint32_t ldvbi_judge_side_by_clo
     size_t seen_count, const LdvbiNumber *numbers, size_t number_count, const uint32_t *ends, size_t end_count,
     LdvbiGap *gaps, size_t gap_room, LdvbiSide *side);
 
+/* Sets aside numbers that stand in the place of others: words of which the same bits are misread, by a scratch that
+ * stands still while the disc turns, show numbers that go on with each other, and are believed. `gaps` are those that
+ * ldvbi_judge_side_by_clock told of these numbers, asked with the same system, counted, pace, both and clock
+ * (ldvbi_judge_side judges by LDVBI_PLAIN), or the first of them. `left` gets the numbers, into another array that is as
+ * long: as they are, but LDVBI_DOUBTFUL where one is LDVBI_BELIEVED in a run between two neighbouring gaps of
+ * LDVBI_REPLACED, and three things hold. More believed numbers of the side are in a row with the number before the run
+ * than with its first one, and more with the number after it than with its last one: two are in a row if they go on, on
+ * film to within two fields. The run has none of the numbers that are due in its fields: a player that skips a few
+ * pictures, and goes back by as many, shows most. And at neither gap the number stays. `*count` is how many were set
+ * aside. What was said of the side stands.
+ *
+ * This is proved: just these are set aside, and a number that is left believed was believed. Each run takes four passes
+ * over the numbers. */
+LDVBI_RESULT LDVBI_POINTER(5) LDVBI_POINTER(12) uint32_t ldvbi_set_aside(uint32_t system, uint32_t counted,
+    uint32_t pace, uint32_t both, const LdvbiClock *clock, const LdvbiGap *gaps, size_t gap_count,
+    const LdvbiNumber *numbers, size_t number_count, LdvbiNumber *left, size_t left_count, size_t *count);
+
 /* ---- The plan of a file that is made from several captures of a disc
  *
  * The fields of all captures are counted through from 0, one capture after the other; `numbers` has what ldvbi_judge

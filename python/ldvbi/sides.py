@@ -129,8 +129,9 @@ class JudgedSide(NamedTuple):
     number, `swap` is the first field of the reason `is_swapped`, and `blank` that of `is_blank`. Each is counted from 0,
     and None if there is none. `padded` is how many fields are padding. `pace` is the one that the side was judged by,
     `on_both` says whether numbers were taken to be on both fields of a picture, and `numbers` is what `judge` answers at
-    this pace; but the numbers of a run that is `replaced` are doubtful if on this side more numbers go on with those
-    around it, and it has none of the numbers that are due there. `clock` is the one that the side was judged by."""
+    this pace, but for those that are set aside: the numbers of a `replaced` run are doubtful if on this side more
+    numbers go on with those around it, and it has none of the numbers that are due there. `aside` are their fields,
+    counted from 0. `clock` is the one that the side was judged by."""
     verdict: Verdict
     reasons: Reason
     first: Optional[int]
@@ -144,6 +145,7 @@ class JudgedSide(NamedTuple):
     clock: Clock
     padded: int
     blank: Optional[int]
+    aside: Tuple[int, ...] = ()
 
 
 _PACKED_GAP = struct.Struct("@NNQQIII0Q")  # LdvbiGap
@@ -196,10 +198,8 @@ def judge_side(readings: Any, system: AnySystem, counted: Union[Counted, str] = 
         check(call(*asked, fields.seen, count, fields.numbers, count, fields.ends, count, gaps, room, side))
         told = _PACKED_SIDE.unpack(side)
         is_told, room = told[0] <= room, told[0]
-    told_gaps = _gaps_of(gaps, told[0])
-    if any(gap.kind == GapKind.replaced for gap in told_gaps):
-        fields = fields._replace(numbers=_left(fields, gaps, told[0], *packed))
-    return _side_of(told, told_gaps, fields, _clock_of(*packed))
+    judged = _side_of(told, _gaps_of(gaps, told[0]), fields, _clock_of(*packed))
+    return _without_aside(judged, fields, gaps, *packed)
 
 
 def find_clock(readings: Any, system: AnySystem, counted: Union[Counted, str] = Counted.times,
@@ -271,12 +271,16 @@ def _clock_of(packed=bytes(PACKED_CLOCK.size)):
     return Clock(_CLOCKS.get(kind, kind), period, phase)
 
 
-def _left(fields, gaps, count, clock=bytes(PACKED_CLOCK.size)):
-    """The numbers of the fields, in doubt where they are set aside, of these gaps as the library wrote them."""
-    left, aside = ctypes.create_string_buffer(PACKED_NUMBER.size * fields.length), ctypes.c_size_t()
-    check(later_call("ldvbi_set_aside")(*fields.asked, fields.pace, fields.on_both, clock, gaps, count, fields.numbers,
-                                        fields.length, left, fields.length, ctypes.byref(aside)))
-    return left
+def _without_aside(judged, fields, gaps, clock=bytes(PACKED_CLOCK.size)):
+    """The answer, without the numbers that are set aside, of these gaps as the library wrote them."""
+    if all(gap.kind != GapKind.replaced for gap in judged.gaps):
+        return judged
+    left, count = ctypes.create_string_buffer(PACKED_NUMBER.size * fields.length), ctypes.c_size_t()
+    check(later_call("ldvbi_set_aside")(*fields.asked, fields.pace, fields.on_both, clock, gaps, len(judged.gaps),
+                                        fields.numbers, fields.length, left, fields.length, ctypes.byref(count)))
+    numbers = numbers_of(left)
+    aside = (field for field, pair in enumerate(zip(judged.numbers, numbers)) if pair[0] != pair[1])
+    return judged._replace(numbers=numbers, aside=tuple(aside)) if count.value else judged
 
 
 def _gaps_of(packed, count):

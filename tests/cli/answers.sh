@@ -31,9 +31,9 @@ finds() {
 searches() {
     case "$1 $4" in
         'python whole to lead-out') says python3 "$top/examples/whole.py" "$2.tbc" $3 ;;
-        'python whole' | 'python gaps') says python3 "$top/examples/whole.py" "$2.tbc" $3 cut ;;
+        'python whole' | 'python gaps' | 'python aside') says python3 "$top/examples/whole.py" "$2.tbc" $3 cut ;;
         *' whole to lead-out') says ./whole_$1 "$2.tbc" $3 ;;
-        *' whole' | *' gaps') says ./whole_$1 "$2.tbc" $3 cut ;;
+        *' whole' | *' gaps' | *' aside') says ./whole_$1 "$2.tbc" $3 cut ;;
         *' stops') finds sh -c "./stops_$1 $3 < $2.tbc" ;;
         python*) finds python3 "$top/examples/seek.py" "$2.tbc" $3 $4 ;;
         *) finds ./seek_$1 "$2.tbc" $3 $4 ;;
@@ -45,6 +45,7 @@ by_side() {
     command="python3 $top/python/ldvbi-side $1.tbc $options"
     case $question in
         stops) finds sh -c "$command --json | jq -r '.stops[] | \"field \(.field)\"'" ;;
+        aside) finds sh -c "$command --json | jq -r '.doubtful[] | \"field \(.field)\"'" ;;
         whole) says $command --open-end ;;
         whole*) says $command ;;
         *) finds $command --seek "$question" ;;
@@ -62,9 +63,9 @@ plays_in() {
 }
 asks c 'searches c'
 asks c++ 'searches cpp'
-asks python 'searches python' '[0-9cwg].*'
+asks python 'searches python' '[0-9cwga].*'
 for language in c cpp python; do
     asks player "plays_in $language" '[0-9c].*'
 done
-asks side by_side '[0-9csw].*'
+asks side by_side '[0-9cswa].*'
 finish

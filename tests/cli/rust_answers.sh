@@ -15,7 +15,7 @@ in_rust() {
             awk '/ true$/ && $2 != "bytes" { fields = fields " " $1 + 1 } END { if (fields) print "field" fields }' \
                 out > answer ;;
         'whole to lead-out') says ./whole "$1.tbc" $2 ;;
-        whole | gaps) says ./whole "$1.tbc" $2 cut ;;
+        whole | gaps | aside) says ./whole "$1.tbc" $2 cut ;;
         chapter*) plays '\( picture [0-9]*\)\?' ./player "$1.tbc" $3 ;;
         *:*) plays '\( picture [0-9]*\)\?' ./player "$1.tbc" search $3 ;;
         *) plays "\( picture $3\)\?" ./player "$1.tbc" search $3 ;;

@@ -39,6 +39,7 @@ says() {
     gap='^\([a-z]*\) \([0-9]*\): field \([0-9]*\) has [0-9]*, field \([0-9]*\) has [0-9]*$'
     case $question in
         whole*) sed -n '1s/^whole: \(yes\|no\)\b.*/\1/p' out > answer ;;
+        aside) sed -n 's/^aside: field \([0-9]*\) .*/\1/p' out | paste -s -d ' ' | sed -n 's/^[0-9]/field &/p' > answer ;;
         *) sed -n "s/$gap/\1 \3 \4 \2/p" out | paste -s -d , | sed -n 's/,/, /g; /./p' > answer ;;
     esac
 }
@@ -76,7 +77,7 @@ is_answered() {
         *) [ "$(cat answer)" = "$2" ]; return ;;
     esac
     case "$question $status" in
-        'stops 0' | 'gaps '[014] | 'whole'*' '[04] | *[0-9]' 1') ;;
+        'stops 0' | 'gaps '[014] | 'aside '[014] | 'whole'*' '[04] | *[0-9]' 1') ;;
         *' 2') [ -s err ] ;;
         *) false ;;
     esac

@@ -6,7 +6,7 @@ few pictures, and goes back by as many, shows most."""
 
 from typing import Any, Dict, Iterable, List, NamedTuple, Tuple
 
-from ldvbi import Gap, GapKind, JudgedSide, State
+from ldvbi import Gap, GapKind, JudgedSide
 from .paces import Pace
 from .readings import Reading
 
@@ -36,8 +36,7 @@ def pairs_of(gaps: Iterable[Gap]) -> List[Tuple[Gap, Gap]]:
 
 def set_aside(judged: JudgedSide) -> List[Detour]:
     """The detours whose numbers the library set aside."""
-    return [detour_of(one, other) for one, other in pairs_of(judged.gaps)
-            if one.kind == GapKind.replaced and judged.numbers[one.before].state != State.believed]
+    return [detour_of(one, other) for one, other in pairs_of(judged.gaps) if one.before in judged.aside]
 
 
 def without_rows(readings: List[Reading], detours: List[Detour], judged: JudgedSide, pace: Pace) -> List[Reading]:

@@ -36,6 +36,13 @@ fn run() -> Result<ExitCode, Box<dyn Error>> {
         let kind = format!("{kind:?}").to_lowercase();
         println!("{kind} {fields}: field {} has {from}, field {} has {to}", after + 1, before + 1);
     }
+    // What these fields show stands in the place of other numbers.
+    let left = side.numbers_left_by_clock(options, clock)?;
+    for (field, (shown, left)) in side.numbers(options.counted).iter().zip(left).enumerate() {
+        if *shown != left {
+            println!("aside: field {} has {}", field + 1, shown.number.unwrap_or(0));
+        }
+    }
     Ok(ExitCode::from(status))
 }
 
