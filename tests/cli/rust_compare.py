@@ -211,7 +211,7 @@ CALLS = {name: (returned, re.findall(r"(const )?(\w+) (\*?)(\w+)", parameters)) 
          re.findall(r"^(?:LDVBI_[^ ]+ )*(uint32_t|size_t) (ldvbi_\w+)\(([^()]*)\);",
                     (TOP / "include/ldvbi.h").read_text(encoding="utf-8"), re.M)}
 ITEMS = {"void": 1, "uint32_t": 4, "LdvbiNumber": 8, "LdvbiClock": 12, "LdvbiErased": 16, "LdvbiCapture": 16,
-         "LdvbiSightings": 20, "LdvbiFieldReadings": 24, "LdvbiStretch": 32}
+         "LdvbiSightings": 20, "LdvbiFieldReadings": 24, "LdvbiStretch": 32, "LdvbiGap": 48}
 # What there is after each pointer to something that is written
 PATTERN = b"\xa5" * 2 ** 13
 
@@ -288,6 +288,16 @@ def compare_judges(call):
     yield call("ldvbi_judge_side_by_clock", given)
     yield call("ldvbi_find_clock", given, counted=2, numbers=random.choice([numbers, skipping(given["clock"])]))
     yield call("ldvbi_check_plan", given, **random_plan(numbers))
+    yield call("ldvbi_set_aside", given, gaps=random_gaps(numbers))
+
+
+def random_gaps(numbers):
+    """Gaps from some of these numbers to others, most of which are of numbers in the place of others."""
+    shown, gaps = [number for number, state in struct.iter_unpack("<II", numbers) if state == 1] or [5], b""
+    for _ in range(random.choice([0, 1, 2, 2, 4, 9])):
+        places = sorted(random.choices([*range(len(numbers) // 8 + 1), rarely([2 ** 64 - 1], 0)], k=2))
+        gaps += struct.pack("<QQQQIIII", *places, 0, 0, *random.choices(shown, k=2), random.choice([1, 7, 8, 8, 8]), 0)
+    return gaps
 
 
 def random_clock():

@@ -290,6 +290,25 @@ def test_side(setting, text, gaps, wanted):
         expect(found == (wanted, gaps), setting, text, "room for", said)
 
 
+def test_aside(setting, text, gaps, wanted=""):
+    """Which fields have their number set aside, and how many, by all gaps; without the last one of two, none. The
+    others keep theirs, and what is handed over stays."""
+    *words, clock = setting.split(":")
+    fields, gaps = spread(text, judged_field, NO_FIELD), [GAP.pack(*gap_of(gap)) for gap in gaps.split(",")]
+    numbers, size = b"".join(field[1] for field in fields), NUMBER.size * len(fields)
+    for count in range(len(gaps) + 1):
+        told, aside = b"".join(gaps[:count]), [*map(int, wanted.split())] * (count >= 2)
+        left, found, by = FOUND.put(b"\xAA" * size), ANSWER.put(8 * b"\xAA"), KEPT.put(clock_of(clock))
+        status = call("set_aside")(*named(*words), by, GAPS.put(told) if told else None, count, PARTS[1].put(numbers),
+                                   len(fields), left, len(fields), found)
+        made = [(number, DOUBTFUL if field in aside else state)
+                for field, (number, state) in enumerate(NUMBER.iter_unpack(numbers))]
+        written = [*NUMBER.iter_unpack(FOUND.get(size))]
+        expect((status, written, ANSWER.get(8)) == (0, made, struct.pack("Q", len(aside))), setting, text, count,
+               written)
+        expect(PARTS[1].get(size) + GAPS.get(len(told)) == numbers + told, setting, text, "has changed")
+
+
 def test_clock(setting, text, wanted):
     """The clock of believed numbers, whatever stands there before the call. The numbers stay as they are."""
     asked, numbers = named(*setting.split(":")), b"".join(field[1] for field in spread(text, judged_field, NO_FIELD))
@@ -304,7 +323,7 @@ def test_clock(setting, text, wanted):
 def main():
     rows = [(kind, setting, row) for name in ("judged.txt", "whole.txt") for kind, settings, rows in tables(name)
             for setting in settings for row in rows]
-    expect(len(rows) == 655, "there are more rows, or fewer:", len(rows))
+    expect(len(rows) == 678, "there are more rows, or fewer:", len(rows))
     for kind, setting, row in rows:
         globals()["test_" + kind](setting, *row)
     finish()

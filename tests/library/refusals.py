@@ -60,7 +60,7 @@ def answered(name, words, is_open, is_listed=True):
     stands for those of no bytes."""
     arguments, taken = [], parameters(name)
     for (key, kind, is_pointer), (after, after_kind, _) in zip(taken, [*taken[1:], ("", "", False)]):
-        size = {"void": 1, "uint32_t": 4}.get(kind) or is_pointer and layout(kind).size
+        size = {"void": 1, "uint32_t": 4, "size_t": 8}.get(kind) or is_pointer and layout(kind).size
         if not is_pointer:
             arguments.append(words[key])
         elif isinstance(words.get(key), bytes) and (is_listed or key == "clock"):
@@ -149,6 +149,11 @@ def test_judges():
         for count in (0, 2):
             test_call("find_clock", {**right, "pace": min(pace, 2), "both": MOST, "number_count": count}, **no_found)
             expect(OPEN["clock"].get(12) == bytes(12), "the clock of a side without numbers")
+        for count in (0, 2):
+            test_call("set_aside", {**right, "pace": min(pace, 2), "both": MOST, "clock": bytes(12), "gap_count": 1,
+                                    "number_count": count, "left_count": count}, **no_found,
+                      BAD_LENGTH=[{"number_count": one, "left_count": other} for one in sizes for other in sizes
+                                  if one != other and min(one, other) < 5])
         test_call("seek", {**right, "black": 5, "white": 6, "length": 0, "number": 7})
         expect(OPEN["sought"].get(56) == bytes(56), "what was sought in a side without fields")
     for system in LINES:

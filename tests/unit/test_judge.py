@@ -130,6 +130,14 @@ def test_what_stands_beside():
     found = asked(ldvbi.judge_side, "1..30 201..210 41..60 O")
     assert (found.verdict, found.reasons) == (Verdict.cannot_tell, Reason.is_open)
     assert found.gaps == (Gap(58, 60, 0, 0, 30, 201, GapKind.replaced), Gap(78, 80, 0, 0, 210, 41, GapKind.replaced))
+    # these are set aside, unless as many numbers go on with them as with those around
+    assert found.aside == (60, 62, 64, 66, 68, 70, 72, 74, 76, 78)
+    shown = [Number(number, State.doubtful if field in found.aside else state)
+             for field, (number, state) in enumerate(asked(ldvbi.judge, "1..30 201..210 41..60 O"))]
+    assert found.numbers == shown
+    found = asked(ldvbi.judge_side, "1..30 201..250 81..100 O")
+    assert (len(found.gaps), found.aside) == (2, ())
+    assert found.numbers == asked(ldvbi.judge, "1..30 201..250 81..100 O")
     found = asked(ldvbi.judge_side, "L Bx9 O")
     assert (found.first, found.last, found.swap, found.gaps, found.reasons) == (None, None, None, (), Reason.no_numbers)
 

@@ -235,7 +235,8 @@ def test_what_is_judged():
 def test_each_call(monkeypatch):
     """A fault of a call of the library, which none has, is raised: the call fails where it is to write something."""
     one = made("1..3 -/#79999/- B", side)
-    packed = b"".join(ldvbi.PACKED_FIELD.pack(*sum(map(tuple, field), ())) for field in one.readings)
+    packed, away = (b"".join(ldvbi.PACKED_FIELD.pack(*sum(map(tuple, field), ())) for field in shown.readings)
+                    for shown in (one, made("1..30 201..210 41..60", side)))
 
     def fields(**more):
         return Stream(FIELD, *NTSC, recover=True, **more)
@@ -254,7 +255,7 @@ def test_each_call(monkeypatch):
             ("find_clock", find_clock, packed, "PAL"),
             ("find_clock", functools.partial(judge_side, clock="find"), packed, "PAL"),
             ("judge_side_by_clock", functools.partial(judge_side, clock=(1, 0, 0)), packed, "PAL"),
-            ("nearest", nearest, LINE, *NTSC), ("seek", lambda: seek(fields(), 1)),
+            ("set_aside", judge_side, away, "PAL"), ("nearest", nearest, LINE, *NTSC), ("seek", lambda: seek(fields(), 1)),
             ("seek_chapter", lambda: seek_chapter(fields(), 1)), ("next_stop", lambda: next_stop(fields())),
             ("recover_fields", lambda: list(fields())), ("recovered_record", lambda: list(fields().records())),
             ("recover_fields_without", lambda: list(fields(dropouts=[(0, 17, 3, 4)])))):
