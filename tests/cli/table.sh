@@ -31,6 +31,9 @@ draws_sides() {
             PAL) draw_side "$side" 25 PAL && settles "$side" $on_clv ;;
         esac || exit 1
     done < sides
+    # The library reads no metadata, and of this side one isFirstField is wrong.
+    fields=$(seq 212 | awk -v ORS=, '{ print "{\"isFirstField\":" (NR % 2 == (NR != 81) ? "true" : "false") "}" }')
+    sed -i "s/}}\$/},\"fields\":[${fields%,}]}/" turned.tbc.json
 }
 
 # says COMMAND..: leaves as the answer what an example as examples/whole.c says: whether the side is whole, or its gaps
@@ -39,7 +42,7 @@ says() {
     gap='^\([a-z]*\) \([0-9]*\): field \([0-9]*\) has [0-9]*, field \([0-9]*\) has [0-9]*$'
     case $question in
         whole*) sed -n '1s/^whole: \(yes\|no\)\b.*/\1/p' out > answer ;;
-        aside) sed -n 's/^aside: field \([0-9]*\) .*/\1/p' out | paste -s -d ' ' | sed -n 's/^[0-9]/field &/p' > answer ;;
+        aside) sed -n 's/^aside: \(field [0-9]*\) .*/\1/p' out | paste -s -d ' ' | sed 's/ field//g; /./!d' > answer ;;
         *) sed -n "s/$gap/\1 \3 \4 \2/p" out | paste -s -d , | sed -n 's/,/, /g; /./p' > answer ;;
     esac
 }

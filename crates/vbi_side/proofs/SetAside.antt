@@ -1,21 +1,19 @@
 -- How numbers are set aside: row by row, field by field, and run by run.
-use Rattle.std.proofs.Common.{◌≡◌, ◌≢◌, ℕ, zero, suc, ◌+◌, ◌<◌, ◌≤◌, Bool, true, false, List, length, get_or}
+use Rattle.std.proofs.Common.{◌≡◌, ℕ, zero, suc, ◌+◌, ◌<◌, ◌≤◌, Bool, true, false, List, length, get_or}
 use Rattle.std.proofs.Common.{refl, sym, ap, subst, arith, ◌∙◌, inl, inr}
-use Rattle.std.specs.Prelude.{Option, Some, None, slice_get, slice_set, ◌&&◌, ◌||◌, ◌==◌, ◌⊎◌, if◌then◌else◌, nat_le}
+use Rattle.std.specs.Prelude.{Option, Some, None, slice_get, ◌||◌, ◌==◌, if◌then◌else◌}
 use Rattle.std.proofs.lemmas.Bool.{and_parts, and_from, or_cases, or_left, or_right, leb-true, le-leb}
 use Rattle.std.proofs.lemmas.Bool.{eqb-true, eq-eqb, false≢true}
 use Rattle.std.proofs.lemmas.Bool.Decides.{eqb_tells}
-use Rattle.std.proofs.Math.Dec.{eqb}
-use Rattle.std.proofs.lemmas.List.{length-set, get_or-set_other}
-use Rattle.std.proofs.lemmas.Grind.{get_or-set_at}
-use Rattle.std.proofs.lemmas.Option.{slice_get-get_or, slice_get_within, get_or_from_slice_get, none-some, same_Some}
+use Rattle.std.proofs.lemmas.Option.{slice_get-get_or, slice_get_within, none-some, same_Some}
 use Rattle.vbi_side.specs.declared.clock.Clock.{Clock}
 use Rattle.vbi_side.specs.declared.gap.Gap.{Gap}
 use Rattle.vbi_side.specs.declared.number.Number.{Number}
 use Rattle.vbi_side.specs.declared.pace.Pace.{Pace}
 use Rattle.vbi_side.specs.Gaps.{gap_made, replaced}
 use Rattle.vbi_side.specs.Numbers.{nothing, believed, IsMarked}
-use Rattle.vbi_side.specs.Aside.{has_of_row, row_weight, begun, run_before, is_of_run, is_aside, left_of, AreLeft, AreAside, is_set_aside}
+use Rattle.vbi_side.specs.Aside.{has_of_row, row_weight, is_set_aside, begun, run_before, is_of_run, is_aside}
+use Rattle.vbi_side.specs.Aside.{left_of, AreLeft, AreAside}
 
 -- ---- rows
 
@@ -44,41 +42,6 @@ pub record Changing (make : ℕ → Number → Number) (old new : List Number) (
   pub count : length new ≡ length old
   pub done : (i : ℕ) → i < field → get_or new i nothing ≡ make i (get_or old i nothing)
   pub rest : (i : ℕ) → field ≤ i → get_or new i nothing ≡ get_or old i nothing
-
-pub change_begins : (make : ℕ → Number → Number) (old : List Number) → Changing make old old 0
-change_begins make old = record {
-  count = refl;
-  done = λ i less. absurd (omega (arith, less));
-  rest = λ i less. refl;
-}
-
-pub change_more : (make : ℕ → Number → Number) (old new : List Number) (field : ℕ) → field < length new
-    → Changing make old new field
-    → Changing make old (slice_set new field (make field (get_or new field nothing))) (field + 1)
-change_more make old new field inside before = record {
-  count = length-set new field one ∙ before.count;
-  done = λ i less. elim (eqb_tells i field) [
-    | inl (t, e) ↦ get_or-set_at new field i one nothing e inside
-        ∙ ap (make field) (before.rest field (omega arith))
-        ∙ subst (λ k. make field (get_or old field nothing) ≡ make k (get_or old k nothing)) (sym e) refl
-    | inr (f, other) ↦ get_or-set_other new field i one nothing other ∙ before.done i (omega (arith, less, other))
-  ];
-  rest = λ i past.
-      let other : i ≢ field = omega (arith, past) in
-      get_or-set_other new field i one nothing other ∙ before.rest i (omega (arith, past));
-}
-  where
-    one : Number
-    one = make field (get_or new field nothing)
-
-pub change_ends : (make : ℕ → Number → Number) (old new : List Number) (field : ℕ) → length new ≤ field
-    → Changing make old new field → (i : ℕ) (answer : Number) → slice_get old i ≡ Some answer
-    → slice_get new i ≡ Some (make i answer)
-change_ends make old new field past all i answer at =
-    let within : i < length old = slice_get_within old i answer at in
-    slice_get-get_or new i nothing (omega (arith, within, all.count))
-    ∙ ap Some (all.done i (omega (arith, within, past, all.count))
-    ∙ ap (make i) (get_or_from_slice_get old i answer nothing at))
 
 -- ---- runs
 

@@ -3,7 +3,7 @@
 mod drawn;
 
 use drawn::{draw, levels, picture, time};
-use ldvbi::{Clock, Counted, Error, Gap, GapKind, Reason, Side, SideOptions, System, Verdict, Whole};
+use ldvbi::{Clock, Counted, Error, Gap, GapKind, Number, Reason, Side, SideOptions, System, Verdict, Whole};
 
 type Rows = Vec<[u32; 3]>;
 
@@ -159,6 +159,23 @@ fn film_and_numbers_on_both_fields() {
         let (whole, gaps) = judged(System::Ntsc, &rows, options);
         assert_eq!((whole.verdict, whole.tally.held, whole.tally.open_gaps), (verdict, held, replaced));
         assert_eq!((gaps.len() as u64, whole.tally.gaps), (held + replaced, gaps.len()));
+    }
+}
+
+#[test]
+fn numbers_in_the_place_of_others() {
+    // Those of pictures 31 to 40, with which fewer numbers go on than with the others; and of 31 to 80, with which as
+    // many do.
+    for (system, last, after, wanted) in SYSTEMS.into_iter().flat_map(|on| [(on, 210, 41, 10), (on, 250, 81, 0)]) {
+        let bytes = draw(system, &[pictures(1, 30), pictures(201, last), pictures(after, after + 19)].concat());
+        let (side, options) = (Side::new(&bytes, system, levels()).unwrap(), cut_off(Counted::Pictures));
+        let kinds: Vec<_> = side.gaps(options).iter().map(|gap| gap.kind).collect();
+        assert_eq!(kinds, [GapKind::Replaced; 2]);
+        let mut numbers = side.numbers(Counted::Pictures);
+        (0..wanted).for_each(|i| numbers[60 + 2 * i] = Number::Doubtful(201 + i as u32));
+        assert_eq!(side.numbers_left(options), numbers);
+        assert_eq!(side.numbers_left_by_clock(options, Clock::Plain), Ok(numbers));
+        assert!(side.numbers_left_by_clock(options, Clock::OneIn { period: 5, phase: 5 }).is_err());
     }
 }
 

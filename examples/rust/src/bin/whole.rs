@@ -3,7 +3,7 @@
 //! show. With the word `cut` the capture may end before the disc does. Fields count from 1. Status 0: it is whole;
 //! 1: it isn't; 4: it can't be told; 2: something can't be read, and standard error says what.
 //!     cargo run --bin whole -- side.tbc NTSC 16384 51200
-use ldvbi::{Clock, Counted, Levels, Reason, Side, SideOptions, System, Verdict};
+use ldvbi::{Clock, Counted, Levels, Number, Reason, Side, SideOptions, System, Verdict};
 use std::{error::Error, process::ExitCode};
 
 fn run() -> Result<ExitCode, Box<dyn Error>> {
@@ -39,8 +39,8 @@ fn run() -> Result<ExitCode, Box<dyn Error>> {
     // What these fields show stands in the place of other numbers.
     let left = side.numbers_left_by_clock(options, clock)?;
     for (field, (shown, left)) in side.numbers(options.counted).iter().zip(left).enumerate() {
-        if *shown != left {
-            println!("aside: field {} has {}", field + 1, shown.number.unwrap_or(0));
+        if let (Number::Believed(number), Number::Doubtful(_)) = (shown, left) {
+            println!("aside: field {} has {number}", field + 1);
         }
     }
     Ok(ExitCode::from(status))

@@ -1,6 +1,6 @@
-use Rattle.std.proofs.Common.{ap, ◌∙◌, length}
+use Rattle.std.proofs.Common.{ap, ◌∙◌}
 use Rattle.std.specs.Prelude.{Some}
-use Rattle.vbi_side.specs.Aside.{is_aside, left_of}
+use Rattle.vbi_side.specs.Aside.{left_of}
 use Rattle.vbi_side.specs.Numbers.{believed}
 use Rattle.vbi_side.proofs.SetAside.{left_sound, aside_run}
 use Rattle.vbi_side.proofs.aside_laws.aside_is.Goals as goal
