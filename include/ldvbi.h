@@ -724,8 +724,8 @@ LDVBI_RESULT LDVBI_POINTER(6) LDVBI_POINTER(15) uint32_t ldvbi_judge_side_by_clo
 /* Sets aside numbers that stand in the place of others: words of which the same bits are misread, by a scratch that
  * stands still while the disc turns, show numbers that go on with each other, and are believed. `gaps` are those that
  * ldvbi_judge_side_by_clock told of these numbers, asked with the same system, counted, pace, both and clock
- * (ldvbi_judge_side judges by LDVBI_PLAIN), or the first of them. `left` gets the numbers, into another array that is as
- * long: as they are, but LDVBI_DOUBTFUL where one is LDVBI_BELIEVED in a run between two neighbouring gaps of
+ * (ldvbi_judge_side judges by LDVBI_PLAIN), or the first of them. `left` gets the numbers, in another array as long: as
+ * they are, but LDVBI_DOUBTFUL where one is LDVBI_BELIEVED in a run between two neighbouring gaps of
  * LDVBI_REPLACED, and three things hold. More believed numbers of the side are in a row with the number before the run
  * than with its first one, and more with the number after it than with its last one: two are in a row if they go on, on
  * film to within two fields. The run has none of the numbers that are due in its fields: a player that skips a few

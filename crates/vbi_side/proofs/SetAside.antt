@@ -51,7 +51,6 @@ gap_at gaps k = get_or gaps k (gap_made 0 0 0 0 0 0 0)
 
 pub run_more : (gaps : List Gap) (k : ℕ) → k < length gaps
     → begun (run_before gaps k) (Some (gap_at gaps k)) ≡ run_before gaps (k + 1)
-unfolding run_before
 run_more gaps k inside =
     let next : suc k ≡ k + 1 = omega arith in
     let at : slice_get gaps k ≡ Some (gap_at gaps k) = slice_get-get_or gaps k (gap_made 0 0 0 0 0 0 0) inside in
@@ -120,7 +119,6 @@ begun_is (Some one) second a e = absurd (none-some a e)
 
 run_is : (gaps : List Gap) (k : ℕ) (a : Gap) → run_before gaps k ≡ Some a
     → (j : ℕ) × (k ≡ suc j) × (slice_get gaps j ≡ Some a) × (a.kind ≡ replaced)
-unfolding run_before
 run_is gaps zero a e = absurd (none-some a e)
 run_is gaps (suc j) a e =
     let is = begun_is (run_before gaps j) (slice_get gaps j) a e in
@@ -153,8 +151,7 @@ aside_run clock pace slack gaps numbers i (suc k) e = elim (or_cases _ _ e) [
         × (is_set_aside clock pace slack numbers a b ≡ true) × (a.before ≤ i) × (i ≤ b.after)
         → (j : ℕ) × (a b : Gap) × AreAside clock pace slack gaps numbers j a b × (a.before ≤ i) × (i ≤ b.after)
     ended (a, b, first, second, kind, aside, from, to) =
-        let begins = run_is gaps k a first in
-        (
+        let begins = run_is gaps k a first in (
           begins.0,
           a,
           b,
@@ -185,7 +182,7 @@ stays_aside clock pace slack gaps numbers i k (suc n) less e = elim (eqb_tells k
 pub all_aside : (clock : Clock) (pace : Pace) (slack : ℕ) (gaps : List Gap) (numbers : List Number) (i j : ℕ)
     (a b : Gap) → run_before gaps j ≡ None → AreAside clock pace slack gaps numbers j a b → a.before ≤ i
     → i ≤ b.after → is_aside clock pace slack gaps numbers i (length gaps) ≡ true
-unfolding run_before is_aside
+unfolding is_aside
 all_aside clock pace slack gaps numbers i j a b none run from to =
     stays_aside clock pace slack gaps numbers i (suc (suc j)) (length gaps)
     (omega (arith, slice_get_within gaps (suc j) b run.second)) (or_right _ _ here)

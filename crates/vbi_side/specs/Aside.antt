@@ -1,6 +1,6 @@
 -- Numbers that are set aside: those of a run that replaces what is due there, if the rows of numbers around weigh more.
-use Rattle.std.specs.Prelude.{◌≡◌, ℕ, zero, suc, ◌+◌, ◌*◌, ◌-◌, ◌/◌, ◌==◌, nat_le, nat_lt, not, ◌&&◌, ◌||◌, Bool, true, false}
-use Rattle.std.specs.Prelude.{if◌then◌else◌, List, [], ◌∷◌, length, slice_get, Option, Some, None}
+use Rattle.std.specs.Prelude.{◌≡◌, ℕ, zero, suc, ◌+◌, ◌*◌, ◌-◌, ◌/◌, ◌==◌, nat_le, nat_lt, not, ◌&&◌, ◌||◌}
+use Rattle.std.specs.Prelude.{Bool, true, false, if◌then◌else◌, List, [], ◌∷◌, length, slice_get, Option, Some, None}
 use Rattle.vbi_side.specs.declared.clock.Clock.{Clock}
 use Rattle.vbi_side.specs.declared.gap.Gap.{Gap}
 use Rattle.vbi_side.specs.declared.number.Number.{Number}
@@ -70,7 +70,7 @@ begun None (Some gap) = if gap.kind == replaced then Some gap else None
 begun _ _ = None
 
 -- the gap before gap k, if it is the first one of such a run: such gaps are taken in pairs, from the first one on
-unfoldable pub run_before : List Gap → ℕ → Option Gap
+abbrev pub run_before : List Gap → ℕ → Option Gap
 run_before gaps zero = None
 run_before gaps (suc k) = begun (run_before gaps k) (slice_get gaps k)
 
@@ -94,10 +94,10 @@ left_of aside answer = if aside && (answer.state == 1) then record answer { stat
 
 -- the answers are left: those of the runs between these gaps that are set aside are in doubt, all others as they were
 pub record AreLeft (clock : Clock) (pace : Pace) (slack : ℕ) (gaps : List Gap) (answers left : List Number) : Type 0
-    where
-  pub count : length left ≡ length answers
-  pub each : (i : ℕ) (answer : Number) → slice_get answers i ≡ Some answer
-      → slice_get left i ≡ Some (left_of (is_aside clock pace slack gaps answers i (length gaps)) answer)
+  where
+    pub count : length left ≡ length answers
+    pub each : (i : ℕ) (answer : Number) → slice_get answers i ≡ Some answer
+        → slice_get left i ≡ Some (left_of (is_aside clock pace slack gaps answers i (length gaps)) answer)
 
 -- ---- what is true of them
 
@@ -113,7 +113,7 @@ pub record AreAside (clock : Clock) (pace : Pace) (slack : ℕ) (gaps : List Gap
 -- ---- sides worked by hand
 
 -- an answer in each second field, from the first one on: these numbers, believed
-unfoldable pub shown_by_turns : List ℕ → List Number
+abbrev pub shown_by_turns : List ℕ → List Number
 shown_by_turns [] = []
 shown_by_turns (n ∷ numbers) = believed n ∷ nothing ∷ shown_by_turns numbers
 

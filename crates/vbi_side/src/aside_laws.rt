@@ -44,7 +44,7 @@ pub fn aside_all()
 /// film; how many numbers are due in so many fields; pictures 41 and 42 in place of 3 and 4, of which each field from 4
 /// to 6 is set aside; the same among as few others; pictures 5 to 8 in place of 3 to 6; a number that stays; and gaps
 /// of another kind.
-#[tactic(auto, unfolding(crate::specs::Clocks::kept, crate::specs::Aside::row_weight, crate::specs::Aside::run_before, crate::specs::Aside::is_aside, crate::specs::Aside::shown_by_turns))]
+#[tactic(auto, unfolding(crate::specs::Clocks::kept, crate::specs::Aside::row_weight, crate::specs::Aside::is_aside))]
 pub fn worked_aside()
     ensures rows { map (λ n. is_in_row Plain Video 0 0 1 4 n) (2 ∷ 3 ∷ 4 ∷ []) ≡ false ∷ true ∷ false ∷ [] }
     ensures both_rows { map (λ k. is_in_row Plain Video 1 0 1 k 3) (2 ∷ 3 ∷ 4 ∷ 5 ∷ 6 ∷ [])

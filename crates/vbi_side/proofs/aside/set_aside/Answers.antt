@@ -1,11 +1,11 @@
 use Rattle.std.proofs.Common.{◌≡◌, refl, sym, ap, subst, ◌∙◌, length}
 use Rattle.std.specs.Prelude.{Some, slice_get}
-use Rattle.vbi_side.specs.Aside.{run_before, begun, is_of_run, is_aside, left_of}
+use Rattle.vbi_side.specs.Aside.{begun, is_of_run, is_aside, left_of}
 use Rattle.vbi_side.proofs.SetAside.{gap_at, run_more, aside_more, left_twice}
 use Rattle.vbi_side.proofs.aside.set_aside.Goals as goal
 
 pub loop-index-init : goal.loop-index-init
-unfolding run_before is_aside
+unfolding is_aside
 loop-index-init c = record {
   first = refl;
   count = ap length c.copy_from_slice.ensures.after;
