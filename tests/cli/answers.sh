@@ -40,9 +40,7 @@ searches() {
     esac
 }
 by_side() {
-    options=$ntsc
-    [ "$2" = "$on_cav" ] || options=$pal
-    command="python3 $top/python/ldvbi-side $1.tbc $options"
+    command="python3 $top/python/ldvbi-side $1.tbc"
     case $question in
         stops) finds sh -c "$command --json | jq -r '.stops[] | \"field \(.field)\"'" ;;
         aside) finds sh -c "$command --json | jq -r '.doubtful[] | \"field \(.field)\"'" ;;
