@@ -18,7 +18,7 @@ from collections import namedtuple
 
 TOP = pathlib.Path(__file__).resolve().parents[2]
 sys.path.insert(0, str(TOP / "simulated"))
-from rust_given import random_plan, rarely, skipping
+from rust_given import random_gaps, random_plan, rarely, skipping
 from simulate import simulated
 
 COMMANDS = ["line", "extract", "show", "draw"]
@@ -289,15 +289,6 @@ def compare_judges(call):
     yield call("ldvbi_find_clock", given, counted=2, numbers=random.choice([numbers, skipping(given["clock"])]))
     yield call("ldvbi_check_plan", given, **random_plan(numbers))
     yield call("ldvbi_set_aside", given, gaps=random_gaps(numbers))
-
-
-def random_gaps(numbers):
-    """Gaps from some of these numbers to others, most of which are of numbers in the place of others."""
-    shown, gaps = [number for number, state in struct.iter_unpack("<II", numbers) if state == 1] or [5], b""
-    for _ in range(random.choice([0, 1, 2, 2, 4, 9])):
-        places = sorted(random.choices([*range(len(numbers) // 8 + 1), rarely([2 ** 64 - 1], 0)], k=2))
-        gaps += struct.pack("<QQQQIIII", *places, 0, 0, *random.choices(shown, k=2), random.choice([1, 7, 8, 8, 8]), 0)
-    return gaps
 
 
 def random_clock():

@@ -17,6 +17,15 @@ def skipping(clock):
     return b"".join(struct.pack("<IIQ", number, random.choice([1] * 20 + [2]), 0) for number in numbers)
 
 
+def random_gaps(numbers):
+    """Gaps from some of these numbers to others, most of which are of numbers in the place of others."""
+    shown, gaps = [number for number, state in struct.iter_unpack("<II", numbers) if state == 1] or [5], b""
+    for _ in range(random.choice([0, 1, 2, 2, 4, 9])):
+        places = sorted(random.choices([*range(len(numbers) // 8 + 1), rarely([2 ** 64 - 1], 0)], k=2))
+        gaps += struct.pack("<QQQQIIII", *places, 0, 0, *random.choices(shown, k=2), random.choice([1, 7, 8, 8, 8]), 0)
+    return gaps
+
+
 def random_plan(numbers):
     """A plan of two captures, most of whose stretches follow each other, and what it is checked by. A stretch begins
     with the first number that it shows."""

@@ -255,7 +255,8 @@ def test_each_call(monkeypatch):
             ("find_clock", find_clock, packed, "PAL"),
             ("find_clock", functools.partial(judge_side, clock="find"), packed, "PAL"),
             ("judge_side_by_clock", functools.partial(judge_side, clock=(1, 0, 0)), packed, "PAL"),
-            ("set_aside", judge_side, away, "PAL"), ("nearest", nearest, LINE, *NTSC), ("seek", lambda: seek(fields(), 1)),
+            ("set_aside", judge_side, away, "PAL"),
+            ("nearest", nearest, LINE, *NTSC), ("seek", lambda: seek(fields(), 1)),
             ("seek_chapter", lambda: seek_chapter(fields(), 1)), ("next_stop", lambda: next_stop(fields())),
             ("recover_fields", lambda: list(fields())), ("recovered_record", lambda: list(fields().records())),
             ("recover_fields_without", lambda: list(fields(dropouts=[(0, 17, 3, 4)])))):

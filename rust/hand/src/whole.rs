@@ -268,8 +268,8 @@ impl Side<'_> {
         Ok(self.judge_side(options, &clock.for_c()?).gaps.iter().map(Gap::of).collect())
     }
 
-    /// The number of each field, at the pace that is found. Those of a run that is [`GapKind::Replaced`] are in doubt if
-    /// on this side more numbers go on with those around it, and it has none of the numbers that are due there.
+    /// The number of each field, at the pace that is found. Those of a run that is [`GapKind::Replaced`] are in doubt
+    /// if on this side more numbers go on with those around it, and it has none of the numbers that are due there.
     pub fn numbers_left(&self, options: SideOptions) -> Vec<Number> {
         self.set_aside(options, &PLAIN)
     }
