@@ -15,7 +15,7 @@
  *
  * If it isn't found, `at.field` is `count`. Seeking fetches about 2 MB of 50 GB. Without the call of madvise the system
  * reads ahead, ten pages or more for each one that is wanted. The programs in examples/ also test what the system
- * answers; player.c goes to chapters, too, and on from pictures that a capture lacks. In docs/, LIBRARY.md says how to
+ * answers; player.c goes to chapters, too, and beside pictures that a capture lacks. In docs/, LIBRARY.md says how to
  * link, which line has which code, and how to read frames, lines of other sample rates and mapped files; PROMISES.md
  * says what is proved. Both folders are installed in share/doc/ldvbi.
  *
@@ -476,11 +476,11 @@ typedef struct LdvbiPlace {
  * This is proved: ldvbi_judge_chapters believes the chapter of the field that is answered, and of none of the 72 fields
  * before it, by what ldvbi_recover_fields reads of all fields. If none is answered, no field is like this where halving
  * led: 24 fields in a row or more, or all. The first field with a chapter is found if the side has at most a million
- * fields, and its chapters lead there: from a sixteenth of the side or more on, any 24 fields in a row tell a chapter
- * together; from elsewhere none do; lower chapters are told up to the field, others from less than 24 fields before it
- * on. They do if each other field of three more than a sixteenth of the side shows one on both lines in pass 1, no
- * other field shows any, none falls, and each lasts three pictures or more: that is proved, too. Otherwise one may be
- * missed, as on a worn side, or if the player went back. */
+ * fields, and its chapters lead there: from each field along a sixteenth of the side or more, at most 24 in a row tell
+ * a chapter together; from the others none do; lower chapters are told from no later field than this, others from none
+ * 24 fields before it or more. They do if each other field of three more than a sixteenth of the side shows one on both
+ * lines in pass 1, no other field shows any, none falls, and each lasts three pictures or more: that is proved, too.
+ * Otherwise one may be missed, as on a worn side, or if the player went back. */
 LDVBI_RESULT LDVBI_POINTER(7) uint32_t ldvbi_seek_chapter(uint32_t system, uint32_t black, uint32_t white,
     const void *bytes, size_t length, uint32_t chapter, LdvbiPlace *place);
 
