@@ -32,7 +32,7 @@ def reasons_of(answer: Answer, gaps: Gaps, begin: Optional[Begin], is_strict: bo
     known = (*_lacking(answer), *_disordered(answer, gaps.judged, begin),
              *(_unseen(answer, may_end) if is_strict else ()), *_of_another(answer, gaps))
     open_ = (*_in_gaps(answer, gaps), *_undecided(answer, gaps), *_empty(answer, begin, unseen, last),
-             *_beyond(answer, last), *_unsure(answer, gaps.judged, is_ended))
+             *_apart(answer), *_beyond(answer, last), *_unsure(answer, gaps.judged, is_ended))
     return [Ground(why, whole, text) for whole, found in ((NO, known), (OPEN, open_)) for why, text in found]
 
 
@@ -190,6 +190,19 @@ def _empty(answer: Answer, begin: Optional[Begin], unseen: Sequence[Tuple[int, i
     for first, to in filter(None, (begin and begin.unread, end)):
         yield "ends", ("no number in fields %d to %d" % (first, to) if first <= to else
                        "numbers before field %d may be lost, or the disc's clock left them out" % first)
+
+
+def _apart(answer: Answer) -> Found:
+    """Two pictures in a row before all that are believed, or after them, each on both lines in pass 1. They weigh too
+    little to be believed so far from the others, and are hardly misread: fields may be lost between."""
+    lines = Counter((one.field, one.number) for one in answer.doubtful
+                    if one.kind == Kind.picture and one.pass_ == 1 and not (one.before and one.after))
+    both = sorted(place for place, count in lines.items() if count > 1)
+    for (field, number), (other, last) in zip(both, both[1:]):
+        if last == number + 1 and other - field <= 3:
+            yield "ends", "pictures %d and %d are in fields %d and %d, and don't go on with the others" % (
+                number, last, field, other)
+            return
 
 
 def _beyond(answer: Answer, last: Optional[Last]) -> Found:
