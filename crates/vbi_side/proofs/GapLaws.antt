@@ -2,7 +2,7 @@
 use Rattle.vbi_side.proofs.Truth.{near_same}
 use Rattle.std.proofs.Common.{◌-◌, ◌≡◌, ◌≢◌, ℕ, zero, suc, ◌+◌, ◌*◌, ◌<◌, ◌≤◌, Bool, true, false, List, [], ◌∷◌, ◌++◌}
 use Rattle.std.proofs.Common.{arith, ap, sym, ◌∙◌, subst, inl, inr, length, refl}
-use Rattle.std.specs.Prelude.{Option, Some, None, ◌⊎◌, nat_le, nat_lt, if◌then◌else◌, ◌&&◌}
+use Rattle.std.specs.Prelude.{Option, Some, None, ◌⊎◌, nat_le, nat_lt, if◌then◌else◌, ◌&&◌, not, ◌==◌}
 use Rattle.std.proofs.lemmas.Bool.Decides.{leb_tells, eqb_tells}
 use Rattle.std.proofs.lemmas.List.{length_push}
 use Rattle.std.proofs.Math.Dec.{eqb}
@@ -42,7 +42,7 @@ kind_lost : (pace : Pace) (numbering : Numbering) (ended : Bool) (i m k n : ℕ)
     → kind_of pace numbering ended i m k n ≡ lost
     → 0 < lacking_by numbering.clock pace i m k n
 kind_lost pace numbering ended i m k n =
-    go (has_stills numbering && stays i m k n) ended (nat_lt n m) (is_open pace numbering i m k n)
+    go (has_stills numbering && stays i m k n) (ended && not (n == m)) (nat_lt n m) (is_open pace numbering i m k n)
     (leb_tells 1 (lacking_by numbering.clock pace i m k n))
   where
     go : (a b c d : Bool) → ((nat_le 1 (lacking_by numbering.clock pace i m k n) ≡ true)
@@ -119,7 +119,7 @@ none_found false one gap e found = absurd (let h : false ≡ true = e in cc)
 kind_held : (pace : Pace) (numbering : Numbering) (ended : Bool) (i m k n : ℕ)
     → kind_of pace numbering ended i m k n ≡ held → lacking_by numbering.clock pace i m k n ≡ 0
 kind_held pace numbering ended i m k n =
-    go (has_stills numbering && stays i m k n) ended (nat_lt n m) (is_open pace numbering i m k n)
+    go (has_stills numbering && stays i m k n) (ended && not (n == m)) (nat_lt n m) (is_open pace numbering i m k n)
     (leb_tells 1 (lacking_by numbering.clock pace i m k n))
   where
     go : (a b c d : Bool) → ((nat_le 1 (lacking_by numbering.clock pace i m k n) ≡ true)

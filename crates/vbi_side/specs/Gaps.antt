@@ -1,7 +1,7 @@
 -- Where the numbers of a capture and its fields don't go on together: what lies between two neighbouring numbers that
 -- are believed, and all of it in order.
 use Rattle.std.specs.Prelude.{◌≡◌, ℕ, zero, suc, ◌+◌, ◌*◌, ◌-◌, ◌/◌, ◌<◌, ◌≤◌, ◌==◌, nat_le, nat_lt}
-use Rattle.std.specs.Prelude.{count_by, slice_range, ◌&&◌, ◌||◌, ◌⊎◌, Bool, true, false, if◌then◌else◌}
+use Rattle.std.specs.Prelude.{count_by, slice_range, ◌&&◌, ◌||◌, not, ◌⊎◌, Bool, true, false, if◌then◌else◌}
 use Rattle.std.specs.Prelude.{List, [], ◌∷◌, ◌++◌, Option, Some, None, slice_get}
 use Rattle.vbi_words.specs.declared.system.System.{System}
 use Rattle.vbi_words.specs.declared.system.System.TheVariants.{Ntsc}
@@ -94,11 +94,11 @@ is_open Film numbering i m k n =
     fits Video i m k n || (nat_lt (m + 1) n && (off_by_clock numbering.clock Film i m k n == 1))
 
 -- what lies between numbers that don't go on, of which an end of a side stands between or not. The last number of a
--- side may stand still beside its end: there no other side begins
+-- side may stay beside its end: there no other side begins
 abbrev pub kind_of : Pace → Numbering → Bool → ℕ → ℕ → ℕ → ℕ → ℕ
 kind_of pace numbering ended i m k n =
     if has_stills numbering && stays i m k n then still
-    else (if ended then joined
+    else (if ended && not (n == m) then joined
     else (if nat_lt n m then back
     else (if is_open pace numbering i m k n then open_gap
     else (if nat_lt 0 (lacking_by numbering.clock pace i m k n) then lost

@@ -35,7 +35,7 @@ pub const HELD: u32 = 2;
 pub const BACK: u32 = 3;
 /// The player stood still: the same number, an even count of fields later.
 pub const STILL: u32 = 4;
-/// A lead-in or a lead-out stands between, and it is no still: another side begins.
+/// A lead-in or a lead-out stands between, and the number changes: another side begins.
 pub const JOINED: u32 = 5;
 /// The disc itself may skip there: the clock of an NTSC CLV disc leaves out a number or two; where film is cut a number
 /// that wasn't read may stand a field off; and a disc of film may have video there, of two fields to a picture.
@@ -267,10 +267,10 @@ fn is_open(pace: Pace, numbering: Numbering, here: Place, there: Place) -> bool
 fn kind(pace: Pace, numbering: Numbering, ended: bool, here: Place, there: Place) -> u32
     ensures { result ≡ kind_of pace numbering ended here.field here.number there.field there.number }
 {
-    // The last number of a side may stand still beside its end.
+    // The last number of a side may stay beside its end.
     if numbering.has_stills() && is_still(here, there) {
         STILL
-    } else if ended {
+    } else if ended && there.number != here.number {
         JOINED
     } else if there.number < here.number {
         BACK

@@ -243,6 +243,8 @@ pub fn worked_gaps()
     ensures film_back { gap_of Film 0 cav false 0 20 10 24 8 ≡ Some (gap_made 20 10 24 8 back 0 0) }
     ensures stays { map (λ numbering. gap_of Video 0 numbering false 0 10 5 14 5) (clv ∷ clv_pal ∷ [])
         ≡ Some (gap_made 10 5 14 5 held 4 0) ∷ Some (gap_made 10 5 14 5 held 4 0) ∷ [] }
+    ensures stays_beside_an_end { map (λ numbering. gap_of Video 0 numbering true 0 10 5 13 5) (cav ∷ clv ∷ [])
+        ≡ Some (gap_made 10 5 13 5 held 3 0) ∷ Some (gap_made 10 5 13 5 held 3 0) ∷ [] }
     ensures clock { map (λ n. gap_of Video 0 clv false 0 10 5 13 n) (7 ∷ []) ++ map
         (λ n. gap_of Video 0 clv false 0 10 5 12 n) (7 ∷ 8 ∷ 9 ∷ [])
         ≡ Some (gap_made 10 5 13 7 lost 1 0) ∷ Some (gap_made 10 5 12 7 open_gap 2 0)
