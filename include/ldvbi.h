@@ -557,7 +557,7 @@ enum LdvbiGapKind {
     LDVBI_HELD = 2,   /* there are more fields than the numbers count to */
     LDVBI_BACK = 3,   /* the numbers go back */
     LDVBI_STILL = 4,  /* the same number an even count of fields later: the player stood still; never for times */
-    LDVBI_JOINED = 5, /* lead-in or lead-out is believed of a field between, and the number changes: another side begins */
+    LDVBI_JOINED = 5, /* lead-in or lead-out is believed between, and the number changes: another side begins */
     LDVBI_OPEN = 6,   /* fields are lost or too many, or the disc itself skips: the clock of an NTSC CLV disc leaves out
                          one or two times; film that is cut over an unread number goes on a field off; and a disc of
                          film may have video there, if there are just two fields for each number */
