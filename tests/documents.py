@@ -76,7 +76,7 @@ def paths():
 SOURCES = ("crates/*/src/*.rt", "crates/*/specs/*.antt", "include/*.h", "python/**/*.py", "rust/hand/src/*.rs",
            "share/schema/*.json", "[rt]*/*.sh", "tests/unit/*.py", "simulated/*.py", "examples/*.c")
 # Words of other programs, and of the machine
-NOT_OURS = {"chdman", "console", "manylinux_2_17", "memcpy", "memset", "pipefail", "pv", "siglongjmp", "WILLNEED"}
+NOT_OURS = {"chdman", "console", "manylinux_2_17", "memcpy", "memmove", "memset", "pipefail", "pv", "siglongjmp", "WILLNEED"}
 
 
 def words_of(path):

@@ -12,10 +12,10 @@
 
 with_python
 
-more=$(nm -D --undefined-only "$built/libldvbi.so.2" | sed 's/^ *U //; s/@.*//' | grep -vx 'memcpy\|memset')
-check 'the library needs memcpy and memset at most' [ -z "$more" ]
-more=$(nm -u "$built/libldvbi.a" 2> err | sed -n 's/^ *U //p' | grep -vx 'memcpy\|memset')
-check 'the archive needs memcpy and memset at most' [ -z "$more" ]
+more=$(nm -D --undefined-only "$built/libldvbi.so.2" | sed 's/^ *U //; s/@.*//' | grep -vx 'memcpy\|memmove\|memset')
+check 'the library needs memcpy, memmove and memset at most' [ -z "$more" ]
+more=$(nm -u "$built/libldvbi.a" 2> err | sed -n 's/^ *U //p' | grep -vx 'memcpy\|memmove\|memset')
+check 'the archive needs memcpy, memmove and memset at most' [ -z "$more" ]
 nm -D --defined-only "$built/libldvbi.so.2" | sed 's/.* //' | sort > all
 grep -vx ldvbi_plain_rust all > exported
 sed -n 's/^\(LDVBI_[A-Z0-9()]* \)*[a-z0-9_]* \(ldvbi_[a-z_]*\)(.*/\2/p' "$top/include/ldvbi.h" | sort > declared
