@@ -12,7 +12,7 @@
 set -eu
 
 # The minutes that README says it takes
-minutes='40 to 80'
+minutes='40 to 120'
 # Memory in kB with which the proofs and all else can run side by side: both take more where there are more processors
 memory_of_both=$((4000000 * $(nproc)))
 

@@ -352,7 +352,7 @@ def test_the_index(room):
     for name in ("a-2", "a-10", "b-1 & #1"):
         path = room.named("pages/%s.html" % name)
         room.write(path, room.text(path).replace("&quot;try&quot;: null", "&quot;try&quot;: &quot;--system NTSC " + (
-            "--black 16384 --white 30000 --meta /home/somebody/captures/side.tbc.json&quot;")))
+            "--black 16384 --white 30000 --meta /archive/captures/side.tbc.json&quot;")))
         os.utime(path, (1700000000, 1700000000))  # on November 14, 2023, at 22:13
     room.scan("--open-end --html pages sides/b/odd.vbi.json")
     read = Page(room.text("pages/index.html"))

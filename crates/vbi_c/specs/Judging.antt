@@ -12,7 +12,7 @@ use Rattle.vbi_side.specs.declared.pace.Pace.TheVariants.{Video, Film}
 use Rattle.vbi_side.specs.declared.sighting.Sightings.{Sightings}
 use Rattle.vbi_side.specs.Found.{IsFound}
 use Rattle.vbi_side.specs.Numbers.{believed, due, AreAnswers, AreRight, IsAnswer}
-use Rattle.vbi_side.specs.Truth.{IsRegular, IsSound, IsSoundStill}
+use Rattle.vbi_side.specs.Truth.{IsRegular, IsSoundStill}
 use Rattle.vbi_side.specs.Misread.{Lines, Words, numbers_in, IsRead}
 use Rattle.vbi_c.specs.declared.fields.LdvbiFieldReadings.{LdvbiFieldReadings}
 use Rattle.vbi_c.specs.declared.judging.Judging.{Judging}

@@ -1,5 +1,5 @@
 -- The word that lines say together, as C sees it.
-use Rattle.std.specs.Prelude.{◌≡◌, ◌&&◌, ◌==◌, ℕ, ◌/◌, ◌*◌, Bool, nat_le, if◌then◌else◌, List, length, map, unwrap_or}
+use Rattle.std.specs.Prelude.{◌≡◌, ◌&&◌, ◌==◌, ℕ, ◌/◌, Bool, nat_le, if◌then◌else◌, List, length, map, unwrap_or}
 use Rattle.std.specs.Prelude.{Result, Ok, Err, Option, ◌<◌}
 use Rattle.std.specs.List.{list_all, range_with_len}
 use Rattle.vbi_words.specs.Geometry.{line_bytes, line_at}

@@ -1,5 +1,5 @@
 -- A chapter is believed of a field by a part of its capture just if it is by the whole.
-use Rattle.std.proofs.Common.{◌≡◌, ℕ, ◌+◌, ◌*◌, ◌<◌, ◌≤◌, Bool, List, refl, arith, ap₂, sym, subst}
+use Rattle.std.proofs.Common.{◌≡◌, ℕ, ◌+◌, ◌*◌, ◌≤◌, Bool, List, refl, arith, ap₂, sym, subst}
 use Rattle.std.specs.Prelude.{Option, slice_get, ◌⊎◌, ◌↔◌, nat_le, nat_lt, ◌&&◌, ◌||◌}
 use Rattle.std.proofs.lemmas.Bool.{leb-true, le-leb}
 use Rattle.vbi_side.specs.declared.sighting.Sightings.{Sightings}

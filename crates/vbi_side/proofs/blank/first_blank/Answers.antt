@@ -1,4 +1,4 @@
-use Rattle.std.proofs.Common.{◌≡◌, ◌<◌, ◌+◌, ℕ, suc, refl, arith, subst, inl, inr, length}
+use Rattle.std.proofs.Common.{◌≡◌, ◌+◌, suc, refl, arith, subst, inl, inr}
 use Rattle.std.proofs.lemmas.Bool.Decides.{eqb_tells}
 use Rattle.std.proofs.lemmas.Option.{slice_get_within}
 use Rattle.vbi_side.specs.Blanks.{IsBlankTo, IsBlankTold}
