@@ -13,9 +13,9 @@ use crate::whole_side::siding_of;
 use vbi_side::{Gap, Number, set_aside};
 
 /// Sets aside the numbers of a side that replace others, where the rows of numbers around them weigh more: `gaps` are
-/// those that were told of these numbers, with fields counted from 0. What is left goes to `left`, and how many were set
-/// aside to `count`. Refused is what `ldvbi_judge_side_by_clock` refuses of these, and a `left` that isn't as long as
-/// `numbers`; then nothing is written.
+/// those that were told of these numbers, with fields counted from 0. What is left goes to `left`, and how many were
+/// set aside to `count`. Refused is what `ldvbi_judge_side_by_clock` refuses of these, and a `left` that isn't as long
+/// as `numbers`; then nothing is written.
 #[unsafe(no_mangle)]
 pub extern "C" fn ldvbi_set_aside(
     system: u32,
