@@ -14,6 +14,7 @@ usage: /usr/bin/python3 tests/mutants.py [--part N] [--folder FOLDER] [--again N
 import argparse
 import collections
 import contextlib
+import difflib
 import hashlib
 import json
 import multiprocessing.connection
@@ -52,7 +53,7 @@ NOBODY = 65534  # who runs the tests where root would: a plant may end processes
 
 def digest(*patterns):
     paths = sorted(path for pattern in patterns for path in TOP.glob(pattern) if path.is_file())
-    return hashlib.sha256(b"".join(str(path).encode() + path.read_bytes() for path in paths)).hexdigest()
+    return hashlib.sha256(b"".join(bytes(path.relative_to(TOP)) + path.read_bytes() for path in paths)).hexdigest()
 
 
 class Recorder:
@@ -81,27 +82,42 @@ def pytest_configure(config):
 
 def known_tests(jobs):
     """Of each test its seconds and the lines that it runs, as {test: [seconds, {file: lines}]}."""
+    texts = {str(path.relative_to(TOP)): path.read_text("utf-8") for path in (TOP / "python").rglob("*.py")}
     names = sorted(path.name for path in (TOP / "tests" / "unit").glob("test_*.py"))
     names = {name: digest("tests/unit/" + name) for name in names if name not in LEFT_ASIDE}
-    base = digest("python/**/*.py", "simulated/*.py", "tests/unit/[!t]*.*")
-    known = json.loads(RECORD.read_text()) if RECORD.exists() else {}
-    if known.get("base") != base:
-        known = {"base": base, "files": {}, "tests": {}}
+    known = json.loads(RECORD.read_text()) if RECORD.exists() else {"files": {}, "texts": texts, "tests": {}}
+    for file, text in texts.items():
+        if known["texts"].get(file, "") != text:
+            moved = moved_lines(known["texts"].get(file, ""), text)
+            for _, lines in known["tests"].values():
+                lines[file] = sorted({new for old in lines.get(file, ()) for new in moved.get(old, ())})
+    known["texts"] = texts
     new = [name for name in names if known["files"].get(name) != names[name]]
+    known["tests"] = {test: one for test, one in known["tests"].items()
+                      if test.split("::")[0] in names and test.split("::")[0] not in new}
     if new:
         with room() as folder:
-            for name in new:
-                known["tests"] = {test: one for test, one in known["tests"].items() if test.split("::")[0] != name}
-                known["tests"].update(recorded(folder, name, jobs))
-                known["files"][name] = names[name]
-                RECORD.write_text(json.dumps(known))
-    return {test: one for test, one in known["tests"].items() if test.split("::")[0] in names}
+            known["tests"].update(recorded(folder, new, jobs))
+        known["files"] = names
+    RECORD.write_text(json.dumps(known))
+    return known["tests"]
 
 
-def recorded(folder, name, jobs):
-    """The same of the tests of a file that pass, and aren't too slow to have their lines recorded."""
+def moved_lines(old, new):
+    """Where each line of a text is in a newer one. In the place of those that changed are all the new ones."""
+    moved = {}
+    for _, first, last, begin, end in difflib.SequenceMatcher(
+            None, old.splitlines(), new.splitlines(), False).get_opcodes():
+        for line in range(first, last):
+            moved[line + 1] = [begin + line - first + 1] if last - first == end - begin else range(begin + 1, end + 1)
+        if first == last:  # new lines run where those before them do
+            moved[first] = [*moved.get(first, ()), *range(begin + 1, end + 1)]
+    return moved
+
+
+def recorded(folder, names, jobs):
+    """The same of the tests of some files that pass, and aren't too slow to have their lines recorded."""
     site = folder / "site"
-    shutil.rmtree(site, ignore_errors=True)
     site.mkdir()
     site.chmod(0o777)
     (site / "sitecustomize.py").write_text("import coverage; coverage.process_startup()")
@@ -109,9 +125,10 @@ def recorded(folder, name, jobs):
                              "${MUTANTS_TEST-}\ndisable_warnings = no-data-collected\n" % (folder, site))
     more = {"COVERAGE_PROCESS_START": str(site / "rc"), "MUTANTS_TIMES": str(site / "times"),
             "PYTHONPATH": "%s/python:%s/simulated:%s:%s/tests" % (folder, folder, site, folder)}
-    subprocess.run([sys.executable, "-m", "pytest", "-n", str(jobs), "-p", "mutants", "-m", "not unrecorded", "-q",
-                    "--basetemp", folder / "out", name], cwd=folder / "tests" / "unit", env={**os.environ, **more},
-                   preexec_fn=lambda: confine(folder), stdout=subprocess.DEVNULL, check=False)
+    subprocess.run([sys.executable, "-m", "pytest", "-n", str(jobs), "--dist", "loadgroup", "-p", "mutants", "-m",
+                    "not unrecorded", "-q", "--basetemp", folder / "out", *names], cwd=folder / "tests" / "unit",
+                   env={**os.environ, **more}, preexec_fn=lambda: confine(folder), stdout=subprocess.DEVNULL,
+                   check=False)
     tests, failed = {}, set()
     rows = (site / "times").read_text("utf-8").splitlines() if (site / "times").exists() else []
     for test, seconds, passed in map(json.loads, rows):
@@ -124,8 +141,8 @@ def recorded(folder, name, jobs):
             for line, contexts in lines.get_data().contexts_by_lineno(path).items():
                 for context in set(contexts) & set(tests):
                     tests[context][1].setdefault(os.path.relpath(path, folder), []).append(line)
-    print("%s: %d tests, of which %d fail or are left out without a plant" % (name, len(tests), len(failed)),
-          file=sys.stderr)
+    print("%d tests, of which %d fail or are left out without a plant: %s" % (
+        len(tests), len(failed), " ".join(sorted(failed))[:2000]), file=sys.stderr)
     return {test: one for test, one in tests.items() if test not in failed}
 
 
