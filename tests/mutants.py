@@ -20,6 +20,7 @@ import json
 import multiprocessing.connection
 import os
 import pathlib
+import re
 import resource
 import shutil
 import signal
@@ -36,6 +37,7 @@ import pytest
 from planted import planted, plants_of, TOP
 
 RECORD = pathlib.Path(tempfile.gettempdir(), "ldvbi-mutants%s.json" % str(TOP).replace("/", "-"))
+SEEN = RECORD.with_suffix(".seen")  # of each plant that was seen the test that did
 REASONS = TOP / "tests" / "mutants.txt"
 LEFT_ASIDE = "test_archive.py", "test_mutants.py", "test_package.py", "test_page.py"  # they take long, or run no line
 COPIED = "python", "simulated", "tests"  # folders of the copy; it has links to all others
@@ -81,7 +83,8 @@ def pytest_configure(config):
 
 
 def known_tests(jobs):
-    """Of each test its seconds and the lines that it runs, as {test: [seconds, {file: lines}]}."""
+    """The texts of the packages, and of each test its seconds and the lines that it runs: {test: [seconds, {file:
+    lines}]}."""
     texts = {str(path.relative_to(TOP)): path.read_text("utf-8") for path in (TOP / "python").rglob("*.py")}
     names = sorted(path.name for path in (TOP / "tests" / "unit").glob("test_*.py"))
     names = {name: digest("tests/unit/" + name) for name in names if name not in LEFT_ASIDE}
@@ -100,7 +103,7 @@ def known_tests(jobs):
             known["tests"].update(recorded(folder, new, jobs))
         known["files"] = names
     RECORD.write_text(json.dumps(known))
-    return known["tests"]
+    return known
 
 
 def moved_lines(old, new):
@@ -243,22 +246,41 @@ def tried(folder, plant, tests):
     return found
 
 
-def work(folder, jobs, connection):
+def work(folder, jobs, seen, connection):
     sys.dont_write_bytecode = True
     os.environ["PYTHONDONTWRITEBYTECODE"] = "1"
     for plant, tests in jobs:
-        connection.send((plant, tried(folder, plant, tests)))
+        found = tried(folder, plant, ordered(plant, tests, seen))
+        if found in tests:
+            seen[plant.name] = found
+        connection.send((plant, found))
     connection.close()
 
 
-def side_by_side(jobs, count):
+def ordered(plant, tests, seen):
+    """The tests of a plant with their seconds, as many as there is time for: the one that saw it before, then those that
+    saw others in its function or, five of them, in its file, then the quickest."""
+    function, file = plant.name.partition(": ")[0], plant.file + " "
+    near = [[test for name, test in seen.items() if test in tests and is_near(name)] for is_near in (
+        plant.name.__eq__, lambda name: name.partition(": ")[0] == function, lambda name: name.startswith(file))]
+    near[2] = [test for test, _ in collections.Counter(near[2]).most_common(5)]
+    rows, total = [], 0
+    for test in dict.fromkeys([*near[0], *near[1], *near[2], *sorted(tests, key=tests.get)]):
+        total += tests[test]
+        if total > MOST and rows:
+            break
+        rows.append((test, tests[test]))
+    return rows
+
+
+def side_by_side(jobs, seen, count):
     """Each plant with the test that sees it, from so many processes."""
     context = multiprocessing.get_context("fork")
     with contextlib.ExitStack() as rooms:
         left = []
         for number in range(min(count, len(jobs))):
             ours, theirs = context.Pipe(False)
-            process = context.Process(target=work, args=(rooms.enter_context(room()), jobs[number::count], theirs))
+            process = context.Process(target=work, args=(rooms.enter_context(room()), jobs[number::count], seen, theirs))
             process.start()
             rooms.callback(process.terminate)
             theirs.close()
@@ -272,16 +294,15 @@ def side_by_side(jobs, count):
 
 
 def tests_of(plant, known):
-    """Those that run its line, the quickest first, with their seconds; as many as there is time for."""
-    found = sorted((seconds, test) for test, (seconds, lines) in known.items()
-                   if any(plant.first <= line <= plant.last for line in lines.get(plant.file, ())))
-    rows, total = [], 0
-    for seconds, test in found:
-        total += seconds
-        if total > MOST and rows:
-            break
-        rows.append((test, seconds))
-    return rows
+    """Those that run its line, or one that names what it defines, with their seconds."""
+    places = {plant.file: set(range(plant.first, plant.last + 1))}
+    if plant.defines:
+        word, places = re.compile(r"\b%s\b" % plant.defines), {}
+        for file, text in known["texts"].items():
+            places[file] = {line for line, row in enumerate(text.splitlines(), 1) if word.search(row)
+                            and not (file == plant.file and plant.first <= line <= plant.last)}
+    return {test: seconds for test, (seconds, lines) in known["tests"].items()
+            if any(places[file].intersection(lines.get(file, ())) for file in places)}
 
 
 def reasons():
@@ -325,9 +346,13 @@ def main():
         counts[one.file]["without effect"] += 1
     known = known_tests(words.jobs)
     jobs = [(one, tests_of(one, known)) for one in asked if one not in without]
-    for plant, found in side_by_side(jobs, words.jobs):
+    seen = json.loads(SEEN.read_text()) if SEEN.exists() else {}
+    for plant, found in side_by_side(jobs, seen, words.jobs):
+        seen.pop(plant.name, None)
+        seen.update({plant.name: found} if found in known["tests"] else {})
         counts[plant.file]["seen" if found else "not seen"] += 1
         print("seen" if found else "NOT SEEN", plant.key, plant.name, "(by %s)" % found if found else "", flush=True)
+    SEEN.write_text(json.dumps(seen))
     return say(counts, stale)
 
 

@@ -21,12 +21,14 @@ FUNCTIONS = ast.FunctionDef, ast.AsyncFunctionDef, ast.Lambda
 
 
 class Plant(NamedTuple):
-    """`first` and `last` are the lines whose tests see it, and `place` is that of node and variant among all."""
+    """`first` and `last` are the lines whose tests see it, and `place` is that of node and variant among all. If it
+    `defines` a name of its module or class, the tests are those of the lines with that name."""
     file: str
     name: str
     first: int
     last: int
     place: tuple
+    defines: str = ""
 
     @property
     def key(self):
@@ -88,6 +90,12 @@ def nodes(parent, functions=(), statement=None):
             yield from nodes(node, inner, own)
 
 
+def defined(statement):
+    """The one name that a statement defines, or nothing."""
+    targets = statement.targets if isinstance(statement, ast.Assign) else [getattr(statement, "target", None)]
+    return targets[0].id if len(targets) == 1 and isinstance(targets[0], ast.Name) else ""
+
+
 def plants_of(file):
     """The plants of a file, in their order."""
     tree, found, times = ast.parse((TOP / file).read_text("utf-8")), [], collections.Counter()
@@ -99,13 +107,16 @@ def plants_of(file):
                 file, ".".join(getattr(one, "name", "lambda") for one in functions), head[:100],
                 "all" if node is statement else ast.unparse(node), ast.unparse(new))
             times[name] += 1
-            first, last = statement.lineno, statement.end_lineno
+            first, last, defines = statement.lineno, statement.end_lineno, ""
             body = getattr(statement, "body", None)
             if body and not isinstance(statement, (*FUNCTIONS, ast.ClassDef)):
                 last = max(first, body[0].lineno - 1)
             if not any(isinstance(one, FUNCTIONS) for one in functions) and not isinstance(statement, FUNCTIONS):
-                first, last = 1, tree.body[-1].end_lineno  # it runs when the module is read in
-            found.append(Plant(file, name + " (%d)" % times[name] * (times[name] > 1), first, last, (place, variant)))
+                defines = defined(statement)
+                if not defines:
+                    first, last = 1, tree.body[-1].end_lineno  # it runs when the module is read in
+            found.append(Plant(file, name + " (%d)" % times[name] * (times[name] > 1), first, last, (place, variant),
+                               defines))
     return found
 
 
