@@ -1,6 +1,6 @@
 #!/usr/bin/env python3
-"""Lists what a crate is proved without: answers and lemmas; clauses of `requires` with --requires; steps of lemmas with
---steps. (`rt tidy` drops what `use` brings for nothing.)
+"""Lists what a crate is proved without: answers and lemmas; clauses of `requires` with --requires. (`rt tidy` drops what
+`use` brings for nothing.)
 
 Answers (definitions `pub NAME : goal.NAME` of proofs/F/Answers.antt) are all taken out of a copy of the crate at once.
 A check that goes past open goals says which goals then stay open. The answers of those are put back, and so on until
@@ -12,9 +12,6 @@ A lemma (any definition of proofs/, one of Answers.antt beside the answers too) 
 to it from an answer that stays, an invariant, a proof by hand, a source, or a crate above. Names are compared as words,
 whatever module they are of, so a lemma that shares its name with one that is cited is kept. What is left is checked.
 
-With --steps it looks at the clauses of lemmas alone: each that is longer by two lines becomes one search with the
-lemmas that it cites. Those with an error are put back, and so on until there is none.
-
 A private function's `requires` are taken out one at a time, one of each function in a check. If the function is still
 proved, the clause is a candidate and no more: a reader of the contract may want it, and what a caller proves for it
 then goes too. Clauses of public functions stay.
@@ -23,10 +20,10 @@ It doesn't see: a lemma or a hint in a tactic's list that the tactic could do wi
 because another one is out, or the other way round, beyond one order of taking out; hints of `#[tactic(..)]`; lemmas
 with an operator's name (they stay); a definition of specs/.
 
-usage: python3 tests/proofs/needless.py [--only WORD] [--steps] [--requires] [--write] CRATE..
+usage: python3 tests/proofs/needless.py [--only WORD] [--requires] [--write] CRATE..
 (at the top, `rt` on the PATH)
---only judges functions with WORD in their paths, and then no lemma; with --steps files. --write takes out of the crate
-itself what saves no more than a second, needless lemmas, or steps; `rt fmt`, `rt tidy` and `rt check` come after it.
+--only judges functions with WORD in their paths, and then no lemma. --write takes out of the crate itself what saves no
+more than a second, and needless lemmas; `rt fmt`, `rt tidy` and `rt check` come after it.
 """
 import argparse
 import collections
@@ -37,11 +34,10 @@ import subprocess
 import sys
 import tempfile
 
-from definitions import blocks_of, searches_of, texts_of, with_searches, without, words
+from definitions import blocks_of, texts_of, without, words
 from wrong_bodies import Crate, rows_of, write
 from wrong_edits import items, read
 
-SHORTER = 2  # lines by which a search has to be shorter than the clause in whose place it stands
 DEAR = 1.0  # processor seconds that an answer may save and still be needless
 # Another name for one, and the heads of modules
 RENAMED = re.compile(r"(\S+) as ([^\s,}]+)")
@@ -51,7 +47,6 @@ WHOLE = ("Invariants.antt", "Proof.antt")
 # What the check says of a function with an open goal, past which it went: its name, and the goals
 OPEN = re.compile(r"^fn (\S+): no proof: expected answers in \S+; `search` did not prove (.*)", re.M)
 WAITS = re.compile(r"^fn (\S+): no proof: it (?:calls|passes|rests|uses)", re.M)
-ERROR = re.compile(r"^(?:\./)?(proofs/\S+?):(\d+):\d+: error", re.M)
 # A clause of a function's head: its indent, and the text up to the line that ends it
 REQUIRES = re.compile(r"^ +requires\b(?:[^{\n]*)\{(?:[^{}]|\{[^{}]*\})*\}\n", re.M)
 
@@ -164,28 +159,6 @@ class Trial(Crate):
         return [it for it in stay if not it.is_answer and it.name not in known and "◌" not in it.name
                 and os.path.basename(it.path) not in WHOLE]
 
-    def needless_steps(self, word):
-        """Returns the clauses of lemmas that a search proves by what they cite, by files, and prints each round."""
-        paths = {it.path for it in self.blocks if it.is_lemma and not it.path.endswith(WHOLE) and word in it.path}
-        left = {path: searches_of(path, SHORTER) for path in sorted(paths)}
-        while any(left.values()):
-            folder, refused, places = self.copy_without([]), 0, {}
-            for path, searches in left.items():
-                text, places[path] = with_searches(path, searches)
-                write(f"{folder}/proofs/{path.split('/', 3)[3]}", text)
-            said, _ = run_in(folder, "--allow-holes")
-            removed(folder)
-            errors = [(f"{self.folder}/{file}", int(line)) for file, line in ERROR.findall(said)]
-            for path, searches in left.items():
-                bad = {at for at, (start, end) in enumerate(places[path])
-                       if any(file == path and start <= line <= end for file, line in errors)}
-                refused += len(bad)
-                left[path] = [it for at, it in enumerate(sorted(searches)) if at not in bad]
-            print(f"{self.name}: {sum(map(len, left.values()))} clauses by a search, {refused} put back", flush=True)
-            if not refused:
-                break
-        return left
-
     def needless_requires(self, word):
         """Returns the clauses of private functions without which those are still proved."""
         private = [it for path in texts_of(self.folder, "src/**/*.rt") for it in items(path)
@@ -238,29 +211,16 @@ def judged(trial, given):
     return gone + lemmas
 
 
-def stepped(trial, given):
-    """Prints which clauses of lemmas a search proves, and writes them so with --write."""
-    for path, searches in trial.needless_steps(given.only).items():
-        for start, end, name, new in searches:
-            print(f"{path}:{start + 1}: {name}, {end - start} lines, is proved by {new.split(' = ')[-1].strip()}")
-        if given.write and searches:
-            write(path, with_searches(path, searches)[0])
-
-
 def main():
     given = argparse.ArgumentParser()
     given.add_argument("--only", default="")
     given.add_argument("--requires", action="store_true")
-    given.add_argument("--steps", action="store_true")
     given.add_argument("--write", action="store_true")
     given.add_argument("crates", nargs="+")
     given = given.parse_args()
     with tempfile.TemporaryDirectory(prefix="needless-", dir=os.getcwd()) as room:
         for name in given.crates:
             trial = Trial(room, name)
-            if given.steps:
-                stepped(trial, given)
-                continue
             gone = judged(trial, given)
             print(f"{name}: {sum(it.end - it.start for it in gone)} lines of {len(gone)} definitions are needless")
             if given.write and gone:
