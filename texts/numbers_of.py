@@ -91,6 +91,36 @@ def of_sides() -> Dict[str, int]:
     return {name + end: int(count) for name, *counts in names for end, count in zip(("", ".of"), counts) if count}
 
 
+SIDE, NEAR = "crates/vbi_side/specs/", "crates/vbi_near/specs/"
+# The margins of one line, of either of two and of both, each those of a code and of another word: columns, and a share
+SIX = "_margins = " + 6 * r"[^#]*?columns = (\d+); share = (\d+)"
+# Rules of the library: the names of their numbers, where they are defined, and how
+RULES = (
+    ("reach", SIDE + "Beliefs.antt", r"^reach = (\d+)$"),
+    ("field_most", SIDE + "Beliefs.antt", r"^field_most = (\d+)$"), ("enough", SIDE + "Beliefs.antt", r"^enough = (\d+)$"),
+    ("begun", SIDE + "Verdicts.antt", r"nat_lt (\d+) \(since_end"), ("scratch", SIDE + "Blanks.antt", r"^scratch = (\d+)$"),
+    ("clear", SIDE + "Clocks.antt", r"^IsClear clock n = left_out clock \(n \+ (\d+)\)"),
+    ("second.ntsc", SIDE + "Lines.antt", r"^rate_of Ntsc = (\d+)$"),
+    ("second.pal", SIDE + "Lines.antt", r"^rate_of Pal = (\d+)$"),
+    ("starts.ntsc starts.pal", RATES, r"^NEARS = \(\(NTSC, (\d+), [^)]*\), \(PAL, (\d+),"),
+    ("close", NEAR + "Said.antt", r"^close_limit unit word = word.distance \+ (\d+) "),
+    ("agree", NEAR + "Said.antt", r"third\.distance \+ (\d+) \* unit"),
+    ("borne", NEAR + "Said.antt", r"^is_borne .*both.distance \+ (\d+) \* unit"),
+    ("stretched.least stretched.most", NEAR + "Stretched.antt", r"\((\d+) ≤ rate\) × \(rate ≤ (\d+)\)"),
+    *((" ".join("%s.%d" % (name, one) for one in range(12)), NEAR + "Margins.antt", "^" + name + SIX)
+      for name in ("levelled", "given")),
+    ("levelled.ends", NEAR + "Margins.antt", r"^levelled_margins = [^#]*?ends = (\d+)"),
+    ("given.ends", NEAR + "Margins.antt", r"^given_margins = [^#]*?ends = (\d+)"),
+    ("pile.known pile.else pile.share", NEAR + "Piled.antt", r"if known then (\d+) else (\d+); share = (\d+)"),
+    ("pile.other pile.other_share", NEAR + "Piled.antt", r"other = record \{ columns = (\d+); share = (\d+) "),
+    ("pile.ends", NEAR + "Piled.antt", r"ends = (\d+)"),
+)
+
+
+def rules() -> Dict[str, int]:
+    return {name: number for names, path, pattern in RULES for name, number in zip(names.split(), of_source(path, pattern))}
+
+
 def systems() -> str:
     """The values of the header's systems, with their sizes."""
     size = sizes()
@@ -132,7 +162,7 @@ def package() -> Dict[str, Any]:
 
 def all_numbers() -> Dict[str, Any]:
     size = sizes()
-    return {**size, **limits(), **refused(), **glitches(size), **of_tests(), **of_sides(), **package()}
+    return {**size, **rules(), **limits(), **refused(), **glitches(size), **of_tests(), **of_sides(), **package()}
 
 
 def as_there(value: Any, there: str) -> str:

@@ -1,7 +1,7 @@
 #!/usr/bin/env python3
 """Writes the texts that have their source elsewhere: the completions whole; in manual pages, documents, the header for
-C and two more files what stands between a comment `from SOURCE: PART` and `to here`; in a schema the list of kinds; and
-the numbers of documents that stand after their name. The sources are the commands and options, what was measured, and
+C and two more files what stands between a comment `from SOURCE: PART` and `to here`; in a schema the list of kinds; the
+numbers of documents that stand after their name; and those in the header's comments. The sources are the commands and options, what was measured, and
 the table of the classes of code words (classes.txt)."""
 
 import argparse
@@ -13,6 +13,7 @@ import sys
 import classes_parts
 import completions
 import documents
+import header
 import numbers_of
 import pages
 from program import TOP, ldvbi, ldvbi_side
@@ -46,10 +47,11 @@ def written():
         of_program = {name: (program.source, functools.partial(part, program))
                       for name, part in pages.PARTS[program.name].items()}
         yield "share/man/%s.1" % program.name, with_parts("share/man/%s.1" % program.name, of_program)
-    for path in ("include/ldvbi.h", "bench/plain.h", "python/ldvbi/classes.py"):
+    for path in ("bench/plain.h", "python/ldvbi/classes.py"):
         yield path, with_parts(path)
     yield classes_parts.SCHEMA, classes_parts.with_kinds(read(classes_parts.SCHEMA))
     numbers, named = numbers_of.all_numbers(), set()
+    yield header.HEADER, header.with_numbers(with_parts(header.HEADER), numbers)
     for path in ["README.md", "CONTRIBUTING.md", *sorted(numbers_of.paths("docs/*.md"))]:
         named |= {one[2] for one in numbers_of.MARK.finditer(read(path))}
         yield path, numbers_of.with_numbers(with_parts(path), numbers)
