@@ -21,7 +21,16 @@ git -C tree init -q
 git -C tree add .
 GIT_AUTHOR_DATE='@1000000000 +0000' GIT_COMMITTER_DATE='@1000000000 +0000' \
     git -C tree -c user.name=test -c user.email=test@localhost commit -qm source
-cp "$program" tree/ldvbi
+# The library, if it is built, with how many archives there are then
+library=
+[ ! -e "$built/libldvbi.a" ] || library=6
+# puts FOLDER: what is built, as it is left in this folder of the copy
+puts() {
+    cp "$program" "tree/$1/ldvbi"
+    [ ! "$library" ] ||
+        { cp "$built/libldvbi.a" "$built/libldvbi.so.2" "tree/$1" && ln -sf libldvbi.so.2 "tree/$1/libldvbi.so"; }
+}
+puts .
 
 # made WORD..: `make` in the copy, by somebody whose new files are for themselves alone, or as `mask` says
 path=$work/tools
@@ -36,8 +45,8 @@ has() {
     sort "$2" | cmp - found
 }
 
-# What is installed below a prefix: of the program, and of both; and files of others, whose names begin as ours do, in
-# each folder that has files of ours
+# What is installed below a prefix; and files of others, whose names begin as ours do, in each folder that has files of
+# ours
 {
     printf '%s\n' bin/ldvbi bin/ldvbi-side
     printf 'share/%s\n' doc/ldvbi/CHANGELOG.md doc/ldvbi/LICENSE doc/ldvbi/README.md man/man1/ldvbi-side.1 \
@@ -46,24 +55,22 @@ has() {
     printf 'share/ldvbi/ldvbi%s.schema.json\n' '' -join -recovered -scan -side
     (cd tree && git ls-files 'docs/*.md' 'docs/pictures/*.[ps]*g' examples | sed 's,^,share/doc/ldvbi/,' &&
         git ls-files 'python/*.py' | sed 's,^,share/ldvbi/,')
+    [ ! "$library" ] || printf '%s\n' include/ldvbi.h lib/cmake/ldvbi/ldvbi-config-version.cmake \
+        lib/cmake/ldvbi/ldvbi-config.cmake lib/libldvbi.a lib/libldvbi.so lib/libldvbi.so.2 lib/pkgconfig/ldvbi.pc
 } > files
-printf '%s\n' include/ldvbi.h lib/cmake/ldvbi/ldvbi-config-version.cmake lib/cmake/ldvbi/ldvbi-config.cmake \
-    lib/libldvbi.a lib/libldvbi.so lib/libldvbi.so.2 lib/pkgconfig/ldvbi.pc | cat files - > files_of_both
-# by_python FILES PREFIX: these files, and what says to the system's Python where the module is
+# by_python PREFIX: these files, and what says to the system's Python where the module is
 by_python() {
-    cat "$1"
+    cat files
     /usr/bin/python3 -c "import site
 for place in site.getsitepackages():
-    if place.startswith('$2/lib/'):
-        print(place[len('$2/'):] + '/ldvbi.pth')
+    if place.startswith('$1/lib/'):
+        print(place[len('$1/'):] + '/ldvbi.pth')
         break"
 }
-by_python files /usr/local > files_local
-by_python files_of_both /usr > files_of_debian
-{ sed 's,/ldvbi/.*,/ldvbi-other/file,; t; s,\([^/.]*\)\([^/]*\)$,\1-other\2,' files_of_both files_local
-    echo lib/libldvbi.so.0; } |
+by_python /usr/local > files_local
+{ sed 's,/ldvbi/.*,/ldvbi-other/file,; t; s,\([^/.]*\)\([^/]*\)$,\1-other\2,' files_local; echo lib/libldvbi.so.0; } |
     sort -u > others
-# installs NAME FILES FOLDER WORD..: installs with these words, and takes that away
+# installs NAME FILES FOLDER WORD..: installs with these words, which writes `said`, and takes that away
 installs() {
     name=$1
     cat "$2" others > files_there
@@ -73,6 +80,7 @@ installs() {
     (cd "$folder" && xargs dirname < "$work/others" | xargs mkdir -p && xargs touch < "$work/others")
     find "$folder" | sort > before
     made install "$@"
+    cp out said
     check "$name: what is installed" [ "$status$(has "$folder" files_there)" = 0 ]
     check "$name: the program is copied as it is" cmp "$folder/bin/ldvbi" "$program"
     # All can read it, and run what is to be run.
@@ -88,7 +96,6 @@ installs() {
 }
 made uninstall PREFIX="$work/nothing/usr"
 check 'make uninstall where nothing of ours is' [ $status = 0 ]
-installs 'a prefix' files one/usr PREFIX="$work/one/usr"
 installs 'a prefix below DESTDIR' files_local two/usr/local DESTDIR="$work/two"
 
 # What is refused, with nothing installed; and before `make rust` nothing is taken from there
@@ -106,27 +113,25 @@ END
 check 'nothing is installed then' [ ! -e stage ]
 
 # What `make rust` leaves, as which the program stands here with a crate that has been built by cargo
-mkdir -p tree/rust/crate/src tree/rust/crate/target tree/rust/crate/.cargo
-cp "$program" tree/rust/ldvbi
+mkdir -p tree/rust/crate/src tree/rust/crate/target tree/rust/crate/.cargo kept
+puts rust
 echo '[package]' > tree/rust/crate/Cargo.toml
 echo '//! A crate' > tree/rust/crate/src/lib.rs
 touch tree/rust/crate/target/built tree/rust/crate/.cargo/config.toml
-mv tree/ldvbi kept.ldvbi
-installs 'what make rust leaves' files rusty/usr PREFIX="$work/rusty/usr" FROM=rust
-made install PREFIX="$work/unasked/usr"
-check 'the same, which nobody asked for' has unasked/usr files
-check 'it is said' grep -q '^make: takes what make rust built, which is tested and not proved$' out
-mv kept.ldvbi tree/ldvbi
+mv tree/ldvbi kept
+installs 'what make rust leaves, which nobody asked for' files rusty/usr PREFIX="$work/rusty/usr"
+check 'it is said' grep -q '^make: takes what make rust built, which is tested and not proved$' said
+mv kept/ldvbi tree
 
-# Without the toolchain two lines say what to do
+# Without the toolchain two lines say what to do, and nothing is installed that is older than its source
 printf 'make: %s\n' 'the proved build needs the toolchain of Rattle, whose command rt is not on the PATH' \
     'without it: make rust && make install FROM=rust' > wanted
-for target in '' test lib; do
-    touch tree/crates.txt
+touch -d tomorrow tree/crates.txt
+for target in '' test lib "install PREFIX=$work/usr"; do
     made $target
-    check "make $target without the toolchain" [ -z "$(grep -v '^make.*\*\*\*' err | diff - wanted)" ]
+    check "make ${target%% *} without the toolchain" [ -z "$(grep -v '^make.*\*\*\*' err | diff - wanted)" ]
 done
-touch tree/ldvbi
+touch -r tree/LICENSE tree/crates.txt
 
 # Archives of source and program, of that program and its crate, which have nothing of this machine. They are the same
 # ones each time, whatever mode new files get.
@@ -138,8 +143,9 @@ packed() {
 release=ldvbi-$(sed -n 's/^VERSION := //p' "$top/Makefile")
 (cd tree && git ls-files) > source_files
 printf '%s\n' Cargo.toml src/lib.rs > crate_files
+path=/usr/bin:/bin
 made dist
-check 'make dist without the toolchain' [ "$status $(wc -l < tree/dist/SHA256SUMS)" = '0 4' ]
+check 'make dist without the toolchain' [ "$status $(wc -l < tree/dist/SHA256SUMS)" = "0 ${library:-4}" ]
 check 'the checksums' sh -c 'cd tree/dist && sha256sum -c --quiet SHA256SUMS'
 while read -r archive packed_files; do
     check "what $archive has" packed $archive $packed_files
@@ -151,55 +157,44 @@ $release.crate crate_files
 END
 for archive in tree/dist/*.tar.gz tree/dist/*.crate; do tar --numeric-owner -tvzf "$archive"; done > packed
 check "the files in the archives are root's" [ "$(awk '{ print $2 }' packed | sort -u)" = 0/0 ]
+if [ "$library" ]; then
+    dpkg-deb -x tree/dist/*.deb package
+    { by_python /usr; printf 'share/%s\n' doc/ldvbi/changelog.Debian.gz doc/ldvbi/copyright lintian/overrides/ldvbi; } |
+        grep -v /LICENSE > files_of_package
+    check 'what is in the package' has package/usr files_of_package 's,^lib/x86_64-linux-gnu,lib,; s/[.]1[.]gz$/.1/'
+fi
 mv tree/dist/SHA256SUMS before
 sleep 1
 mask=022
 made dist
 check 'the archives of one whose files are for all are the same, and later ones' cmp before tree/dist/SHA256SUMS
 mask=077
-touch -d @1300000000 tree/rust/ldvbi
+touch -d @1300000000 tree/rust/ldvbi tree/ldvbi
 made dist
-check 'nothing of it is packed that is older than its source' [ "$(wc -l < tree/dist/SHA256SUMS)" = 2 ]
+check 'nothing is packed that is older than its source' [ "$(wc -l < tree/dist/SHA256SUMS)" = 1 ]
+path=$work/tools
 
-# With the library: by its side, below its architecture, and as `make rust` leaves it; and packed with a wheel
-if [ -e "$built/libldvbi.a" ]; then
-    cp "$built/libldvbi.a" "$built/libldvbi.so.2" tree && ln -s libldvbi.so.2 tree/libldvbi.so
-    installs 'both' files_of_both both/usr PREFIX="$work/both/usr"
-    in_debian="DESTDIR=$work/debian PREFIX=/usr LIBDIR=/usr/lib/x86_64-linux-gnu"
-    made install $in_debian
-    check 'a library below its architecture' has debian/usr files_of_debian 's,^lib/x86_64-linux-gnu,lib,'
-    made uninstall $in_debian
-    check 'nothing of it is left' has debian empty
-    made install-lib DESTDIR="$work/apart" PREFIX=/usr LIBDIR=/elsewhere/lib
+# The library: by itself, apart from the prefix; and what `make rust` left of it, packed and described
+if [ "$library" ]; then
+    apart="DESTDIR=$work/apart PREFIX=/usr LIBDIR=/elsewhere/lib"
+    made install-lib $apart
     check 'a library apart is described by its own place' \
         grep -qx 'libdir=/elsewhere/lib' apart/elsewhere/lib/pkgconfig/ldvbi.pc
+    made uninstall $apart
+    check 'nothing of it is left' has apart empty
+    mv tree/libldvbi.* tree/ldvbi kept
+    touch tree/rust/ldvbi
     path=/usr/bin:/bin
     made dist
-    check "what $release-x86_64-linux.tar.gz has of both" packed $release-x86_64-linux.tar.gz files_of_both
-    check 'a wheel and a package beside it' [ "$status $(echo tree/dist/*.whl tree/dist/*.deb | wc -w)" = '0 2' ]
-    dpkg-deb -x tree/dist/*.deb package
-    printf 'share/%s\n' doc/ldvbi/changelog.Debian.gz doc/ldvbi/copyright lintian/overrides/ldvbi |
-        cat - files_of_debian | grep -v /LICENSE > files_of_package
-    check 'what is in the package' has package/usr files_of_package 's,^lib/x86_64-linux-gnu,lib,; s/[.]1[.]gz$/.1/'
-    touch tree/crates.txt
-    made dist
-    check 'neither where they are older than their source' [ "$(wc -l < tree/dist/SHA256SUMS)" = 1 ]
-    mv tree/libldvbi.* tree/ldvbi tree/rust
-    made dist
-    check 'both of what make rust left' [ "$status $(echo tree/dist/*.whl tree/dist/*.deb | wc -w)" = '0 2' ]
+    check 'a wheel and a package of what make rust left' [ "$status $(echo tree/dist/*.whl tree/dist/*.deb | wc -w)" = '0 2' ]
     path=$work/tools
-    installs 'both of make rust' files_of_both rusty_both/usr PREFIX="$work/rusty_both/usr" FROM=rust
     made install-lib PREFIX="$work/static" FROM=rust
     check 'its description names what the archive needs' \
         grep -qx 'Libs.private: -lpthread -ldl' static/lib/pkgconfig/ldvbi.pc
 else
-    leave_out 19
+    leave_out 5
 fi
-rm -rf tree/rust/crate tree/rust/ldvbi tree/rust/libldvbi.*
-cp "$program" tree/ldvbi
-touch -d @1300000000 tree/ldvbi
-made install PREFIX="$work/usr"
-check 'no program is installed that is older than its source' [ $status != 0 ]
+rm -rf tree/rust/crate tree/rust/ldvbi tree/rust/libldvbi.* tree/ldvbi tree/libldvbi.*
 
 # One version
 version=$(output_of --version | sed 's/^ldvbi //; s/ (.*)$//')
@@ -224,7 +219,6 @@ proves() {
     made "$@"
     sed -i 's/, [0-9][0-9]* s$/, N s/' out
 }
-rm tree/ldvbi
 proves ldvbi JOBS=3
 check 'large crates are proved by as many jobs as are asked for' \
     grep -qx 'rt lib --jobs 3' tree/crates/vbi_near/out/make.log

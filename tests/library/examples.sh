@@ -13,25 +13,23 @@
 
 with_python
 
-# The examples, of which some answer alike. That all are built, answers.sh checks; what a search fetches, fetched.sh.
-seek='seek seek_cpp seek.py'
+# The examples, of which some answer alike. That all are built, in C++, too, answers.sh checks; what a search fetches,
+# fetched.sh.
+seek='seek seek.py'
 stops='stops stops_cpp'
-player='player player_cpp player.py'
-whole='whole whole_cpp whole.py'
+player='player player.py'
+whole='whole whole.py'
 for name in seek stops player whole pixels; do
     bounded $cc -std=c99 $strict -o $name "$top/examples/$name.c" $linked
 done
-for name in stops.cpp player.c seek.c whole.c; do
-    bounded $cxx -x c++ -std=c++17 $strict -o ${name%.*}_cpp "$top/examples/$name" $linked
-done
+bounded $cxx -std=c++17 $strict -o stops_cpp "$top/examples/stops.cpp" $linked
 for most in player.c:120 seek.c:80; do
     check "${most%:*} has at most ${most#*:} lines" [ "$(wc -l < "$top/examples/${most%:*}")" -le ${most#*:} ]
 done
 # answers_so NAME STATUS OUT SAID COMMAND: whether a line for the shell ends with this status, and writes these lines,
-# which ; parts. It says nothing, or this line after the example's name, for which % stands in it, or one line of its
-# own where that is *.
+# which ; parts. It says nothing, or this line after the example's name, or one line of its own where that is *.
 answers_so() {
-    said_line "${4:+$1: $(echo "$4" | sed "s/%/$1/")}"
+    said_line "${4:+$1: $4}"
     printf '%s' "${3:+$3;}" | tr ';' '\n' > wanted_out
     status=0
     eval "bounded $5" < empty > out 2> err || status=$?
@@ -77,8 +75,7 @@ run extract $ntsc worn.tbc
 check 'a worn side: no line shows its word' [ "$(jq -c '[.fields[].vbi.vbiData[]] | [length, add]' out)" = '[144,0]' ]
 mkdir folder.tbc
 ln -s /dev/null null.tbc
-draw_side misread 30 NTSC
-draw_side clock 30 NTSC
+draws misread clock
 bounded sh "$top/examples/side.sh" "$program"
 # The settings of all, as players take them: metadata, and the first rows of a map
 for side in nowhere folder null empty cav side stops both misread worn stops_4_478659; do settles $side $on_cav; done
@@ -88,15 +85,13 @@ for part in 4_478659 5_1 8_32760; do
     head -c $((478660 * ${part%_*} + ${part#*_})) stops.tbc > stops_$part.tbc
 done
 
-# What examples are asked: their status, what they write, sides, words, both parted by ;, and what is said. In place of
-# @ stand the side's system and levels, and in that of & what the example is asked else. `stops` says no pictures.
+# What examples are asked (examples.py)
 cut='the last field is cut: field'
 off="first and last number don't fit"
 gaps=$(awk 'BEGIN { for (part = 0; part < 10; part++)
     printf "lost 190: field %d has %d, field %d has %d;", 10 * part + 9, 100 * part + 5, 10 * part + 11, \
         100 * part + 101 }')
-awk -F '|' -v OFS='|' '{ count = split($4, sides, ";"); many = split($5, words, ";")
-    for (i = 1; i <= count; i++) for (j = 1; j <= many; j++) print $1, $2, $3, sides[i], words[j], $6 }' > rows << END
+cat > rows << END
 $seek|0|field 5|stops|@ 3|
 $seek|1|not found|stops|@ 7;@ 79999|
 $seek|1|not found|few;marks;clv|@ 1;@ 0:00:00.02;@ chapter 1|
@@ -145,30 +140,16 @@ $whole|1|whole: no: it begins late, fields may be lost;open 4: field 23 has 1079
 $whole|1|whole: no: fields are lost, $off, no lead-out;${gaps}gaps left out: 1|gaps|@|
 $whole|2||cav|NTSC 16384;@ cut cut;@ whole|*
 END
-while IFS='|' read -r examples ended text side words said; do
-    on=$on_cav
-    case $side in clv | marks) on=$on_clv ;; esac
-    for name in $examples; do
-        case $name in seek*) asked=3 ;; player*) asked='search 3' on= ;; *) asked= ;; esac
-        asked=$(echo "$words" | sed "s/@/$on/; s/&/$asked/")
-        case $name in
-            stops*) command="./$name $asked < $side.tbc" ;;
-            player | player_cpp) command="./$name $side.tbc $side.map $asked" ;;
-            *.py) command="python3 $top/examples/$name $side.tbc $asked" ;;
-            *) command="./$name $side.tbc $asked" ;;
-        esac
-        shown=$text
-        [ $name != stops ] || shown=$(echo "$text" | sed 's/ picture [0-9]*//g')
-        check "$name $side $words" answers_so ${name%_cpp} $ended "$shown" "$said" "$command"
-    done
-done < rows
+status=0
+bounded python3 "$here/examples.py" < rows > out 2> err || status=$?
+check "examples answer as the table has it" [ "$status" = 0 ]
 
 # A player's settings that can't be right
 while read -r settings; do
     settles cav $settings
-    for command in './player cav.tbc cav.map' './player_cpp cav.tbc cav.map' "python3 $top/examples/player.py cav.tbc"; do
+    for command in './player cav.tbc cav.map' "python3 $top/examples/player.py cav.tbc"; do
         name=$(basename "${command%% cav*}")
-        check "$name, told $settings" answers_so ${name%_cpp} 2 '' '*' "$command play"
+        check "$name, told $settings" answers_so $name 2 '' '*' "$command play"
     done
 done << END
 NTSC 51200 16384
@@ -191,11 +172,9 @@ awk -v fields=129 'BEGIN {
     for (rows = 15 * 1820; asked++ < fields; rows += 478660) print "asks", rows - rows % 4096, rows + 3 * 1820
 }' > wanted_advice
 settles long $on_cav
-for asked in 'whole cut' 'whole_cpp cut'; do
-    does env ADVISED=${asked% *}.advice LD_PRELOAD="$work/advised.so" ./${asked% *} long.tbc $on_cav ${asked#* }
-    check "${asked% *} asks for the pages ahead" cmp ${asked% *}.advice wanted_advice
-done
-for asked in 'player long.map play' 'player_cpp long.map play' "seek $on_cav 65" "seek_cpp $on_cav 65"; do
+does env ADVISED=whole.advice LD_PRELOAD="$work/advised.so" ./whole long.tbc $on_cav cut
+check "whole asks for the pages ahead" cmp whole.advice wanted_advice
+for asked in 'player long.map play' "seek $on_cav 65"; do
     name=${asked%% *}
     does env ADVISED=$name.advice LD_PRELOAD="$work/advised.so" ./$name long.tbc ${asked#* }
     check "$name has nothing read ahead" [ "$(cat $name.advice)" = "random 0 $((478660 * 129))" ]

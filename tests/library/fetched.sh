@@ -14,12 +14,11 @@ with_python
 for name in seek player; do
     bounded $cc -std=c99 $strict -o $name "$top/examples/$name.c" $linked
 done
-bounded $cxx -x c++ -std=c++17 $strict -o player_cpp "$top/examples/player.c" $linked
 settles great $on_cav
 bounded python3 "$here/great.py" draw great.tbc
 bounded python3 "$here/great.py" answers great.tbc > answers
 check 'the whole side is judged' [ "$(wc -l < answers)" = 8 ]
-players="./player|great.map;./player_cpp|great.map;python3 $top/examples/player.py|"
+players="./player|great.map;python3 $top/examples/player.py|"
 if [ "$built" = "$top/rust" ]; then
     cp -r "$top/examples/rust" project
     [ ! -d "$top/rust/crate/.cargo" ] || cp -r "$top/rust/crate/.cargo" project

@@ -16,8 +16,8 @@ import ldvbi
 from ldvbi import State
 
 SETUP, FIELDS, LEAD_IN, LEAD_OUT = ("NTSC", 16384, 51200), 104458, 400, 600
-STOP = 0x82CFFF
-sys.path.insert(0, str(pathlib.Path(__file__).parents[2] / "bench"))
+STOP, TOP = 0x82CFFF, pathlib.Path(__file__).parents[2]
+sys.path += [str(TOP / "bench"), str(TOP / "tests/cli")]
 
 
 def digits(number):
@@ -38,14 +38,9 @@ def words():
 
 
 def draw(path):
-    size, line = ldvbi.field_bytes("NTSC"), ldvbi.line_bytes("NTSC")
-    drawn = {word: ldvbi.draw_line(word, *SETUP) for word in (0, STOP)}
-    with open(path, "wb", buffering=0) as file:
-        file.truncate(FIELDS * size)
-        for place, field in enumerate(words()):
-            rows = [drawn[word] if word in drawn else ldvbi.draw_line(word, *SETUP) for word in field]
-            skipped = 0 if field[0] else 1
-            os.pwrite(file.fileno(), b"".join(rows[skipped:]), place * size + (15 + skipped) * line)
+    from answers import write_side
+    write_side(path, SETUP, words())
+    with open(path, "rb") as file:
         os.fsync(file.fileno())
 
 
