@@ -135,42 +135,22 @@ def faults():
     yield [*map(len, drawn)] == [most, most + 1], f"FORMATS.md draws gaps of {drawn}: a glitch has up to {most} columns"
 
 
-SIDE, NEAR = "crates/vbi_side/specs/", "crates/vbi_near/specs/"
-MARGINS, PILED = NEAR + "Margins.antt", NEAR + "Piled.antt"
-# The margins of one line, of either of two and of both, each those of a code and of another word: columns, and a share
-SIX = "_margins = " + 6 * r"[^#]*?columns = (\d+); share = (\d+)"
-ROWS = "one line # # # # either, if they don't agree # # # # lines 17 and 18 together # # # #"
-# Where numbers stand in the source, and sentences with the same ones, in which # stands for each in turn, or for one;
-# of the order of bytes it stands for a word
+SIDE, PILED = "crates/vbi_side/specs/", "crates/vbi_near/specs/Piled.antt"
+# Where numbers stand in the source, and sentences of Python and schemas with the same ones, in which # stands for each
+# in turn, or for one; of the order of bytes it stands for a word. texts/write.py writes those of documents and header.
 NUMBERS = (
-    (SIDE + "Beliefs.antt", r"^enough = (\d+)$", "(?<!two lines )weighs? # or more", "and # or more after it",
-     "(?<!those words )(?:weigh|it) less than #"),
+    (SIDE + "Beliefs.antt", r"^enough = (\d+)$", "weighs? # or more", "and # or more after it",
+     "(?:weigh|it) less than #"),
     (SIDE + "Beliefs.antt", r"^field_most = (\d+)$", "and # of it or more"),
     (SIDE + "Beliefs.antt", r"^reach = (\d+)$", "by the # fields before it and the # after it",
-     "field and the # on either side", "within # fields(?! that go on|, and wrong|, and the misread)",
-     "lost from # fields after the first to # before",
-     "from # fields before the gap to # after it", "believed of the last #, due",
-     "no field from # after its first believed number to # before"),
-    (SIDE + "Votes.antt", r"^vote_reach = (\d+)$", "in the # fields before it and the # after it that",
-     "ran on within # fields, and (?:wrong|the misread)"),
+     "lost from # fields after the first to # before"),
+    (SIDE + "Votes.antt", r"^vote_reach = (\d+)$", "in the # fields before it and the # after it that"),
     (SIDE + "Parts.antt", r"^part_most = (\d+)$", "of at most # readings"),
-    ("crates/vbi_c/specs/Seeking.antt", r"^looked_most = (\d+)$", "[Aa]t most # fields (?:are|as) read",
-     "at most # fields, as"),
-    ("python/ldvbi/near.py", r"^MOST_LINES = (\d+) ", "of 1 to # lines", "that 1 to # lines", "be 1 to # times"),
-    (MARGINS, "^levelled" + SIX, "levelled lines " + ROWS),
-    (MARGINS, "^given" + SIX, "lines as they are " + ROWS),
-    (MARGINS, r"^levelled_margins = [^#]*?ends = (\d+)", "by more than # columns in each levelled line"),
-    (MARGINS, r"^given_margins = [^#]*?ends = (\d+)", "or # in each line as it is"),
-    (MARGINS, r"^levelled_margins = [^#]*?both = [^#]*?columns = (\d+)", "Two lines need # columns"),
-    (NEAR + "Said.antt", r"^close_limit unit word = word.distance \+ (\d+) ",
-     "no word is nearer by more than # columns"),
+    ("crates/vbi_c/specs/Seeking.antt", r"^looked_most = (\d+)$", "[Aa]t most # fields (?:are|as) read"),
+    ("python/ldvbi/near.py", r"^MOST_LINES = (\d+) ", "of 1 to # lines", "that 1 to # lines"),
     (PILED, r"columns = if known then (\d+) else (\d+); share",
-     "ahead of any other(?: code)? by # columns[,;] else by #",
-     r"ahead by # columns if dropouts are known \(`known` is 1\), else \(`known` is 0\) by #"),
-    (PILED, r"else \d+; share = (\d+) \};\s+other = record \{ columns = (\d+); share = (\d+) ",
-     "by a share of #/288. Any other word has to be ahead by # columns, and by #/288"),
-    (PILED, r"ends = (\d+)", "may be nearer by # columns in each line"),
-    (SIDE + "Lines.antt", r"nat_lt minutes (\d+) ", "Minute #, PAL picture", "shows it, as minute #"),
+     "ahead of any other(?: code)? by # columns[,;] else by #"),
+    (SIDE + "Lines.antt", r"nat_lt minutes (\d+) ", "shows it, as minute #"),
     ("crates/vbi_words/specs/Levels.antt", r"^samples_of \((\w+) ∷ \w+ ∷ bytes\) = \(\1 [+] 256 ",
      "(?:the|samples,|samples of 16 bits,) # byte first"),
 )
@@ -178,12 +158,12 @@ NUMBERS = (
 
 def numbers():
     """Each number, or word, wherever such a sentence stands, is that of the source."""
-    paths = [*documents(), *glob.glob("include/*.h"), *glob.glob("python/ldvbi/*.py"), *glob.glob("share/*/*.[1j]*")]
+    paths = [*glob.glob("python/ldvbi/*.py"), *glob.glob("share/*/*.[1j]*"), "docs/FORMATS.md", "include/ldvbi.h"]
     texts = {path: re.sub(r"\s+(?:\* )*\s*", " ", read(path)) for path in paths}
     for source, pattern, *sentences in NUMBERS:
         wanted = re.search(pattern, read(source), re.M).groups()
         for sentence in sentences:
-            places = [(path, one) for path, text in texts.items()
+            places = [(path, one) for path, text in texts.items() if path[:2] in ("py", "sh") or "byte" in sentence
                       for one in re.finditer(sentence.replace("#", r"(\d[\d,]*|low|high)"), text)]
             yield places, f"'{sentence}' stands nowhere"
             for path, one in places:
@@ -231,7 +211,7 @@ def promises():
 
 # Each check, with the least that it has to look at
 CHECKS = {"promises": (promises, 17), "links": (links, 70), "paths": (paths, 120), "names": (names, 800),
-          "faults": (faults, 28), "numbers": (numbers, 100), "measured": (measured, 20)}
+          "faults": (faults, 28), "numbers": (numbers, 40), "measured": (measured, 20)}
 
 
 def main():

@@ -10,8 +10,8 @@ from program import TOP
 
 HEADER = "include/ldvbi.h"
 COMMENT = re.compile(r"/\*.*?\*/", re.S)
-NUMBER = re.compile(r"(?<![\w.])(?:0x[0-9A-F]+|\d+(?:,\d{3})*(?:[.:]\d+)*)(?=ths|\b)|\b(?:two|three|four|five|six|seven|eight|"
-                    r"nine|ten|twelve|half|quarter|tenths?|hundredths|sixteenth|twice|million)\b", re.I)
+NUMBER = re.compile(r"(?<![\w.])(?:0x[0-9A-F]+|\d+(?:,\d{3})*(?:[.:]\d+)*)(?=ths|\b)|\b(?:two|three|four|five|six|"
+                    r"seven|eight|nine|ten|twelve|half|quarter|tenths?|hundredths|sixteenth|twice|million)\b", re.I)
 # What a comment is about: the name before it on its line, or the first one after it that is declared
 BEFORE = re.compile(r"(\w+)(?:\[\d+\])?(?: = \d+)?[,;{} ]*$")
 AFTER = re.compile(r"\b(ldvbi_\w+(?=\()|Ldvbi\w+|LDVBI_(?!RESULT|POINTER)\w+)")
@@ -54,7 +54,7 @@ def with_numbers(text: str, numbers: Dict[str, Any]) -> str:
         return as_there(numbers[one], there) if one in numbers else there if there.lower() == one else one
 
     for (start, comment, _), (_, ones) in reversed(list(zip(found, wanted))):
-        left = iter(ones)
-        new = NUMBER.sub(lambda there, left=left: number(there[0], next(left)), comment)
+        parts, left = NUMBER.split(comment), NUMBER.findall(comment)
+        new = "".join(part + number(*pair) for part, pair in zip(parts, zip(left, ones))) + parts[-1]
         text = text[:start] + new + text[start + len(comment):]
     return text

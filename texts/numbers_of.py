@@ -97,8 +97,13 @@ SIX = "_margins = " + 6 * r"[^#]*?columns = (\d+); share = (\d+)"
 # Rules of the library: the names of their numbers, where they are defined, and how
 RULES = (
     ("reach", SIDE + "Beliefs.antt", r"^reach = (\d+)$"),
-    ("field_most", SIDE + "Beliefs.antt", r"^field_most = (\d+)$"), ("enough", SIDE + "Beliefs.antt", r"^enough = (\d+)$"),
-    ("begun", SIDE + "Verdicts.antt", r"nat_lt (\d+) \(since_end"), ("scratch", SIDE + "Blanks.antt", r"^scratch = (\d+)$"),
+    ("field_most", SIDE + "Beliefs.antt", r"^field_most = (\d+)$"),
+    ("enough", SIDE + "Beliefs.antt", r"^enough = (\d+)$"),
+    ("vote_reach", SIDE + "Votes.antt", r"^vote_reach = (\d+)$"),
+    ("minutes", SIDE + "Lines.antt", r"nat_lt minutes (\d+) "),
+    ("looked_most", "crates/vbi_c/specs/Seeking.antt", r"^looked_most = (\d+)$"),
+    ("begun", SIDE + "Verdicts.antt", r"nat_lt (\d+) \(since_end"),
+    ("scratch", SIDE + "Blanks.antt", r"^scratch = (\d+)$"),
     ("clear", SIDE + "Clocks.antt", r"^IsClear clock n = left_out clock \(n \+ (\d+)\)"),
     ("second.ntsc", SIDE + "Lines.antt", r"^rate_of Ntsc = (\d+)$"),
     ("second.pal", SIDE + "Lines.antt", r"^rate_of Pal = (\d+)$"),
@@ -118,7 +123,9 @@ RULES = (
 
 
 def rules() -> Dict[str, int]:
-    return {name: number for names, path, pattern in RULES for name, number in zip(names.split(), of_source(path, pattern))}
+    numbers = {name: number for names, path, pattern in RULES
+               for name, number in zip(names.split(), of_source(path, pattern))}
+    return {**numbers, "reach.twice": 2 * numbers["reach"]}
 
 
 def systems() -> str:

@@ -1,8 +1,8 @@
 #!/usr/bin/env python3
 """Writes the texts that have their source elsewhere: the completions whole; in manual pages, documents, the header for
 C and two more files what stands between a comment `from SOURCE: PART` and `to here`; in a schema the list of kinds; the
-numbers of documents that stand after their name; and those in the header's comments. The sources are the commands and options, what was measured, and
-the table of the classes of code words (classes.txt)."""
+numbers of documents that stand after their name; and those in the header's comments. The sources are the commands and
+options, what was measured, the definitions, and the table of the classes of code words (classes.txt)."""
 
 import argparse
 import functools

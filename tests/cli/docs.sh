@@ -96,24 +96,25 @@ page() {
 # In a copy of the documents it is seen what somebody has written otherwise, as often as a number says.
 mkdir copy
 ln -s "$top"/* "$top/.ci" "$top/.github" "$top/.gitignore" copy
-rm copy/docs copy/texts
-cp -r "$top/docs" "$top/texts" copy
+rm copy/docs copy/texts copy/include
+cp -r "$top/docs" "$top/texts" "$top/include" copy
 while read -r name alterations; do
-    sed -i "$alterations" "copy/docs/$name.md"
+    sed -i "$alterations" "copy/$name"
 done << 'END'
-ANSWER s/^- `cause`: as/- `why`: as/; s/, `confirmed`//
-DECISIONS s/`outcome_of`/`outcome_for`/
-FORMATS s/^- line 17: CLV mark$/- line 18: CLV mark/; s/`field width differs`/`field width differ`/
-FORMATS s/else `hold` and that/else `held` and that/; s/#####[.]*######/#####....#####/; s/low byte/high byte/
-MEASURED s/judged 883 right/judged 898 right/
-PROMISES s/(#not-promised)/(#not-proved)/; s/`fetched`, `written`/`fetched`, `rewritten`/; s/`Said.antt`/`Saids.antt`/
+include/ldvbi.h s/at most eight by drop-frame/at most nine by drop-frame/
+docs/ANSWER.md s/^- `cause`: as/- `why`: as/; s/, `confirmed`//
+docs/DECISIONS.md s/`outcome_of`/`outcome_for`/
+docs/FORMATS.md s/^- line 17: CLV mark$/- line 18: CLV mark/; s/`field width differs`/`field width differ`/
+docs/FORMATS.md s/else `hold` and that/else `held` and that/; s/#####[.]*######/#####....#####/; s/low byte/high byte/
+docs/MEASURED.md s/judged 883 right/judged 898 right/
+docs/PROMISES.md s/(#not-promised)/(#not-proved)/; s/`fetched`, `written`/`fetched`, `rewritten`/; s/`Said.antt`/`Saids.antt`/
 END
 while read -r count said; do
     check "$said" in_folder "$top" python3 $said
     in_folder copy python3 $said
     check "$said sees other texts" [ "$status $(grep -vc 'looked at$' out)" = "1 $count" ]
 done << 'END'
-2 texts/write.py --check
+3 texts/write.py --check
 12 tests/documents.py
 END
 

@@ -126,7 +126,7 @@ mv kept/ldvbi tree
 # Without the toolchain two lines say what to do, and nothing is installed that is older than its source
 printf 'make: %s\n' 'the proved build needs the toolchain of Rattle, whose command rt is not on the PATH' \
     'without it: make rust && make install FROM=rust' > wanted
-touch -d tomorrow tree/crates.txt
+touch tree/crates.txt
 for target in '' test lib "install PREFIX=$work/usr"; do
     made $target
     check "make ${target%% *} without the toolchain" [ -z "$(grep -v '^make.*\*\*\*' err | diff - wanted)" ]
@@ -246,28 +246,18 @@ head -n 21 err > found
 check 'the end of the log stands above its name' cmp found wanted
 check 'the status is that of the toolchain' [ "$(sed -n '22s/.*\(Error [0-9]*\)$/\1/p' err)" = 'Error 7' ]
 
-# What is built is built anew after a change of one of its crates, and after no other one
+# What is built is built anew after a change of a source of its crates, and after no other one
 path=$work/tools
-find tree -exec touch -h -d @1000000000 {} +
-touch -d @1100000000 tree/libldvbi.a
-touch -d @1200000000 tree/ldvbi tree/libldvbi.so.2
-ln -sf libldvbi.so.2 tree/libldvbi.so
-# is_due TARGET FILE: whether this has to be built after a change of that file
-is_due() {
-    made -q -W "$2" "$1"
-    [ $status = 1 ]
-}
-while read -r target files; do
-    for file in $files crates.txt crates/vbi_near/specs/Apart.antt; do
-        is_due $target $file || echo "$target doesn't depend on $file"
-    done
-    for file in README.md Makefile include/ldvbi.h; do ! is_due $target $file || echo "$target depends on $file"; done
-done > undue << END
-ldvbi $(printf 'crates/%s/src/lib.rt ' $program_crates | sed 's,ldvbi/src/lib,ldvbi/src/main,')
-libldvbi.a $(printf 'crates/%s/src/lib.rt ' $library_crates)
-libldvbi.so libldvbi.a
+made -pq ldvbi
+while read -r target crates; do
+    sed -n "s/^$target: //p" out | tr ' ' '\n' | sort > found
+    { echo crates.txt; cd tree && find $crates -name '*.rt' -o -name '*.antt'; } | sort > wanted
+    check "$target is built anew after a change of a source alone" cmp found wanted
+done << END
+ldvbi crates
+libldvbi.a $(printf 'crates/%s ' $library_crates)
 END
-check 'program and library are built anew after a change of a source alone' cmp undue empty
+check 'the library is linked of the archive' grep -qx 'libldvbi.so.2: libldvbi.a' out
 
 # `make clean` takes away what was built, and leaves the source
 mkdir -p tree/rust/out tree/rust/x86_64-pc-windows-gnu

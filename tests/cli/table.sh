@@ -1,11 +1,6 @@
 # shellcheck shell=sh disable=SC2034
 # What the tests of the table answers.txt share. They read this in after tests/helpers.sh and library_helpers.sh.
 
-# draws [SIDE..]: draws these sides of the table, or all
-draws() {
-    bounded python3 "$tests/cli/answers.py" draw "$@" || exit 1
-}
-
 # settles NAME SYSTEM BLACK WHITE: writes these settings beside a side, as metadata and as the first rows of a map
 settles() {
     printf '{"videoParameters":{"system":"%s","black16bIre":%s,"white16bIre":%s}}' "$2" "$3" "$4" > "$1.tbc.json"
@@ -17,7 +12,7 @@ draws_sides() {
     output_of draw $ntsc "$top/examples/cav.words" > cav.tbc
     output_of draw $pal "$top/examples/clv.words" > clv.tbc
     bounded sh "$top/examples/side.sh" "$program"
-    draws
+    bounded python3 "$tests/cli/answers.py" draw || exit 1
     sed -n 's/^= \([a-z]* [A-Z]*\).*/\1/p' "$tests/cli/answers.txt" | uniq > sides
     while read -r side system; do
         case $system in NTSC) settles $side $on_cav ;; PAL) settles $side $on_clv ;; esac

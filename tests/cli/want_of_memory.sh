@@ -18,7 +18,8 @@ printf '{"videoParameters":{"system":"NTSC","fieldWidth":910,"fieldHeight":263,"
 echo '-|-|-' | signal NTSC 1 8224 16448 > beside.tbc
 cp line.json beside.tbc.json
 
-# Each of the allocations of a run is refused in turn. The runs have 50 to 150 of them, by the program.
+# Each of the allocations of a run is refused in turn. The runs have 50 to 150 of them, by the program. Here nothing
+# bounds a run: that would take longer than the runs do.
 while IFS='|' read -r input words; do
     run_with "$input" $words
     whole=$status
@@ -27,33 +28,34 @@ while IFS='|' read -r input words; do
     : > wrong
     number=0
     : > mark
-    while [ -e mark ] && [ ! -e endless ]; do
-        { ended "$whole" whole.out whole.err || { ended 1 empty wanting && cmp -s rest "$input"; }; } ||
-            echo "allocation $number refused: status $status" >> wrong
+    while [ -e mark ]; do
         number=$((number + 1))
         rm -f mark
         status=0
         {
-            bounded env REFUSE_AT="$number" LD_PRELOAD="$work/devices.so" "$program" $words > out 2> err || status=$?
+            REFUSE_AT=$number LD_PRELOAD=$work/devices.so "$program" $words > out 2> err || status=$?
             cat > rest
         } < "$input"
+        ended "$whole" whole.out whole.err || { ended 1 empty wanting && cmp -s rest "$input"; } ||
+            echo "allocation $number refused: status $status" >> wrong
     done
     cp wrong err
     check "$words: each of over 40 allocations may be refused" [ "$(cat wrong)$((number > 40))" = 1 ]
 done << END
 $stored/stdin|$(paste -s -d " " "$stored/args")
-empty|
 empty|line --help
 empty|line --black 65536
 $stored/stdin|line --meta nan.json
 $stored/stdin|line --meta line.json
-beside.tbc|extract --meta line.json
 empty|extract --recover beside.tbc
 END
 
-# What the program says of metadata of each length: a quote and letters, a text without its end. No allocation may be
+# What the program says of metadata by its length: a quote and letters, a text without its end. No allocation may be
 # refused then. One shell is for all, since to bound each run by itself takes longer than the runs do.
-{ seq 0 1000; awk 'BEGIN { for (size = 1024; size <= 33554432; size *= 2) print size }'; } > lengths
+{ seq 0 65; awk 'BEGIN { for (size = 128; size <= 33554432; size *= 2) {
+    print size
+    if (size <= 65536) print size - 1 "\n" size + 1
+} }'; } > lengths
 { printf '"'; head -c 33554432 /dev/zero | tr '\000' a; } > letters
 rm -f mark
 does sh -c '

@@ -75,7 +75,7 @@ run extract $ntsc worn.tbc
 check 'a worn side: no line shows its word' [ "$(jq -c '[.fields[].vbi.vbiData[]] | [length, add]' out)" = '[144,0]' ]
 mkdir folder.tbc
 ln -s /dev/null null.tbc
-draws misread clock
+bounded python3 "$tests/cli/answers.py" draw misread clock || exit 1
 bounded sh "$top/examples/side.sh" "$program"
 # The settings of all, as players take them: metadata, and the first rows of a map
 for side in nowhere folder null empty cav side stops both misread worn stops_4_478659; do settles $side $on_cav; done

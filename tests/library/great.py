@@ -1,11 +1,11 @@
-"""A side of 50 GB for fetched.sh, and what is to be answered of it.
+"""A side of 10 GB for fetched.sh, and what is to be answered of it.
 
 usage: great.py draw PATH              draws it: a file with holes, in which lines 16 to 18 have words
        great.py answers PATH           prints commands of a player and what it has to say, by the whole side's judge
        great.py run PATH COMMAND..     runs a command with the side out of memory, and prints how many MB it fetched
 
-The side is of a CAV disc: 400 fields of lead-in, pictures 1 to 51,741 without 30,001 to 30,012, a chapter for each
-1,500 of them, a stop for each 1,000, and 600 fields of lead-out."""
+The side is of a CAV disc: 400 fields of lead-in, pictures 1 to 10,012 without 6,001 to 6,012, a chapter for each 300 of
+them, a stop for each 200, and 600 fields of lead-out."""
 
 import os
 import pathlib
@@ -15,7 +15,7 @@ import sys
 import ldvbi
 from ldvbi import State
 
-SETUP, FIELDS, LEAD_IN, LEAD_OUT = ("NTSC", 16384, 51200), 104458, 400, 600
+SETUP, FIELDS, LEAD_IN, LEAD_OUT = ("NTSC", 16384, 51200), 21000, 400, 600
 STOP, TOP = 0x82CFFF, pathlib.Path(__file__).parents[2]
 sys.path += [str(TOP / "bench"), str(TOP / "tests/cli")]
 
@@ -29,9 +29,9 @@ def words():
     for _ in range(LEAD_IN):
         yield [0, 0x88FFFF, 0x88FFFF]
     for place in range((FIELDS - LEAD_IN - LEAD_OUT) // 2):
-        picture = place + 1 if place < 30000 else place + 13
-        word, chapter = 0xF00000 + digits(picture), 0x800DDD + 0x1000 * digits(picture // 1500)
-        yield [STOP, STOP, word] if picture % 1000 == 350 else [0, word, word]
+        picture = place + 1 if place < 6000 else place + 13
+        word, chapter = 0xF00000 + digits(picture), 0x800DDD + 0x1000 * digits(picture // 300)
+        yield [STOP, STOP, word] if picture % 200 == 70 else [0, word, word]
         yield [0, chapter, chapter]
     for _ in range(LEAD_OUT):
         yield [0, 0x80EEEE, 0x80EEEE]
@@ -63,16 +63,14 @@ def answers(path):
     def chapter(number, command="chapter"):
         return said(command, ldvbi.first_of(chapters, number))
 
-    begin = ldvbi.first_of(pictures, 12000)
-    print("search 12345", search(12345), sep="|")
-    print("search 30005", search(30005), sep="|")
-    print("search 30009", search(30009), sep="|")
-    print("search 60000", search(60000), sep="|")
+    begin = ldvbi.first_of(pictures, 2400)
+    for number in (2345, 6005, 6009, 60000):
+        print("search %d" % number, search(number), sep="|")
     print("chapter 5", chapter(5), sep="|")
-    print("search 12000 play", search(12000), said("play", next(one for one in stops if one > begin)), sep="|")
-    print("search 12345 next", search(12345), chapter(12345 // 1500 + 1, "next"), sep="|")
-    print("search 50000 previous still", search(50000), chapter(50000 // 1500 - 1, "previous"),
-          chapter(50000 // 1500 - 1, "still"), sep="|")
+    print("search 2400 play", search(2400), said("play", next(one for one in stops if one > begin)), sep="|")
+    print("search 2345 next", search(2345), chapter(2345 // 300 + 1, "next"), sep="|")
+    print("search 9700 previous still", search(9700), chapter(9700 // 300 - 1, "previous"),
+          chapter(9700 // 300 - 1, "still"), sep="|")
 
 
 def run(path, command):

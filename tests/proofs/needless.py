@@ -1,6 +1,6 @@
 #!/usr/bin/env python3
-"""Lists what a crate is proved without: answers and lemmas; clauses of `requires` with --requires. (`rt tidy` drops what
-`use` brings for nothing.)
+"""Lists what a crate is proved without: answers and lemmas, and with --requires clauses of `requires`. (`rt tidy` drops
+what `use` brings for nothing.)
 
 Answers (definitions `pub NAME : goal.NAME` of proofs/F/Answers.antt) are all taken out of a copy of the crate at once.
 A check that goes past open goals says which goals then stay open. The answers of those are put back, and so on until
