@@ -1,6 +1,6 @@
 """Runs the examples by the rows of a table on standard input, and names each run that isn't as its row has it. A row is
-NAMES|STATUS|OUT|SIDES|WORDS|SAID: the examples, of which that in C++ is stops_cpp, the lines that they write, the sides
-and the words of runs, all three parted by ;, and what is said: nothing, a line after the example's name, or any one (*).
+NAMES|STATUS|OUT|SIDES|WORDS|SAID: the examples, of which that in C++ is stops_cpp; the lines that they write, the sides
+and the words of runs, all parted by ;, and what is said: nothing, a line after the example's name, or any line (*).
 In place of @ stand the side's system and levels, and in that of & what the example is asked else. `stops` says no
 pictures."""
 import pathlib
