@@ -1,5 +1,5 @@
 """The classes of code words (IEC 60857 and IEC 60856) by their hexadecimal digits, as docs/FORMATS.md has them. No
-library is needed here: the tests compare each word that begins with 8 or F with the library's ldvbi_classify."""
+library is needed here: the tests compare it with the library's ldvbi_classify, by digits at the edges of each class."""
 
 import enum
 import operator

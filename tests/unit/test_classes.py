@@ -1,5 +1,4 @@
-"""The classes of words in Python: what words say, where each kind of code stands (IEC 60857 and 60856), and words
-beside the library."""
+"""The classes of words in Python: those of texts/classes.txt, what words say, and each word beside the library."""
 
 import collections
 import ctypes
@@ -9,18 +8,14 @@ import pathlib
 import re
 import struct
 
-from ldvbi.classes import classify, Format, format_of, Kind, usual_pictures
+from ldvbi.classes import Class, CLASSES, classify, Format, format_of, Kind, usual_pictures
 from ldvbi.codes import code, code_of, codes_by_kind, name_of, STANDARD_LINES, value_of
-import pytest
 from room import reason
 from streams import TOP
 
-pytestmark = pytest.mark.unrecorded
-
 # What words say: kind and numbers by name, and the one that counts
 MEANINGS = (
-    (0x88FFFF, {"kind": "lead-in"}, None), (0x80EEEE, {"kind": "lead-out"}, None), (0xABCDEF, {"kind": "other"}, None),
-    (0x82CFFF, {"kind": "picture stop"}, None), (0x87FFFF, {"kind": "clv"}, None),
+    (0x88FFFF, {"kind": "lead-in"}, None), (0xABCDEF, {"kind": "other"}, None),
     (0xF12345, {"kind": "picture", "number": 12345}, 12345), (0x8F9DDD, {"kind": "chapter", "number": 79}, 79),
     (0xF9DD59, {"kind": "time", "hours": 9, "minutes": 59}, 599),
     (0xF0DD60, {"kind": "time", "hours": 0, "minutes": 60}, None),
@@ -38,8 +33,22 @@ FORMATS = (
     ((0, 0, 0), "neither"), ((0x88FFFF, 0x800DDD, 0x8DC000), "neither"), ((0xF00001, 0, 0), "cav"),
     ((0, 0, 0x82CFFF), "cav"), ((0, 0x87FFFF, 0), "clv"), ((0, 0, 0xF0DD00), "clv"), ((0x8AE000, 0, 0), "clv"),
     ((0x82CFFF, 0x87FFFF, 0), "both"))
-LINES = {Kind.lead_in: (17, 18), Kind.picture: (17, 18), Kind.chapter: (17, 18), Kind.time: (17, 18),
-         Kind.picture_stop: (16, 17, 18), Kind.clv_mark: (17, 18), Kind.clv_picture: (16,), Kind.users: (16,)}
+# Digits from the second one on: each next to what any class has there, after 8 and F; after others such as a class has
+EDGES = ("012789ABCDEF", *["01789ABCDEF"] * 4)
+OTHERS = "0BDF", "0ACDEF", "0DF", "0DF", "0DF"
+
+
+def test_the_classes():
+    found = []
+    for text in re.split(r"\nclass +", pathlib.Path(TOP, "texts", "classes.txt").read_text("utf-8"))[1:]:
+        of = dict(re.findall(r"^(\w+)  +(.*)$", text, re.M))
+        kind = Kind[re.sub(r"(?<=[a-z])(?=[A-Z])", "_", text.split("\n")[0]).lower()]
+        assert kind == int(of["number"])
+        lines = tuple(map(int, re.findall(r"\d+", of.get("lines", ""))))
+        found.append(Class(kind, of["text"].partition(" {")[0], tuple(re.findall(r"^(\w+) =", text, re.M)), lines,
+                           of.get("disc", "").lower()))
+    assert (CLASSES, len(Kind)) == (tuple(found), len(found))
+    assert STANDARD_LINES == {one.kind: one.lines for one in found if one.kind != Kind.other}
 
 
 def test_what_words_say():
@@ -47,31 +56,28 @@ def test_what_words_say():
     for word, meaning, value in MEANINGS:
         assert (code(word), value_of(code_of(word))) == (meaning, value)
         assert name_of(code_of(word).kind) == meaning["kind"]
+    assert [code(0), code_of(0)] == [None, None]
     for words, wanted in BY_KIND:
         assert codes_by_kind(words) == wanted
     for words, wanted in FORMATS:
         assert format_of(*words) is Format[wanted]
-    assert ({kind: STANDARD_LINES[kind] for kind in LINES}, len(STANDARD_LINES)) == (LINES, 11)
 
 
 def test_no_words():
-    assert [code(0), code_of(0)] == [None, None]
-    assert reason(classify, 0) == "number is no code word"
     for text, *values in (("number is no code word", 1, 0x7FFFFF, 0x1000000, 2 ** 32 + 0x800000, -1, -0x800000),
                           ("word is not a whole number", 15803205.0, "F12345", None, b"\xF1")):
         for value in values:
             assert {reason(classify, value), reason(format_of, value, 0, 0), reason(format_of, 0, value, 0)} == {text}
+    assert reason(classify, 0) == "number is no code word"
 
 
 def test_words_beside_the_library():
-    """All that begin with 8 or F, as those of each class do, and of the others those whose digits are at the edges of
-    classes. The greatest numbers of each kind are those that include/ldvbi.h has after `0 to`."""
+    """The greatest numbers of each kind are those that include/ldvbi.h has after `0 to`."""
     call = ctypes.CDLL(os.environ["LDVBI_LIBRARY"]).ldvbi_classify
     call.argtypes = ctypes.c_uint32, ctypes.c_void_p
-    edges = [int("".join(digits), 16) for digits in itertools.product("0789ACDEF", repeat=5)]
     greatest = collections.Counter()
-    for words in (range(0x800000, 0x900000), range(0xF00000, 0x1000000),
-                  *([first << 20 | rest for rest in edges] for first in range(9, 15))):
+    for first, digits in (*((first, EDGES) for first in "8F"), *((first, OTHERS) for first in "9ABCDE")):
+        words = [int(first + "".join(rest), 16) for rest in itertools.product(*digits)]
         codes = (ctypes.c_uint32 * (3 * len(words)))()
         assert not any(map(call, words, itertools.count(ctypes.addressof(codes), 12)))
         wanted = list(struct.iter_unpack("=III", codes))
