@@ -1,10 +1,12 @@
-"""The numbers beside one that is sought: that they are those of the fields in which it is looked for is proved. On
-simulated sides they are those of the whole side."""
+"""The numbers beside one that is sought, chapters and stops: that they are those of the fields in which they are looked
+for is proved. On simulated sides they are those of the whole side."""
 
+import collections
 import mmap
 
 import ldvbi
 from ldvbi import Neighbour, State
+from places import begins_of
 import pytest
 from simulate import simulated
 from streams import NTSC, PAL, write_fields
@@ -41,6 +43,12 @@ def told_beside(told, number):
             Neighbour(min(higher), told[min(higher)][0]) if higher else None)
 
 
+# Sides on which the player doesn't go back: seeds, kind, and pictures
+SIDES = (*((seed, None, 300) for seed in (1, 2, 8, 11, 14, 19, 22, 24, 28)), (1, "losses", 700), (1, "worn", 250))
+# Worn sides, on some of which a chapter begins again after silence
+WORN = ((4, "worn", 250), (11, "worn", 250), (12, "worn", 250))
+
+
 def simulated_side(seed, kind, count):
     """The samples of a simulated side, and what it counts."""
     one = simulated(seed, kind, count=count)
@@ -51,26 +59,50 @@ def simulated_side(seed, kind, count):
     return ldvbi.Stream(memory, *setup, recover=True), "times" if one.layout.startswith("clv") else "pictures"
 
 
-# Sides on which the player doesn't go back: seeds, kind, and pictures
-SIDES = (*((seed, None, 300) for seed in (1, 2, 8, 9, 11, 14, 19, 22, 24, 25, 28)),
-         *((seed, "losses", 700) for seed in range(3)), *((seed, "worn", 250) for seed in (1, 2)))
+def lacking(side, packed, counted):
+    """What the judge says is beside each number that a capture lacks, and beside those beyond both ends of its side: it
+    is what is found there. The answer is how many there are."""
+    pace = ldvbi.find_pace(packed, side.system, counted)
+    answers, told = ldvbi.judge(packed, side.system, counted, pace), {}
+    for field, one in enumerate(answers):
+        if one.state == State.believed:
+            told.setdefault(one.number, []).append(field)
+    assert list(told) == sorted(told)
+    asked = set(range(max(0, min(told) - 2), max(told) + 3)) - {
+        one.number for one in answers if one.state in (State.believed, State.due)}
+    for number in asked:
+        assert ldvbi.neighbours(side, number, counted, pace) == told_beside(told, number), number
+    return len(asked)
 
 
-def test_what_captures_lack():
-    """Of each number that a capture lacks, and of those beyond both ends of its side."""
-    lacking = 0
-    for words in SIDES:
+def chapters(side, packed):
+    """Likewise each chapter is found in its first field if chapters rise."""
+    begins = begins_of(ldvbi.judge_chapters(packed))
+    is_rising, found = list(begins) == sorted(begins), [ldvbi.seek_chapter(side, chapter) for chapter in range(80)]
+    for chapter, field in enumerate(found):
+        fields = begins.get(chapter, [None])
+        assert field == fields[0] if is_rising else field in (None, *fields), chapter
+    return len(begins) if is_rising else 0
+
+
+def stops(side, packed):
+    """And stops."""
+    known, found = [field for field, one in enumerate(ldvbi.judge_stops(packed)) if one == State.believed], 0
+    for begin in range(0, len(side) + 2, 23):
+        for most in (50, len(side)):
+            wanted = next((field for field in known if begin <= field < begin + most), None)
+            assert ldvbi.next_stop(side, begin, most) == wanted, (begin, most)
+            found += wanted is not None
+    return found
+
+
+def test_simulated_sides():
+    counts = collections.Counter()
+    for words in SIDES + WORN:
         side, counted = simulated_side(*words)
         with side:
-            pace = ldvbi.find_pace(side, side.system, counted)
-            answers = ldvbi.judge(side, side.system, counted, pace)
-            believed = [(one.number, field) for field, one in enumerate(answers) if one.state == State.believed]
-            told = {}
-            for number, field in believed:
-                told.setdefault(number, []).append(field)
-            assert list(told) == sorted(told)
-            known = {one.number for one in answers if one.state in (State.believed, State.due)}
-            for number in set(range(max(0, min(told) - 2), max(told) + 3)) - known:
-                assert ldvbi.neighbours(side, number, counted, pace) == told_beside(told, number), (words, number)
-                lacking += 1
-    assert lacking > 1000
+            packed = b"".join(side.packed(0, len(side)))
+            counts["chapters"] += chapters(side, packed)
+            if words in SIDES:
+                counts.update(lacking=lacking(side, packed, counted), stops=stops(side, packed))
+    assert counts["lacking"] > 600 and counts["chapters"] > 70 and counts["stops"] > 70, counts

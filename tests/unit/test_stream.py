@@ -1,18 +1,18 @@
 """Stream and fields: a TBC file, or a buffer, as a sequence of readings."""
 
-import gc
+from concurrent import futures
+import ctypes
 import itertools
 import os
 import pathlib
-import subprocess
-import sys
+import time
 from unittest import mock
 
 import ldvbi
 from ldvbi.rows import File
 import pytest
 from room import reason
-from streams import NTSC, PAL, pictures, write_stream
+from streams import line_with, NTSC, PAL, pictures, write_stream
 
 COUNT = 2 * ldvbi.BLOCK + 3  # two blocks and a part of one
 SIZE, LINE = ldvbi.field_bytes("NTSC"), ldvbi.line_bytes("NTSC")
@@ -87,43 +87,63 @@ def test_refused(room):
         "path object, as os.fsdecode makes of bytes"
 
 
+def held(path):
+    """How often a file is mapped, and how often it is open."""
+    opened = [os.path.realpath("/proc/self/fd/" + one) for one in os.listdir("/proc/self/fd")]
+    return pathlib.Path("/proc/self/maps").read_text("utf-8").count(path), opened.count(path)
+
+
 def test_closed(room):
     side = stream(room, COUNT)
     begun = iter(side)
     next(begun)
+    assert (held(room.path), ldvbi.next_stop(side), held(room.path)) == ((0, 1), None, (1, 2))  # which maps the file
     side.close()
     side.close()
-    for call in (lambda: side[0], lambda: side[1:2], lambda: list(side), lambda: list(begun), lambda: side.rows(0)):
+    for call in (lambda: side[0], lambda: side[1:2], lambda: list(side), lambda: list(begun), lambda: side.rows(0),
+                 lambda: side.size, lambda: ldvbi.next_stop(side)):
         assert reason(call) == "the stream is closed"
-    assert len(side) == COUNT
-
-
-def test_a_closed_file(room):
-    """As another thread may find it between two reads."""
-    file = File(room.write("file", b"bytes"))
-    assert file.read(1, 2) == b"yt"
+    assert (len(side), held(room.path)) == (COUNT, (0, 0))
+    file = File(room.path)  # as another thread may find it between two reads
     file.close()
     for call in (lambda: file.read(1, 2), lambda: file.fetch(0, 1), file.mapped):
         assert reason(call) == "the stream is closed"
-
-
-def test_nothing_stays_open(room):
-    def held():
-        gc.collect()
-        return pathlib.Path("/proc/self/maps").read_text("utf-8").count(room.path), len(os.listdir("/proc/self/fd"))
-
-    maps, files = held()
-    side = stream(room, 3)
-    assert held() == (0, files + 1)
-    assert ldvbi.seek(side, 2) is None  # which maps the file
-    assert held()[0] == 1
-    side.close()
     begun = ldvbi.fields(room.path, *NTSC)
     next(begun)
-    assert held() == (0, files + 1)
+    assert held(room.path) == (0, 1)
     del begun
     assert reason(ldvbi.Stream, room.folder, *NTSC, kind=IsADirectoryError) is not None
-    assert held() == (maps, files)
+    assert (held(room.path), held(room.folder)) == ((0, 0), (0, 0))
+
+
+def test_closed_meanwhile(room, monkeypatch):
+    """By another thread while a call runs: the file or the buffer stays until this ends, and no longer."""
+    write_stream(room.path, NTSC, pictures(70))
+    data = bytearray(room.read("side.tbc"))
+
+    def closing(works):
+        def call(*words):
+            side.close()
+            ran.append(held(room.path) if is_file else reason(data.append, 0, kind=BufferError) is not None)
+            return works(*words)
+        return call
+
+    works = ((lambda: next(iter(side))[1].word, 0xF00000, 0), (lambda: side[69][1].word, 0xF00069, 0),
+             (lambda: side.rows(3), line_with(0xF00003, NTSC) * 3, 0),
+             (lambda: ldvbi.seek(side, 5), None, 1), (lambda: ldvbi.next_stop(side), None, 1))
+    for is_file in (True, False):
+        for work, wanted, maps in works:
+            side, ran = ldvbi.Stream(room.path if is_file else data, *NTSC), []
+            with monkeypatch.context() as patch:
+                patch.setattr(side, "_read", closing(side._read))
+                patch.setattr(*(os, "pread", closing(os.pread)) if is_file and isinstance(wanted, bytes) else
+                              (ldvbi.stream.ctypes, "string_at", closing(ctypes.string_at)))
+                patch.setattr(ldvbi.seeking, "later_call", lambda name: closing(ldvbi.library.later_call(name)))
+                assert (work(), ran) == (wanted, [(maps, 1 + maps) if is_file else True])
+            assert reason(side.rows, 0) == "the stream is closed"
+            assert held(room.path) == (0, 0)
+            data.append(0)
+            del data[-1]
 
 
 @pytest.mark.parametrize("kept", ((COUNT - 1) * SIZE + 18 * LINE - 1, 70 * SIZE + 15 * LINE))
@@ -156,43 +176,15 @@ def test_lines_are_fetched_ahead(room, monkeypatch, setup):
     assert numbers_of(ldvbi.Stream(room.path, *setup)[10:12]) == [10, 11]
 
 
-# Opens a stream again and again, and closes it while two other threads read it or seek in it: they end by a ValueError
-# that says so, and nothing else. The first argument is what they do, the second one how they get the stream.
-CLOSING = """
-import sys, threading, time
-import ldvbi
-sys.setswitchinterval(1e-5)
-work, given, path = sys.argv[1:]
-faults = []
-
-def reads(side, begun):
-    begun.set()
-    try:
-        while True:
-            list(side) if work == "read" else side.rows(1) if work == "rows" else ldvbi.seek(side, 1000)
-    except Exception as fault:
-        faults.append(repr(fault))
-
-for turn in range(150):
-    side = ldvbi.Stream(path if given == "file" else open(path, "rb").read(), "NTSC", 16384, 51200, recover=True)
-    begun = [threading.Event() for _ in range(2)]
-    threads = [threading.Thread(target=reads, args=(side, one)) for one in begun]
-    for thread in threads:
-        thread.start()
-    for one in begun:
-        one.wait()
-    time.sleep(turn % 10 / 10000)
-    side.close()
-    for thread in threads:
-        thread.join()
-print(len(faults), *set(faults))
-"""
-
-
-@pytest.mark.parametrize("work, given", [("read", "file"), ("rows", "file"), ("seek", "file"), ("read", "buffer"),
-                                         ("seek", "buffer")])
-def test_closed_by_another_thread(room, work, given):
-    stream(room, 40).close()
-    ended = subprocess.run([sys.executable, "-c", CLOSING, work, given, room.path], stdout=subprocess.PIPE,
-                           stderr=subprocess.STDOUT, check=False, timeout=120)
-    assert (ended.returncode, ended.stdout.decode()) == (0, "300 ValueError('the stream is closed')\n")
+def test_closed_by_another_thread(room):
+    """While two others read or seek again and again: they end by an error that says so, and nothing else."""
+    write_stream(room.path, NTSC, pictures(8))
+    sources = room.path, room.read("side.tbc")
+    for turn, (source, work) in enumerate(6 * list(itertools.product(sources, (
+            list, lambda side: side.rows(1), lambda side: ldvbi.seek(side, 1000))))):
+        side = ldvbi.Stream(source, *NTSC, recover=True)
+        with futures.ThreadPoolExecutor(2) as threads:
+            found = [threads.submit(lambda: [work(side) for _ in itertools.count()]) for _ in range(2)]
+            time.sleep(turn % 10 / 10000)
+            side.close()
+        assert [reason(one.result) for one in found] == 2 * ["the stream is closed"]
