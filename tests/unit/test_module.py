@@ -1,6 +1,6 @@
-"""The module ldvbi: which objects it takes samples from, and where it looks for the library. And what its calls refuse:
-the library gets each number as it is, and what it answers is said. All that it refuses has tests/library/refusals.py.
-"""
+"""The module ldvbi: which objects it takes samples from, where it looks for the library, and that it has what the header
+says. And what its calls refuse: the library gets each number as it is, and what it answers is said. All that it refuses
+has tests/library/refusals.py."""
 
 import _testbuffer
 import array
@@ -9,12 +9,14 @@ import functools
 import io
 import mmap
 import os
+import pathlib
 import re
 import subprocess
 import sys
+import types
 from unittest import mock
 
-from compact import made
+from compact import cells_of, made
 from discs import side
 import ldvbi
 from ldvbi import (complete_times, draw_line, find_clock, find_pace, judge, judge_chapters, judge_ends, judge_field,
@@ -23,7 +25,7 @@ from ldvbi import (complete_times, draw_line, find_clock, find_pace, judge, judg
 from ldvbi.samples import Samples
 import pytest
 from room import reason
-from streams import line_with, NTSC
+from streams import line_with, NTSC, TOP
 
 # A line of one word, which is taken in each kind of object: samples of 16 bits, or raw bytes, and nothing else
 SHOWN = line_with(0xF12345, NTSC)
@@ -78,21 +80,20 @@ JUDGE = "unsigned ldvbi_judge(int a, int b, int c, void *d, long count, void *e,
         "{ if (count) { out[0] = 5; out[1] = %du; } return count ? %d : 0; }\n"
 VERSION, PLAIN = "unsigned ldvbi_version(void) { return %d; }\n", "unsigned ldvbi_plain_rust(void) { return 1; }\n"
 MAKE, NAMES = "`make lib` or `make rust` builds", "LDVBI_LIBRARY names its file"
-OLD = "%s is too old to %s, it has no ldvbi_%s: " + MAKE + " a later one, " + NAMES
 REFUSED = "the library's status is 99"
-# What is asked
-WORDS = '(ldvbi.classify(0xF12345).first, ldvbi.format_of(0, 0x87FFFF, 0).name, ldvbi.field_bytes("PAL"))'
-READ = "int(ldvbi.read_line(bytes(1820), 'NTSC', 1, 2).cause)"
-CAUSES = READ + ", next(ldvbi.fields(bytearray(478660), 'NTSC', 1, 2))[0].cause"
-STATE = "tuple(ldvbi.judge(bytes(24), 'NTSC')[0])"
-LOADED = "ldvbi.library.library_text()"
-
-
-def run(asked, **variables):
-    """What Python prints of this, in a process of its own, with these environment variables."""
-    code = "import ldvbi\ntry:\n    print(%s)\nexcept (OSError, ValueError) as error:\n    print(error)" % asked
-    return subprocess.run([sys.executable, "-c", code], env={**os.environ, "PYTHONDONTWRITEBYTECODE": "1", **variables},
-                          stdout=subprocess.PIPE, stderr=subprocess.STDOUT, text=True, check=False).stdout
+LOADED = library.library_text
+HEADER = re.sub(r"/\*.*?\*/", "", pathlib.Path(TOP, "include", "ldvbi.h").read_text("ascii"), flags=re.S)
+# What a library is too old for that lacks one of these calls
+OLD = """
+    say its version | version || find paces | find_pace || complete times | complete_times || find clocks | find_clock
+    judge numbers | judge || judge one field | judge_field || judge chapters | judge_chapters
+    judge stops | judge_stops || judge whole sides | judge_ends, find_both, judge_side, set_aside
+    judge sides by clocks | judge_side_by_clock || check plans | check_plan
+    seek numbers | seek || seek chapters | seek_chapter || seek stops | next_stop || find nearest words | nearest
+    recover words | recover_rows, recover_fields || recover words of piles | recover_pile
+    leave out columns | recover_rows_without, recover_fields_without
+    write the document with recovered words | recovered_record
+"""
 
 
 def other(room, interface, status, cause, more=""):
@@ -104,36 +105,91 @@ def other(room, interface, status, cause, more=""):
     return room.named("other.so")
 
 
+@pytest.fixture
+def anew(monkeypatch):
+    """Has the library loaded anew, from this file."""
+    def load(file):
+        library.library.cache_clear()
+        library.later_call.cache_clear()
+        monkeypatch.setenv("LDVBI_LIBRARY", file)
+    yield load
+    load("")
+
+
+def cause():
+    return int(read_line(bytes(1820), "NTSC", 1, 2).cause)
+
+
+def causes():
+    return cause(), next(ldvbi.fields(bytearray(478660), "NTSC", 1, 2))[0].cause
+
+
+def state():
+    return judge(bytes(24), "NTSC")[0]
+
+
 @pytest.mark.parametrize("asked, parts, wanted", (
-    # words and sizes need no library
-    (WORDS, None, "(12345, 'clv', 710510)"),
-    (READ, None, "no library to read and judge with (FILE: cannot open shared object file: No such file or directory): "
+    (cause, None, "no library to read and judge with (FILE: cannot open shared object file: No such file or directory): "
      + MAKE + " it, " + NAMES),
-    (READ, (1, 0, 0), "FILE has the interface 1, not 2: " + MAKE + " the one that fits, " + NAMES),
+    (cause, (1, 0, 0), "FILE has the interface 1, not 2: " + MAKE + " the one that fits, " + NAMES),
     # causes and states that a later library adds stay numbers, and its statuses are refusals
-    (CAUSES, (2, 0, 5), "5 5"), (CAUSES, (2, 0, 255), "255 255"), (CAUSES, (2, 99, 0), REFUSED),
-    (STATE, (2, 0, 0, JUDGE % (4, 0)), "(5, 4)"), (STATE, (2, 0, 0, JUDGE % (2 ** 31 - 1, 0)), "(5, 2147483647)"),
-    (STATE, (2, 0, 0, JUDGE % (0, 99)), REFUSED),
+    (causes, (2, 0, 5), (5, 5)), (causes, (2, 0, 255), (255, 255)), (causes, (2, 99, 0), REFUSED),
+    (state, (2, 0, 0, JUDGE % (4, 0)), (5, 4)), (state, (2, 0, 0, JUDGE % (2 ** 31 - 1, 0)), (5, 2 ** 31 - 1)),
+    (state, (2, 0, 0, JUDGE % (0, 99)), REFUSED),
     # the proved one is known by its version: from then on plain Rust says what it is
-    (LOADED, (2, 0, 0, VERSION % 1000), "library 0.1.0 (proved or plain Rust): FILE"),
+    (LOADED, (2, 0, 0, VERSION % 1999), "library 0.1.999 (proved or plain Rust): FILE"),
     (LOADED, (2, 0, 0, VERSION % 2000), "library 0.2.0 (proved): FILE"),
-    (LOADED, (2, 0, 0, VERSION % 12034056 + PLAIN), "library 12.34.56 (plain Rust, not proved): FILE"),
-    # an older one reads samples, and says what it is too old for
-    (LOADED, (2, 0, 0), OLD % ("FILE", "say its version", "version")), (READ, (2, 0, 1), "1"),
-    ("ldvbi.judge([], 'NTSC')", (2, 0, 1), OLD % ("FILE", "judge numbers", "judge"))))
-def test_what_is_loaded(room, asked, parts, wanted):
+    (LOADED, (2, 0, 0, VERSION % 12034056 + PLAIN), "library 12.34.56 (plain Rust, not proved): FILE")))
+def test_what_is_loaded(room, anew, asked, parts, wanted):
     file = other(room, *parts) if parts else "/absent"
-    assert run(asked, LDVBI_LIBRARY=file) == wanted.replace("FILE", file) + "\n"
+    anew(file)
+    assert (ldvbi.classify(0xF12345).first, ldvbi.field_bytes("PAL")) == (12345, 710510)  # which need no library
+    found = reason(asked, kind=(OSError, ValueError)) or asked()
+    assert found == (wanted.replace("FILE", file) if isinstance(wanted, str) else wanted)
 
 
-def test_what_the_loader_finds(room):
+def test_an_older_one(room, anew):
+    """It reads samples, and says what it is too old for."""
+    anew(other(room, 2, 0, 1))
+    rows = [(purpose, "ldvbi_" + name) for purpose, names in cells_of(OLD) for name in names.split(", ")]
+    assert (cause(), sorted(name for _, name in rows)) == (1, sorted(library._LATER))
+    for purpose, name in rows:
+        assert reason(library.later_call, name, kind=OSError) == "%s is too old to %s, it has no %s: %s a later one, " \
+            "%s" % (room.named("other.so"), purpose, name, MAKE, NAMES)
+
+
+def test_what_the_loader_finds(room, anew):
     other(room, 2, 0, 0, VERSION % 2000)
-    assert run(LOADED, LDVBI_LIBRARY="other.so", LD_LIBRARY_PATH=room.folder) == \
-        "library 0.2.0 (proved): %s\n" % room.named("other.so")
-    assert re.fullmatch(r"no library to read and judge with \(.*undefined symbol: ldvbi_abi\): %s it, %s\n" % (
-        MAKE, NAMES), run(READ, LDVBI_LIBRARY="libc.so.6"))
+    code = "from ldvbi.library import library_text; print(library_text())"
+    found = subprocess.run([sys.executable, "-c", code], stdout=subprocess.PIPE, text=True, check=True, env={
+        **os.environ, "LDVBI_LIBRARY": "other.so", "LD_LIBRARY_PATH": room.folder}).stdout
+    assert found == "library 0.2.0 (proved): %s\n" % room.named("other.so")
+    anew("libc.so.6")
+    assert re.fullmatch(r"no library to read and judge with \(.*undefined symbol: ldvbi_abi\): %s it, %s" % (
+        MAKE, NAMES), reason(cause, kind=OSError))
     with mock.patch("builtins.open", side_effect=OSError):
         assert library._path_of("libldvbi.so.2") == "libldvbi.so.2"
+
+
+def test_the_header_says_so():
+    """The arguments of each call, each number of an enumeration, and what is said of a status."""
+    of_type = {"uint32_t": ctypes.c_uint32, "size_t": ctypes.c_size_t}
+    for name, types in (*library._ARGUMENTS.items(), *((name, types) for name, (_, types) in library._LATER.items())):
+        given = re.findall(r"[^,]+", re.search(r"\b%s\((?:void|([^)]*))\)" % name, HEADER)[1] or "")
+        assert types == [ctypes.c_void_p if "*" in one else of_type[one.split()[0]] for one in given], name
+    statuses = [value for name, value in vars(library).items() if name.startswith("BAD_")]
+    for name, text in re.findall(r"enum Ldvbi(\w+) {(.*?)}", HEADER, re.S):
+        ours = [0, *statuses] if name == "Status" else list(getattr(ldvbi, name))
+        assert ["= %d" % one for one in [0] * (name == "Rule") + ours] == re.findall(r"= \d+", text), name
+    texts = re.findall(r'"([^"]*)"', HEADER.partition("ldvbi_status_text")[2].partition("return")[0])
+    texts = [None, texts[1], *("the library's status is %d" % one for one in (2, 3)), *texts[4:]]
+    assert [reason(library.check, status) for status in (0, *statuses)] == texts
+
+
+def test_all_that_is_public():
+    names = {name for name, value in vars(ldvbi).items() if name[0] != "_" and not isinstance(value, types.ModuleType)}
+    assert names == {*ldvbi.__all__, "BLOCK", "PACKED_FIELD"}
+    assert ldvbi.__version__ == re.search(r'VERSION_TEXT "(.*)"', HEADER)[1]
 
 
 def test_places(room, monkeypatch):
