@@ -32,10 +32,9 @@ _RECORD = re.compile(r'\{"seqNo":([^,]*),"vbi":\{"vbiData":\[(%s,%s,%s)\]\},([^]
 _CAUSES_AND_PASSES = re.compile(re.escape(CAUSES).replace("%d", "(%s)" % _NUMBER).replace("%s", "([a-z0-9 ]*)"))
 _LEAST_WORD, _GREATEST_WORD = 0x800000, 0xFFFFFF
 _STOP = 0x82CFFF
-_NEAR_STOP = '{"word":%d,' % _STOP
+_NEAR_STOP = re.compile(r'\{"word":%d,' % _STOP)
 _PIECE = 1 << 17  # characters of records that are taken apart at once
-_FRAME = 400  # characters: more than what stands before the records and after them
-_LONGEST = 1135  # samples of a line
+_LONGEST, _ = size_of(System.PAL)
 # Of each cause, by its number, the texts by column
 _CAUSES = [["word"], ["blank"], ["unfinished"], ["change %d" % column for column in range(_LONGEST)],
            ["hold %d" % column for column in range(_LONGEST)]]
@@ -91,9 +90,10 @@ def _leads_of(record):
     """Yields the leads of a record. What isn't as `extract` writes it says nothing."""
     nears = record.get("vbiNear")
     for line, near in zip(LINES, nears if isinstance(nears, list) else ()):
-        word, distance, rival = map(near.get, ("word", "distance", "rival")) if isinstance(near, dict) else (0, 0, 0)
-        if word == _STOP and type(distance) is type(rival) is int:
-            yield (record["seqNo"], line), rival - distance
+        if isinstance(near, dict) and near.get("word") == _STOP:
+            distance, rival = near.get("distance"), near.get("rival")
+            if type(distance) is type(rival) is int:
+                yield (record["seqNo"], line), rival - distance
 
 
 def _levels(document):
@@ -200,8 +200,8 @@ def _line(word, text, number_of_pass, width, version):
     if not _is_number(number_of_pass, 0, version):
         raise ValueError("%s is no pass" % json.dumps(number_of_pass))
     cause = Cause[match[1] or match[2]]
-    is_shown = cause != Cause.blank and word > 0 if number_of_pass == 3 else cause == Cause.word
-    if not (word > 0) == is_shown == (number_of_pass > 0):
+    is_shown = cause == Cause.word or number_of_pass == 3 and cause != Cause.blank
+    if not bool(word) == is_shown == bool(number_of_pass):
         raise ValueError("word, cause and pass of a line don't fit: %d, %s, %d" % (word, text, number_of_pass))
     return PACKED_LINE.pack(cause, number_of_pass, column, word)
 
@@ -225,7 +225,9 @@ def _as_written(data: bytes) -> Optional[Document]:
     try:
         head, _, rest = data.decode("ascii").partition("\n")
         body, _, tail = rest.rpartition("\n],")
-        frame = json.loads(head + "]," + tail) if len(head) + len(tail) < _FRAME else None
+        if not body:  # as of a text in one line, which isn't parsed twice
+            return None
+        frame = json.loads(head + "]," + tail)
         system, levels, version = _system(frame["videoParameters"]), _levels(frame), frame["version"]
         packed = b"".join(_packed_pieces(body, _KnownCauses(size_of(system)[0], version)))
         cut = _cut(frame, len(packed) // PACKED_FIELD.size + 1, system)
@@ -258,11 +260,9 @@ def _packed_pieces(body, known):
 
 def _leads_in(body):
     """Yields the leads of records, of which few have a picture stop that was recovered."""
-    place = body.find(_NEAR_STOP)
-    while place >= 0:
-        begin, end = body.rfind("\n", 0, place) + 1, body.find(",\n", place)
+    for found in _NEAR_STOP.finditer(body):
+        begin, end = body.rfind("\n", 0, found.start()) + 1, body.find(",\n", found.start())
         yield from _leads_of(json.loads(body[begin:end if end >= 0 else None]))
-        place = body.find(_NEAR_STOP, place + 1)
 
 
 def _packed_fields(words, lines):

@@ -38,6 +38,7 @@ BROKEN = """
     field 3: vbi has no vbiData | fields.2.vbi | 5 || field 3: vbiCause is no list of three | fields.2.vbiCause | "word"
     field 3: vbiData is no list of three | fields.2.vbi.vbiData | [0, 0]
     field 3: vbiPass is no list of three | fields.2.vbiPass | [0, 1, 2, 0]
+    field 3: vbiCause is no list of three | fields.2.vbiCause | ["blank", "word", "word", "word"]
     field 3: VALUE is no word | fields.2.vbi.vbiData.1 | 8388607, 16777216, "F00001", 15728641.0
     field 3: VALUE is no word | fields.2.vbi.vbiData.0 | false || field 3: VALUE is no pass | fields.2.vbiPass.1 | true
     field 3: VALUE is no cause | fields.2.vbiCause.0 | "noise", "hold 910", "change 07", null, []
@@ -46,6 +47,11 @@ BROKEN = """
     cutField is not there | cutField | GONE || cutField: seqNo is not 5 | cutField.seqNo | 4, 5.0
     cutField has no bytes | cutField.bytes | GONE || cutField: bytes is not from 1 to 478659 | cutField.bytes | 0, true
 """
+# Members `vbiNear` of field 2, and by line how far a picture stop is ahead
+S, OTHER = {"word": 0x82CFFF, "distance": 120, "rival": 650}, {"word": 0x82CFFE, "distance": 120, "rival": 650}
+LEADS = (([S, None, OTHER], {16: 530}), ([None, {**S, "rival": 120}, S], {17: 0, 18: 530}), ([OTHER, None, None], {}),
+         ([S, {**S, "rival": 1}, S], {16: 530, 17: -119, 18: 530}), (None, {}), (5, {}), ({}, {}), ([5, "x", [S]], {}),
+         *(([{**S, name: value}, None, None], {}) for name in ("distance", "rival") for value in (True, 1.5, "1", None)))
 SHORT = {"SYSTEM": "videoParameters.system", "FIELD": "field 3: word, cause and pass of a line don't fit:",
          "LEVELS": "black16bIre and white16bIre are not two samples, black below white"}
 
@@ -59,6 +65,14 @@ def written(version=2, count=4, cut=Cut(5, 85360), system=ldvbi.System.NTSC):
     return (head_of(version, system, 16384, 51200) + ",\n".join(records) + tail_of(cut)).encode()
 
 
+def forms(whole):
+    """A document as any program may write it, and as it is written."""
+    text = json.dumps(whole, separators=(",", ":"))
+    for joint, line in (('"fields":[', '"fields":[\n'), ('},{"seqNo":', '},\n{"seqNo":'), ('],"cut', '\n],"cut')):
+        text = text.replace(joint, line)
+    return json.dumps(whole).encode(), text.encode() + b"\n"
+
+
 def changed(path, value, version=2):
     """The same with another value at a place, or without it."""
     *steps, last = [int(step) if step.isdigit() else step for step in path.split(".")]
@@ -68,12 +82,12 @@ def changed(path, value, version=2):
     inside[last] = value
     if value == "GONE":
         del inside[last]
-    return json.dumps(whole).encode()
+    return forms(whole)
 
 
-def by_pattern(data):
-    """What is read of a document without a look at its records as JSON."""
-    with mock.patch("ldvbi.document._as_json", side_effect=AssertionError):
+def quickly(data, is_written=True):
+    """What is read of a document by a pattern; of one in another form, of each record at once."""
+    with mock.patch("ldvbi.document." + ("_as_json" if is_written else "_field"), side_effect=AssertionError):
         return read_document(data)
 
 
@@ -107,7 +121,7 @@ def test_each_system(system, width, height):
         return (head_of(2, ldvbi.System[system], 0, 65535) + ",\n".join(records) +
                 tail_of(Cut(width + 1, most + more))).encode()
 
-    for read in (_as_json, by_pattern):
+    for read in (_as_json, quickly):
         found = read(written_with())
         for line in ("first", "second"):
             assert [getattr(field, line).column for field in found.readings] == list(range(width))
@@ -130,7 +144,7 @@ def test_each_change(text, path, values):
         wanted = text.replace("VALUE", json.dumps(value))
         for short, whole in SHORT.items():
             wanted, path = wanted.replace(short, whole), path.replace(short, whole)
-        assert reason(read_document, changed(path, value)) == wanted
+        assert [reason(read_document, form) for form in changed(path, value)] == 2 * [wanted]
 
 
 def test_recovered_words():
@@ -138,29 +152,43 @@ def test_recovered_words():
     def whole(word=PICTURE, causes=("change 170", "word", "unfinished"), of_pass=3, version=3):
         return changed("fields.2", json.loads(RECORD % (3, *[word] * 3, *causes, *[of_pass] * 3)), version)
 
-    side = side_of_document(whole())
+    side = side_of_document(whole()[0])
     assert [tuple(line) for line in side.readings[2]] == [
         (Cause.change, 3, 170, PICTURE), (Cause.word, 3, 0, PICTURE), (Cause.unfinished, 3, 0, PICTURE)]
     assert [rates["near"] for rates in side.answer["lines"].values()] == [2, 1, 1]
-    assert reason(read_document, whole(version=2)) == "field 3: 3 is no pass"
-    assert reason(read_document, whole(of_pass=4)) == "field 3: 4 is no pass"
-    for word, cause, of_pass in ((0, "change 170", 3), (PICTURE, "blank", 3), (PICTURE, "change 170", 2)):
-        assert reason(read_document, whole(word, [cause] * 3, of_pass)).startswith(SHORT["FIELD"])
+    for wanted, words in (
+            ("field 3: 3 is no pass", {"version": 2}), ("field 3: 4 is no pass", {"of_pass": 4}),
+            *((SHORT["FIELD"], {"word": word, "causes": [cause] * 3, "of_pass": of_pass}) for word, cause, of_pass in (
+                (0, "change 170", 3), (PICTURE, "blank", 3), (PICTURE, "change 170", 2), (0, "word", 3)))):
+        assert {reason(read_document, form)[:len(wanted)] for form in whole(**words)} == {wanted}
+
+
+def test_leads():
+    for near, wanted in LEADS:
+        leads = {(2, line): lead for line, lead in wanted.items()}
+        for form in changed("fields.1.vbiNear", near, 3):
+            assert read_document(form).leads == leads
+    for place in range(4):  # of the first record, and of the last
+        form = changed("fields.%d.vbiNear" % place, [None, S, S], 3)
+        assert quickly(form[1]).leads == quickly(form[0], False).leads == {(place + 1, 17): 530, (place + 1, 18): 530}
 
 
 def test_one_character_changed():
     """A character is put in the place of one, or before it. Most have a fault, some are sound in another form."""
     rng, faults = random.Random(1), 0
     for version in (2, 3):
-        data, long = written(version, 3, Cut(4, 17)), written(version, 2500, None)
-        assert (by_pattern(data), by_pattern(long)) == (_as_json(data), _as_json(long))
-        for _ in range(400):
+        data = written(version, 3, Cut(4, 17))
+        with mock.patch.object(document, "_PIECE", 300):  # of three records
+            for count in range(1, 9):
+                long = written(version, count + (version == 3), None)
+                assert quickly(long) == _as_json(long) == quickly(forms(json.loads(long))[0], False)
+        for _ in range(200):
             other, place = bytearray(data), rng.randrange(len(data))
             other[place:place + rng.randrange(2)] = rng.choice((b"0", b"7", b" ", b",", b"}", b'"', b"\n", b"\xff"))
             found = outcome(read_document, bytes(other))
             assert found == outcome(_as_json, bytes(other))
             faults += isinstance(found, str)
-    assert faults > 500
+    assert faults > 250
 
 
 def test_other_forms():
@@ -193,8 +221,7 @@ def compare(room, setup, fields, rest=0, *, is_recovered=False):
 
 @pytest.mark.parametrize("setup", (NTSC, PAL, ("NTSC", 0, 65535), ("PAL", 65534, 65535)))
 def test_causes_and_passes(room, setup):
-    """Fields with each cause and pass, by changes to drawn lines and to blank ones; with recovered words, too. Whole
-    streams and cut ones, which are read in blocks of 64 fields."""
+    """Fields with each cause and pass, by changes to drawn lines and to blank ones; with recovered words, too."""
     start = {"NTSC": 150, "PAL": 190}[setup[0]]  # of a drawn word
     last = ldvbi.line_bytes(setup[0]) // 2 - 1
     fields = [[line_with(word, setup, changes) for word, *changes in lines] for lines in (
@@ -207,7 +234,11 @@ def test_causes_and_passes(room, setup):
     assert '"vbiPass":[1,2,0]' in text
     text = compare(room, setup, [*fields, [0, 0xF12345, worn_line(0xF12345, setup, 9, 10)]], 7, is_recovered=True)
     assert '"vbiPass":[0,1,3],"vbiNear":[null,null,{"word":15803205,' in text
-    for count, rest in ((0, 0), (64, 0), (129, 0), (0, 1), (64, ldvbi.field_bytes(setup[0]) - 1)):
+
+
+def test_blocks(room):
+    """Whole streams and cut ones, which are read in blocks of 64 fields."""
+    for setup, count, rest in ((NTSC, 65, 0), (PAL, 0, 0), (NTSC, 0, 1), (PAL, 64, ldvbi.field_bytes("PAL") - 1)):
         for is_recovered in (False, True):
             compare(room, setup, pictures(count), rest, is_recovered=is_recovered)
 
