@@ -64,7 +64,7 @@ def read_metadata(path: str, on_field: Optional[OnField] = None, waits: bool = T
     with each field of a text as it is read, `on_member` with each other member. Only if it `waits` may the file be a
     pipe."""
     with open(path, "rb", opener=None if waits else regular) as file:
-        begin = file.peek(16)
+        begin = file.peek()
         refuse_packed(path, begin)
         # A pipe begins with less, perhaps, and is no database.
         if is_database(begin):

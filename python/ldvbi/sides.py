@@ -114,9 +114,8 @@ class Clock(NamedTuple):
     def left_out_below(self, number: int) -> int:
         """How many numbers below this one are left out, as far as that is known."""
         if self.kind == ClockKind.drop_frame:
-            return sum(sign * len(_with_rest(period, rest, 0, number - 1))
-                       for rest in (0, 1) for sign, period in ((1, MINUTE), (-1, TENTH_MINUTE)))
-        return len(_with_rest(self.period, self.phase, 0, number - 1)) if self.kind == ClockKind.one_in else 0
+            return sum(len(range(rest, number, MINUTE)) - len(range(rest, number, TENTH_MINUTE)) for rest in (0, 1))
+        return len(range(self.phase, number, self.period)) if self.kind == ClockKind.one_in else 0
 
 
 def _with_rest(period, rest, first, last):

@@ -1,6 +1,8 @@
 """The library's check of plans in Python: what it is given, what it answers, and what it refuses. What the rules are has
 tests/library/plans.txt."""
 
+import itertools
+
 from ldvbi import check_plan, Clock, ClockKind, Fault, Number, Rule, Spacing, State, Stretch
 from ldvbi.judging import PACKED_NUMBER
 import pytest
@@ -42,6 +44,19 @@ def test_layouts():
     times = capture(1799, 1799) + capture(1802, 1802)
     assert check_plan([times], [Stretch(0, 0, 4, 1799)], 1803, clock=DROP_FRAME) is None
     assert check_plan([times], [Stretch(0, 0, 4, 1799)], 1803) == Fault(Rule.misplaced, 0)
+
+
+def test_what_a_clock_leaves_out():
+    """The first two numbers of each minute but each tenth; one in a period; none."""
+    for clock, is_out in ((DROP_FRAME, lambda number: number % 1800 < 2 and number // 1800 % 10),
+                          (Clock(ClockKind.one_in, 1001, 300), lambda number: number % 1001 == 300),
+                          (Clock(ClockKind.one_in, 2, 0), lambda number: number % 2 == 0),
+                          (Clock(ClockKind.plain), lambda number: False), (Clock(3, 7, 1), lambda number: False)):
+        out = [number for number in range(40000) if is_out(number)]
+        for first, last in itertools.product((0, 1, 299, 301, 1800, 1801, 1802, 18001, 19800), (0, 300, 1801, 39999)):
+            assert clock.left_out_in(first, last) == {number for number in out if first <= number <= last}
+        for number in (0, 1, 2, 300, 301, 1302, 1800, 1801, 1802, 3601, 18000, 18001, 18003, 19801, 36002, 40000):
+            assert clock.left_out_below(number) == sum(one < number for one in out)
 
 
 @pytest.mark.parametrize("asked, more, wanted", [
