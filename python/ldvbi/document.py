@@ -235,7 +235,7 @@ def _as_written(data: bytes) -> Optional[Document]:
         if not is_framed or version not in (2, 3):
             return None
         return Document(system, PackedFields(packed), cut, levels, dict(_leads_in(body)))
-    except (KeyError, TypeError, ValueError):
+    except (KeyError, RecursionError, TypeError, ValueError):
         return None
 
 

@@ -83,7 +83,7 @@ def _checked(one: Dropout, fields: int) -> Dropout:
         raise ValueError("a dropout is in line %d, not in 16, 17 or 18" % line)
     if not 0 <= first <= last:
         raise ValueError("a dropout's columns are %d to %d" % (first, last))
-    return Dropout(field, line, min(first, MOST), min(last, MOST))
+    return Dropout(field, line, *(column if column in range(MOST) else MOST for column in (first, last)))
 
 
 # ---- ld-decode's metadata

@@ -181,7 +181,7 @@ def _path_of(name):
 def number_of(name: str, value: Any) -> int:
     """A whole number as the library takes it. A number outside 32 bits becomes 2^32 - 1, which is refused as well."""
     number = whole_number(name, value)
-    return number if 0 <= number <= MOST else MOST
+    return number if number in range(MOST) else MOST
 
 
 def count_of(name: str, value: Any) -> int:

@@ -110,7 +110,7 @@ def _stretch_of(one: Stretch, spans: List[Tuple[int, int]]) -> bytes:
 
 def _size(value: int) -> int:
     """A count as the library takes it. One that no memory holds becomes the greatest, which is refused as well."""
-    return value if 0 <= value <= _MOST else _MOST
+    return value if value in range(_MOST) else _MOST
 
 
 def _spacing_number(spacing: Union[Spacing, str]) -> int:

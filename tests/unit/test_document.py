@@ -197,7 +197,7 @@ def test_other_forms():
     inner = b'{"version":2,"videoParameters":{},"fields":[],"x":' + data[:-1] + b"}"
     for other in (inner, data.replace(b"\n", b"\r\n"), data.replace(b":", b": "), written(2, 0, None),
                   data.replace(b'"seqNo":2', b'"seqNo":4'), data.replace(b"[0,0,0]", b"[0,0,8388608]", 1),
-                  data.replace(b"16777215", b"16777216")):
+                  data.replace(b"16777215", b"16777216"), data.replace(b"null", b"[" * 100000)):
         assert other != data
         assert outcome(read_document, other) == outcome(_as_json, other)
 

@@ -58,12 +58,13 @@ def test_whatever_the_pieces_are(whole, indent, is_ascii, before, after):
        some.sampled_from([None, (",", ":")]), some.sampled_from([100, 1 << 18]))
 def test_several_together(items, end, indent, separators, piece):
     """The values of a list are those that come one by one, whichever are read together; and so are its faults."""
-    text = json.dumps(40 * items, indent=indent, separators=separators)[:-1] + end
+    text = json.dumps(4 * items, indent=indent, separators=separators)[:-1] + end
     one, found = Scanner(io.StringIO(text, newline=""), piece), []
-    why = reason(lambda: (found.extend(itertools.chain.from_iterable(one.values())), one.end()))
+    with mock.patch.object(scanner, "_TOGETHER", 200):
+        why = reason(lambda: (found.extend(itertools.chain.from_iterable(one.values())), one.end()))
     assert why == reason(scanned, text, piece)
     assert (why is None) == (end == "]")
-    assert why or found == 40 * items
+    assert why or found == 4 * items
 
 
 def test_no_more_is_held_than_a_value_and_a_piece():
