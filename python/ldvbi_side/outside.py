@@ -2,13 +2,14 @@
 texts of others that no terminal and no page can show. It imports little, so that signals are heeded before the rest of
 the command is loaded."""
 
+import _thread
 import io
 import os
 import signal
 import sys
 import time
 from types import FrameType
-from typing import IO, Any, List, Optional
+from typing import IO, Any, Callable, List, Optional
 
 NAME = "ldvbi-side"
 INTERRUPTED = 130  # the status after Ctrl-C, as a shell has it
@@ -36,8 +37,11 @@ def end_at_once() -> None:
 
 _PATIENCE = 1  # seconds in which what a signal has ended may clear up
 _AGAIN = 0.25  # seconds after which one that was lost is sent again, unless what it broke off has ended by then
+_HELD = 0.5  # seconds of a processor after which one that isn't heeded ends the process; or, if that takes less,
+_UNHEEDED = 10  # seconds
 _stopped: List[Stopped] = []  # the signal that asked for the end, if one did
 _lost: List[Stopped] = []  # the same, while nobody has heeded it
+_last_acts: List[Callable[[], None]] = []  # what is done before a process ends that heeds no signal
 
 
 def end_in_order() -> None:
@@ -45,11 +49,37 @@ def end_in_order() -> None:
     within a second after it are ignored, since they could hinder just that. A later one ends the process at once.
 
     Python may be in a function whose exceptions it drops, such as a callback of SQLite or of its own import. Then the
-    signal is sent once more, until it is heeded."""
+    signal is sent once more, until it is heeded. It may also be in one that takes hours, as SQLite is with some
+    databases that were made to do harm. Then another thread ends the process."""
     _stopped.clear()
     _lost.clear()
     sys.unraisablehook = _dropped
+    ours, theirs = os.pipe()
+    os.set_blocking(theirs, False)
+    before = signal.pthread_sigmask(signal.SIG_BLOCK, _STOPPING)  # for the thread, which is to get none itself
+    _thread.start_new_thread(_watch, (ours,))
+    signal.pthread_sigmask(signal.SIG_SETMASK, before)
+    signal.set_wakeup_fd(theirs)
     _heed(_stop)
+
+
+def before_sudden_end(act: Callable[[], None]) -> None:
+    """Has something be done before a process ends that heeds no signal: to remove what isn't finished."""
+    _last_acts.append(act)
+
+
+def _watch(pipe):
+    """Ends the process by a signal that isn't heeded for a while. The system writes the numbers of signals to the
+    pipe."""
+    while True:
+        number, = os.read(pipe, 1)
+        end, spent = time.monotonic() + _UNHEEDED, time.process_time() + _HELD
+        while signal.getsignal(number) is _stop and time.monotonic() < end and time.process_time() < spent:
+            time.sleep(0.02)
+        if signal.getsignal(number) is _stop:  # it would be another function
+            for act in _last_acts:
+                act()
+            os._exit(128 + number)
 
 
 def raise_lost() -> None:

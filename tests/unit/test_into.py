@@ -11,16 +11,23 @@ import pathlib
 import random
 import re
 import resource
+import signal
 import sqlite3
+import struct
+import sys
+import time
 from unittest import mock
 
+from captured import Disc, draw
 from compact import cells_of, word_of, words_of as drawn_words
+from discs import pictures as rows_of_pictures
+from ldvbi import database
 from ldvbi.metadata import read_metadata
 from ldvbi_side.into.field import place_of_words
 from ldvbi_side.into.rows import Rows
 from ldvbi_side.into.text import Places
 import pytest
-from room import COMMAND, in_database, reason, SIZE
+from room import children, COMMAND, DEADLINE, in_database, reason, SIZE
 from streams import NTSC, pictures, worn_line, write_stream
 
 WORDS, SAID = (8572927, 0, 15803205), "as read"
@@ -229,6 +236,82 @@ def test_a_copy_of_rows_is_read_back(room, statement, text):
     with mock.patch.object(Rows, "_fill", lambda self, new, *more: (
             fill(self, new, *more), new.execute(statement), new.commit())):
         refused(room, "its copy has other " + text)
+
+
+def test_pages_that_stand_within_each_other(room):
+    """Each page of a table is 60 times in the one above it: its rows are counted in steps, of which there are some."""
+    path = make(room, "CREATE TABLE extra (a)")
+    data, size = bytearray(room.read(path)), 4096
+    last = len(data) // size
+    root = in_database(path, "SELECT rootpage FROM sqlite_master WHERE name = 'extra'")[0][0][0]
+    pages = [root, *range(last + 1, last + 12)]
+    data += bytes(11 * size)
+    for page, inner in zip(pages, pages[1:]):
+        begin = size - 60 * 5
+        struct.pack_into(">BHHHBI60H", data, (page - 1) * size, 5, 0, 60, begin, 0, inner, *range(begin, size, 5))
+        data[page * size - 300:page * size] = b"".join(struct.pack(">IB", inner, row) for row in range(60))
+    struct.pack_into(">BHHHBH", data, (pages[-1] - 1) * size, 13, 0, 1, size - 5, 0, size - 5)  # a row: a number
+    data[-5:] = 3, 1, 2, 1, 7
+    struct.pack_into(">I", data, 28, len(data) // size)
+    room.write(path, data)
+    with mock.patch.object(database, "MOST_STEPS", 20 * database.STEPS):
+        refused(room, "SQLite can't copy it: interrupted")
+
+
+# A program that is in a function for hours as soon as one of a module has been called
+HELD = """
+import hashlib, importlib, sys
+from ldvbi_side.__main__ import main
+
+name, module = sys.argv.pop(2), importlib.import_module(sys.argv.pop(1))
+called = getattr(module, name)
+setattr(module, name, lambda *given: (
+    called(*given), print("held", flush=True), hashlib.pbkdf2_hmac("sha256", b"", b"", (1 << 31) - 1)))
+sys.exit(main())
+"""
+# What has SQLite read in a table for minutes: each of its unique pairs of columns is compared with all others.
+UNIQUE = ["CREATE TABLE extra (%s)" % ", ".join("a%d" % column for column in range(250)),
+          "PRAGMA writable_schema = ON",
+          ("UPDATE sqlite_master SET sql = replace(sql, ')', ?) WHERE name = 'extra'", (", %s)" % ", ".join(
+              "UNIQUE (a%d, a%d)" % pair for pair in itertools.islice(itertools.permutations(range(250), 2), 50000)),))]
+
+
+def bounded():
+    """Has a process end that takes ten seconds of a processor, and heed Ctrl-C."""
+    resource.setrlimit(resource.RLIMIT_CPU, (10, 10))
+    signal.signal(signal.SIGINT, signal.SIG_DFL)
+
+
+def seconds_in(process, path):
+    """The processor's seconds of a process that has a file open; else none."""
+    with contextlib.suppress(OSError):
+        place = pathlib.Path("/proc/%d" % process)
+        if path in [os.readlink(one) for one in (place / "fd").iterdir()]:
+            return int((place / "stat").read_text("ascii").rsplit(")", 1)[1].split()[11]) / os.sysconf("SC_CLK_TCK")
+    return 0
+
+
+@pytest.mark.unrecorded
+@pytest.mark.parametrize("number, words", (
+    (signal.SIGINT, "ldvbi_side.into.rows _counts_of side.tbc --into copy.db"),
+    (signal.SIGTERM, "ldvbi_side.write.rows _finish write out.tbc side.tbc"),
+    (signal.SIGHUP, "side.tbc --meta long.db --into copy.db"),
+    (signal.SIGINT, "scan --into copies --csv --meta long.db side.tbc")))
+def test_signals_that_nobody_can_heed(room, number, words):
+    """They end a process that is in one function for hours, and nothing is left."""
+    draw(room.named("side.tbc"), Disc(rows_of_pictures(range(1, 9))), range(16), form="db")
+    make(room, *UNIQUE, name="long.db")
+    before, is_held = room.files(), words.startswith("ldvbi_side")
+    command = [sys.executable, "-c", HELD] if is_held else COMMAND
+    process = room.started(*words.split(), command=command, preexec_fn=bounded, start_new_session=True)
+    while not (is_held and process.stdout.readline() or max(
+            seconds_in(one, room.named("long.db")) for one in (process.pid, *children(process.pid))) > 0.6):
+        assert process.poll() is None
+        time.sleep(0.01)
+    assert len(room.files()) > len(before) or not is_held
+    process.send_signal(number)
+    assert (process.communicate(timeout=DEADLINE)[1], process.returncode) == (b"", 128 + number)
+    assert {name: data for name, data in room.files().items() if data} == before
 
 
 OWN = '"my ""own"" fields"'

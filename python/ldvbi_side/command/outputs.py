@@ -10,13 +10,14 @@ import stat
 import sys
 from typing import IO, Iterable, Iterator, List, Sequence, Union
 
-from ..outside import raise_lost
+from ..outside import before_sudden_end, raise_lost
 
 STANDARD_OUTPUT = "-"  # in place of a file's name
 Place = Union[str, int, None]  # a file: its path, the number of an open one, or none
 _LONGEST_NAME = 255  # bytes of a file's name
 _PART = ".ldvbi-"  # with what the names of parts begin
 _NAME_OF_PART = re.compile(re.escape(_PART) + r".*\.([0-9a-f]{8})-([1-9][0-9]{0,8})\.part", re.DOTALL)
+_own: List[str] = []  # the parts that this process began, with what may be beside them
 
 
 @contextlib.contextmanager
@@ -83,6 +84,7 @@ def whole_files(paths: Sequence[str], ends: Sequence[str] = ()) -> Iterator[List
         if os.path.exists(target) and not os.path.isfile(target):
             raise ValueError("%s is no file" % path)
     parts = [_part_of(target) for target in targets]
+    _own.extend(part + end for part in parts for end in ends)
     try:
         yield parts
         for part in parts:
@@ -132,6 +134,7 @@ def _part_of(target):
     part = _part_by(target, os.getpid())
     if os.path.lexists(part):
         raise FileExistsError(errno.EEXIST, os.strerror(errno.EEXIST), part)
+    _own.append(part)
     return part
 
 
@@ -190,6 +193,15 @@ def _drop(part):
             shutil.rmtree(part)
         else:
             os.unlink(part)
+
+
+def _drop_own():
+    """Removes all that this process hasn't finished."""
+    for part in _own:
+        _drop(part)
+
+
+before_sudden_end(_drop_own)
 
 
 def _is_there(process):

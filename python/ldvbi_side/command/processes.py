@@ -9,7 +9,7 @@ from multiprocessing.connection import Connection, wait
 from types import TracebackType
 from typing import Any, Callable, Dict, Iterator, List, NamedTuple, Optional, Sequence, Tuple, Type
 
-GRACE = 5  # seconds in which a process that is to end may remove what it began to write
+GRACE = 1  # second in which a process that is to end may remove what it began to write
 # A process that once took more ends with its job, so that the system has the memory again: to start another one takes
 # a seventh of a second, which a job of that size has many times.
 MOST_MEMORY = 256 << 10  # in KB
