@@ -4,24 +4,29 @@ were made; and what is refused before that."""
 import json
 import os
 import random
+import re
 from collections import Counter, defaultdict
+from types import SimpleNamespace
 
-from compact import cells_of, made
+from compact import cells_of, made, rows
 from discs import LEAD_IN, LEAD_OUT, pictures, plain, side
 from ldvbi_side.answer.analysis import analyse
 from ldvbi_side.join.captures import capture_of
 from ldvbi_side.side import side_of_document
 from ldvbi_side.write.again import differences
 from ldvbi_side.write.checked import refuse_wrong
-from ldvbi_side.write.plan import plan, Wanted
+from ldvbi_side.write.plan import Plan, plan, Wanted
+from ldvbi_side.write.said import outcome_of, rows_of, seam_lines, written_lines
 from ldvbi_side.write.sources import Facts, PHASES, Source
-from ldvbi_side.write.stretches import seams_of, Stretch
+from ldvbi_side.write.stretches import Seam, seams_of, Stretch
 import pytest
 from room import reason
 from simulate import captures
 
-NAMES = {"DETOUR": "1..50 151..170 71..100", "CUT": "NTSC f1..60 61..90 f91..120", "SIDE": "L 1..20 O"}
-# Why it is so, captures, the stretches of the plan: numbers, and the first field of a capture or the count of padding
+NAMES = {"DETOUR": "1..50 151..170 71..100", "CUT": "NTSC f1..60 61..90 f91..120", "SIDE": "L 1..20 O",
+         "ODD": "lost=1 B 5..20", "LACKS": "lost=21..24 1..40"}
+# Why it is so, captures (`source`) and what is asked of the plan of them, and its stretches: numbers, and the first
+# field of a capture or the count of padding; or why there is none. And other members of the plan.
 PLANS = """
     a detour | DETOUR ; 1..100 | 1-100 b1 || whichever comes first | 1..100 ; DETOUR | 1-100 a1
     as long as what is around it | 1..10 151..170 31..40 ; 1..40 | 1-40 b1
@@ -35,42 +40,115 @@ PLANS = """
     minutes | m59x3000 ; m58..59x3000 | 0:58-0:59 b1 || one in part | m58x3000 m59x10 ; m59x3000 | 0:58 a1, 0:59 b1
     minutes that none has | m57x3000 ; m59x3000 | 0:57 a1, 0:58 x3000, 0:59 b1
     film, cut | CUT ; NTSC f1..120 | 1-120 b1 || a chapter's field | 1..40 41=-/c0/c0 ; 1..3 | 1-40 a1
+    film, of which pictures are lost: odd ones have three | NTSC f1..20 f26..40
+        | 1-19 a1, 20 a49, 21-25 x13, 26-39 a51, 40 a86
+    even ones have three | NTSC e1..20 e26..40 | 1-19 a1, 20 a48, 21-25 x12, 26-39 a51, 40 a86
+    none has three | NTSC f1 1..20 26..40 | 1-19 a4, 20 a42, 21-25 x10, 26-39 a44, 40 a72
+    only the frames and the colour say how many | lost=51..60 NTSC f1..40
+        | 1-19 a1, 20 a49, 21-24 x10, 25-40 a51 | unsure=20
     set aside, below all others | 30..60 21=-/#7/#7 | 30-38 a1, 39-40 a19, 41-60 a23
     lead-in and lead-out | SIDE | 1-20 a2 || the first one unread | L 1..20 O 2=B | 1-20 a2
-"""
-REFUSED = """
-    lead-in between | 1..20 Lx5 1..20 | a: lead-in or lead-out stands between its numbers: two sides?
+    the clock may leave 20 out: the fields go on | lost= NTSC t0..40!20 | 0:00:00.00-0:00:01.10 a1 | left_out=20 padded=
+    no clock leaves out three | lost=41..46 NTSC t0..40 | 0:00:00.00-0:00:00.18 a1, 0:00:00.19 a39,
+        0:00:00.20-0:00:00.22 x6, 0:00:00.23-0:00:01.10 a41 | padded=20,21,22
+    inside a loss | NTSC t0..4499!7%1000 -1991:2028 | 0:00:00.00-0:00:33.04 a1, 0:00:33.05 a1989,
+        0:00:33.06-0:00:33.25 x38, 0:00:33.26-0:02:29.28 a1991, 0:02:29.29 a8951
+        | left_out=7,1007,2007,3007,4007 padding=38
+    numbers on both fields go on: of 9 the second one is lost | lost=18 NTSC b1..20 | 1-8 a1, 9 a17, 9 x1, 10-20 a18
+        | fields=40 padding=1 partial=9 unsure=9
+    film, from 1 on | NTSC f3..20 & start=1 | 1-2 x5, 3-20 a1
+    no picture is sure: each was played at another speed | 1..99/2 & sure=1 | no number is sure enough to be taken
+    numbers at another speed are padding; so is the last field, of which nothing says whose it is
+        | 1..20 21..40/2 41..60 & sure=1 | 1-20 a1, 21-41 x42, 42-60 a63, 60 x1
+    a change costs as much as its dropouts | dropouts=21..40 1..40 ; dropouts=41..60 1..40 & change=18000 | 1-40 a1
+    it costs less | dropouts=21..40 1..40 ; dropouts=41..60 1..40 & change=17999 | 1-20 b1, 21-40 a41
+    a bad line stands for dropouts | 1..40 33.16=? ; 1..40 & change=499 | 1-40 b1
+    frame 5 has picture 5 | 5..20 & start=1 | 1-4 x8, 5-20 a1 | 5@9 padded=1,2,3,4
+    the first one begins with a second field | ODD | None x1, 5-20 a1 | 5@2 fields=33
+    an even count of lead-in | Lx3 1..20 Ox5 & ends=1 | None a2, 1-20 a4, None a44 | fields=47
+    padding before it instead | Lx3 5..20 Ox5 & ends=1 start=1 | 1-4 x8, 5-20 a4, None a36 | fields=45
+    padding that is there already | pad=11,12 1..20 11:12=B ; 4..8 | 1-3 a1, 4-6 b1, 7-20 a13
+    lead-in between | 1..20 Lx5 1..20 & one_side=0 | a: lead-in or lead-out stands between its numbers: two sides?
         (--one-side says that it is one)
     both formats | 1..20 t0..4 | a has codes of CAV and of CLV || two systems | 1..20 ; NTSC 1..20
         | a has pictures of PAL, b has pictures of NTSC: two discs?
-    too much | 1..20 2000..2010 | 3958 of 4020 fields would be padding; see --most-padding
+    a thousand fields aren't too many | 1..20 521..540 & most_padding=
+        | 1-19 a1, 20 a39, 21-520 x1000, 521-539 a41, 540 a79
+    more are | 1..20 522..541 & most_padding= | 1002 of 1082 fields would be padding; see --most-padding
+    a tenth isn't | 1..4500 5051..5500 & most_padding= | 1-4499 a1, 4500 a8999, 4501-5050 x1100, 5051-5499 a9001,
+        5500 a9899
+    more is | 1..4499 5050..5499 ; 1 & most_padding=1099 | 1100 of 10998 fields would be padding; see --most-padding
 """
+OPTION = re.compile(r"(lost|pad|dropouts)=(\S*) ")
+
+
+def numbers_in(text):
+    ends = [part.split("..") for part in text.split(",") if part]
+    return {number for one in ends for number in range(int(one[0]), int(one[-1]) + 1)}
 
 
 def source(text, name="a"):
-    return Source(capture_of(made(NAMES.get(text, text), side), name))
+    """A capture of the side with this text. Before it may stand which of its fields are `lost` (frames and colour of the
+    others are known then), which of the others are padding (`pad`), and which have 900 samples in `dropouts`."""
+    text, known = NAMES.get(text, text), {}
+    while OPTION.match(text):
+        option, text = OPTION.match(text), OPTION.sub("", text, 1)
+        known[option[1]] = numbers_in(option[2])
+    if "lost" not in known:
+        capture, facts = capture_of(made(text, side), name), Facts()
+    else:
+        system, text = ("NTSC", text[5:]) if text.startswith("NTSC ") else ("PAL", text)
+        found = rows(text, 30 if system == "NTSC" else 25)
+        places = [place for place in range(len(found)) if place + 1 not in known["lost"]]
+        facts = Facts([place % 2 == 0 for place in places], [place % PHASES[system] + 1 for place in places])
+        capture = capture_of(side([found[place] for place in places], system, facts.first), name)
+    fields = range(1, capture.answer.fields + 1)
+    return Source(capture, facts._replace(
+        damage=[900 * (field in known["dropouts"]) for field in fields] if "dropouts" in known else None,
+        pad=[field in known["pad"] for field in fields] if "pad" in known else None))
 
 
 def stretches_text(found):
     """A plan as a text."""
     texts = []
     for one in found.stretches:
-        first, last = (found.count_unit().text_of(number) for number in (one.first, one.last))
+        first, last = (number if number is None else found.count_unit().text_of(number)
+                       for number in (one.first, one.last))
         where = "x%d" % one.fields if one.source is None else "%s%d" % ("abc"[one.source], one.field)
         texts.append("%s %s" % (first if first == last else "%s-%s" % (first, last), where))
     return ", ".join(texts)
 
 
-@pytest.mark.parametrize("why, texts, wanted", cells_of(PLANS))
-def test_plans(why, texts, wanted):
-    sources = [source(text, name) for text, name in zip(texts.split(" ; "), "abc")]
-    assert stretches_text(plan(sources, Wanted(one_side=True, most_padding=4000))) == wanted, why
+def planned(text):
+    """The plan of such captures, and the captures; after an & stands what is asked."""
+    sides, _, asked = text.partition(" & ")
+    sources = [source(one, name) for one, name in zip(sides.split(" ; "), "abc")]
+    wanted = {"one_side": True, "most_padding": 4000}
+    wanted.update((name, int(value) if value else None) for name, value in (one.split("=") for one in asked.split()))
+    return plan(sources, Wanted(**wanted)), sources
 
 
-@pytest.mark.parametrize("why, texts, wanted", cells_of(REFUSED))
-def test_refused(why, texts, wanted):
-    sources = [source(text, name) for text, name in zip(texts.split(" ; "), "abc")]
-    assert reason(plan, sources) == wanted, why
+def member(found, name):
+    """A member of a plan as a text; 5@ is the field in which 5 begins."""
+    if name.endswith("@"):
+        return str(found.first_field[int(name[:-1])])
+    value = getattr(found, name)
+    return ",".join(map(str, value)) if isinstance(value, list) else str(value() if callable(value) else value)
+
+
+@pytest.mark.parametrize("why, sides, wanted, members", [(*row, "")[:4] for row in cells_of(PLANS)])
+def test_plans(why, sides, wanted, members):
+    """Each that is made is one that may be written."""
+    try:
+        found, sources = planned(sides)
+    except ValueError as error:
+        assert str(error) == wanted, why
+        return
+    assert stretches_text(found) == wanted, why
+    refuse_wrong(found, sources)
+    for one in members.split():
+        name, value = re.fullmatch(r"(\w+@|\w+)=?(\S*)", one).groups()
+        assert member(found, name) == value, (why, name)
 
 
 # ---- Random captures of small discs, in which players lose fields and jump back
@@ -126,7 +204,7 @@ class Drawn:
                 if number and any(order[at:at + len(ones)] == ones for at in range(len(order)))}
 
 
-SETS = int(os.environ.get("SETS", "100"))  # of each kind; docs/MEASURED.md has what 2,000 gave
+SETS = int(os.environ.get("SETS", "30"))  # of each kind; docs/MEASURED.md has what 2,000 gave
 KINDS = [{}, {"system": "PAL", "back": 8}, {"odd": 1}, {"back": 2}, {"back": 12}]
 
 
@@ -196,8 +274,8 @@ def check_random_set(seed):
 @pytest.mark.unrecorded
 def test_random_sets():
     """Two to four captures of one drawn disc with losses, jumps and damage of their own, beside the truth."""
-    counts = sum(map(check_random_set, range(60)), Counter())
-    assert counts > Counter(sets=45, fields=25000, padding=10)
+    counts = sum(map(check_random_set, range(8, 32)), Counter())
+    assert counts > Counter(sets=15, fields=8000, padding=2)
 
 
 @pytest.mark.parametrize("seed", range(8))
@@ -205,151 +283,115 @@ def test_of_each_kind(seed):
     check_random_set(seed)
 
 
-# ---- What else a plan has
+# ---- Plans that are wrong, and outputs that aren't as planned
 
-def going_on(text, gone=()):
-    """A capture of a side with this text, whose frames and colour go on but for fields that are gone."""
-    one = source(text)
-    system = one.answer.system
-    places = [place for place in range(one.answer.fields + len(gone)) if place not in gone]
-    facts = Facts([place % 2 == 0 for place in places], [place % PHASES[system] + 1 for place in places])
-    return Source(capture_of(made(text.replace(system, system + "/0", 1), side), "a"), facts)
-
-
-def test_times_that_the_clock_may_leave_out():
-    """A gap of one number, with which a few times show no clock: if the fields go on there, none is lost."""
-    one = going_on("NTSC t0..40!20")
-    found = plan([one])
-    assert (stretches_text(found), found.padded, found.left_out) == ("0:00:00.00-0:00:01.10 a1", [], [20])
-    assert differences(found, one.capture) == []
-    found = plan([going_on("NTSC t0..40!20..21".replace("!20..21", "!20,21,22"), range(40, 46))])
-    assert found.padded == [20, 21, 22]
-
-
-def test_times_that_a_clock_leaves_out_inside_a_loss():
-    """Of three places of the clock another capture shows two; so 20 times are lost, and 19 have fields."""
-    found = plan([source("NTSC t0..4499!7%1000 -1991:2028")], Wanted(most_padding=99))
-    assert (len(found.padded), found.padding()) == (19, 38)
-    assert 1007 in found.left_out
+# What is said of a plan of LACKS or of another capture, given by its stretches: their first field and their count of
+# fields, their numbers, and where they are from. The plan itself says that all is where it would be.
+WRONG = """
+    field 5 of a is taken twice | LACKS | 1+20 1-10 a1, 21+4 11-12 x, 25+56 13-40 a5
+    3 comes after 20 | LACKS | 1+20 1-20 a1, 21+4 3-12 x, 25+56 13-40 a21
+    12 comes after 10 | LACKS | 1+20 1-10 a1, 21+4 12-12 x, 25+56 13-40 a21
+    1 stands in field 2, not 1 | LACKS | 1+1 1-1 x, 2+19 1-10 a1, 21+4 11-12 x, 25+56 13-40 a21
+    2 stands in field 1, not 3 | LACKS | 1+18 1-10 a3, 19+6 11-12 x, 25+56 13-40 a21
+    field 21 is planned as field 22 | LACKS | 1+20 1-10 a1, 22+4 11-12 x, 25+56 13-40 a21
+    field 21 is planned as field 21 | LACKS | 1+20 1-10 a1, 21+0 11-12 x, 25+56 13-40 a21
+    it has 78 fields | LACKS | 1+20 1-10 a1, 21+4 11-12 x, 25+54 13-40 a21
+    a has no field 77 | LACKS | 1+20 1-10 a1, 21+4 11-12 x, 25+56 13-40 a22
+    fields 21 to 21 stand for more numbers than they have fields | LACKS
+        | 1+20 1-10 a1, 21+1 11-12 x, 22+59 13-40 a18
+    11 to 12 are padding, and a capture has one of them | LACKS ; 5..20 | 1+20 1-10 a1, 21+4 11-12 x, 25+56 13-40 a21
+"""
 
 
-def test_numbers_on_both_fields():
-    """Of picture 9 the second field is lost, so that numbers go on; of 15 the first."""
-    text = "NTSC b1..20 -29 -18"
-    one = source(text)
-    places = [place for place in range(40) if place not in (17, 29)]
-    facts = Facts([place % 2 == 0 for place in places], [place % 4 + 1 for place in places])
-    found = plan([one._replace(facts=facts)])
-    assert (found.fields, found.padding()) == (40, 2)
+def stretches_of(text):
+    found = []
+    for one in text.split(", "):
+        out, fields, first, last, source_, field = re.fullmatch(r"(\d+)\+(\d+) (\d+)-(\d+) (\w)(\d*)", one).groups()
+        is_padding = source_ == "x"
+        found.append(Stretch(int(out), int(fields), int(first), int(last), None if is_padding else "abc".index(source_),
+                             None if is_padding else int(field), "padding" if is_padding else "whole"))
+    return found
 
 
-def test_film_from_a_number_on():
-    assert plan([source("NTSC f3..20")], Wanted(start=1)).padding() == 5
-
-
-def test_no_picture_is_sure():
-    """Each was played at another speed."""
-    assert reason(plan, [source("1..99/2")], Wanted(sure=True)) == "no number is sure enough to be taken"
-
-
-def test_a_change_costs_dropouts():
-    """Each capture has more dropouts in one half of pictures 11 to 30."""
-    sources = [source("1..40")._replace(facts=Facts(damage=[
-        900 * (first <= field < first + 20) for field in range(80)])) for first in (20, 40)]
-    assert stretches_text(plan(sources)) == "1-40 a1"
-    assert stretches_text(plan(sources, Wanted(change=17000))) == "1-20 b1, 21-40 a41"
-    assert stretches_text(plan(sources, Wanted(change=18001))) == "1-40 a1"
-
-
-def test_bad_lines_stand_for_dropouts():
-    assert stretches_text(plan([source("1..40 33.16=?"), source("1..40", "b")], Wanted(change=400))) == "1-40 b1"
-
-
-def test_where_it_begins():
-    """Picture 5 is in frame 5 of an output that begins with picture 1. Pictures that begin with second fields get a
-    field of padding, which stands for none."""
-    found = plan([source("5..20")], Wanted(start=1))
-    assert (stretches_text(found), found.first_field[5], found.padded) == ("1-4 x8, 5-20 a1", 9, [1, 2, 3, 4])
-    odd = source("5..20")._replace(facts=Facts([field % 2 == 1 for field in range(32)]))
-    found = plan([odd])
-    assert found.stretches[0] == Stretch(1, 1, None, None, None, None, "padding")
-    assert (found.first_field[5], found.fields) == (2, 33)
-
-
-def test_the_ends_come_along():
-    """Of lead-in an even count of fields."""
-    found = plan([source("Lx3 1..20 Ox5")], Wanted(ends=True))
-    assert [(one.out, one.fields, one.first, one.field) for one in found.stretches] == [
-        (1, 2, None, 2), (3, 40, 1, 4), (43, 5, None, 44)]
-    found = plan([source("Lx3 5..20 Ox5")], Wanted(ends=True, start=1))
-    assert [(one.out, one.fields, one.first, one.field) for one in found.stretches] == [
-        (1, 8, 1, None), (9, 32, 5, 4), (41, 5, None, 36)]
-
-
-def test_padding_of_an_older_output_is_no_field_of_a_picture():
-    pad = [field in (10, 11) for field in range(40)]
-    found = plan([source("1..20 11:12=B")._replace(facts=Facts(pad=pad)), source("4..8", "b")])
-    assert stretches_text(found) == "1-3 a1, 4-6 b1, 7-20 a13"
-
-
-# How a plan of pictures 1 to 40, of which 11 and 12 are padding, is made wrong, and what is said of it
-WRONG = {
-    "field 5 of a is taken twice": lambda ones: [ones[0], ones[1], ones[2]._replace(field=5)],
-    "3 comes after 20": lambda ones: [ones[0]._replace(last=20), ones[1]._replace(first=3), ones[2]],
-    "1 stands in field 2, not 1": lambda ones: [ones[1]._replace(out=1, fields=1, first=1, last=1), ones[0]._replace(
-        out=2, fields=19), *ones[1:]],
-    "2 stands in field 1, not 3": lambda ones: [ones[0]._replace(field=3, fields=18), ones[1]._replace(
-        out=19, fields=6), ones[2]],
-    "field 21 is planned as field 22": lambda ones: [ones[0], ones[1]._replace(out=22), ones[2]],
-    "it has 78 fields": lambda ones: [*ones[:2], ones[2]._replace(fields=54)],
-    "a has no field 78": lambda ones: [*ones[:2], ones[2]._replace(field=23)],
-    "fields 21 to 21 stand for more numbers than they have fields": lambda ones: [ones[0], ones[1]._replace(
-        fields=1), ones[2]._replace(out=22, fields=59, field=18)]}
-
-
-def lacking():
-    """A capture that lost pictures 11 and 12, with the frame and the colour of each field."""
-    places = [place for place in range(80) if not 20 <= place < 24]
-    facts = Facts([place % 2 == 0 for place in places], [place % 8 + 1 for place in places])
-    return [source("1..40 -21:24")._replace(facts=facts)]
-
-
-@pytest.mark.parametrize("text", WRONG)
-def test_a_wrong_plan_is_refused(text):
-    """Picture 10, which is unsure, stands in one stretch with those before it."""
-    sources = lacking()
-    found = plan(sources)
-    sure, unsure, *others = found.stretches
-    found = found._replace(stretches=[sure._replace(fields=sure.fields + unsure.fields, last=unsure.last), *others])
-    refuse_wrong(found, sources)
-    wrong = found._replace(stretches=WRONG[text](found.stretches))
-    assert reason(refuse_wrong, wrong, sources) == "the plan is wrong: " + text
-
-
-def test_what_isnt_sure_may_be_padding():
-    """Numbers at another speed, which `--sure` leaves out, are believed of their fields. So is the last field left out,
-    of which no number says whose it is."""
-    sources = [source("1..20 21..40/2 41..60")]
-    found = plan(sources, Wanted(sure=True))
-    assert stretches_text(found) == "1-20 a1, 21-41 x42, 42-60 a63, 60 x1"
-    refuse_wrong(found, sources)
-
-
-def test_padding_hides_no_number_of_another_capture():
-    sources = lacking()
-    found = plan(sources)
-    refuse_wrong(found, [*sources, source("1..10", "b")])
-    text = "the plan is wrong: 11 to 12 are padding, and a capture has one of them"
-    assert reason(refuse_wrong, found, [*sources, source("5..20", "b")]) == text
+@pytest.mark.parametrize("said, sides, stretches", cells_of(WRONG))
+def test_a_wrong_plan_is_refused(said, sides, stretches):
+    found, sources = planned(sides.split(" ; ")[0])
+    sources = [source(one, name) for one, name in zip(sides.split(" ; "), "ab")]
+    assert reason(refuse_wrong, found._replace(stretches=stretches_of(stretches)), sources) == (
+        "the plan is wrong: " + said)
 
 
 def test_padding_hides_no_number():
-    sources = lacking()
-    found = plan(sources)
+    found, sources = planned("LACKS")
+    refuse_wrong(found, [*sources, source("1..10", "b")])
     hidden = found._replace(padded=[*found.padded, 13])
     assert reason(refuse_wrong, hidden, sources) == "the plan is wrong: 13 is padding"
     other = found._replace(first_field={number: field for number, field in found.first_field.items() if number != 5})
     assert reason(refuse_wrong, other, sources) == "the plan is wrong: 5 stands in field 9, where another number is"
+
+
+# What is said of an output with this text, beside the plan of a capture
+DIFFERENT = """
+    1..20 | 1..19 | 38 fields, not 40 || 1..20 | 1..20 ~11 | 6 in field 12, not 11; fields 11 and 12 are swapped
+    1..20 | 1..20 20 | 42 fields, not 40; 20 in field 41, not 39; 20 stands still from field 39 on; 20 again in field 41
+    1..20 | 1..20 19 20 | 44 fields, not 40; 19 in field 41, not 37; 20 in field 43, not 39; 19 again in field 41;
+        a break between fields 39 and 41
+    1..20 21..40/2 41..60 | 1..20 21..40/2 41..60 | .. 60 in field 99, not 119; another speed in fields 41 to 61
+    1..5 | 1..3 B 4 | 9 fields, not 10; 4 in field 8, not 7; a break between fields 5 and 8
+    b1..5 | b1..5 5=B | nothing || 1..5 | 1..5 5=B 6=-/#3/#3
+        | 3 in field 6, not 5; fields 5 and 6 are swapped
+    1..10 13..20 | 1..10 Bx4 13..20 | nothing || 5..20 & start=1 | Bx8 5..20 | nothing
+    lost= NTSC t0..40!20 | NTSC t0..40!20 | nothing
+"""
+
+
+@pytest.mark.parametrize("sides, output, said", cells_of(DIFFERENT))
+def test_what_is_read_otherwise(sides, output, said):
+    found, _ = planned(sides)
+    text = "; ".join(differences(found, capture_of(made(output, side), "out"))) or "nothing"
+    assert text.endswith(said[2:]) if said.startswith("..") else text == said
+
+
+NONE = Plan("PAL", "picture", [Stretch(1, 4, 1, 2, 0, 1, "whole")], [], [], [], [], [], {1: 1, 2: 3}, 4)
+# What is said of a plan with these members, and of the judge's reasons for its output: each why it is, if it is a no,
+# its text, and how often fields are lost
+PADDED = {"padded": [9], "stretches": [NONE.stretches[0]._replace(source=None)]}
+LOST, MISSING, BEGINS = ("lost", True, "L", 1), ("missing", True, "M", 0), ("begins", True, "B", 0)
+SAID = (
+    ({}, [], "yes"), ({"padded": [9, 8, 8]}, [], "no: 2 pictures are padding (8 to 9)"),
+    ({"partial": [1, 3, 5, 7]}, [], "no: 4 pictures lack fields (1, 3, 5, 7)"),
+    ({"partial": [1, 3, 5, 7, 9]}, [], "no: 5 pictures lack fields (1, 3, 5, 7, 1 more)"),
+    ({"partial": [4]}, [], "no: 1 picture lacks fields (4)"), ({"seams": [1]}, [], "no: 1 seam"),
+    ({"seams": [1, 2], "unsure": [5]}, [], "no: 2 seams; 1 picture may have another's field (5)"),
+    ({"unsure": [5, 6]}, [], "can't tell: 2 pictures may have another's field (5 to 6)"),
+    ({}, [LOST, MISSING], "no: L; M"), ({}, [BEGINS, LOST, MISSING], "no: B"),
+    ({}, [BEGINS, LOST, LOST], "no: B; L; L"), ({}, [("lost", False, "L", 1)], "can't tell: L"),
+    ({}, [("begins", False, "B", 0), LOST], "no: L; B"), (PADDED, [("lost", False, "L", 1)],
+                                                            "no: 1 picture is padding (9)"),
+    *((PADDED, [(why, True, "X", 0), ("numbers", True, "N", 0)], "no: 1 picture is padding (9); N")
+      for why in ("padding", "lost", "missing", "jumps")))
+
+
+@pytest.mark.parametrize("members, reasons, text", SAID)
+def test_what_is_said(members, reasons, text):
+    answer = SimpleNamespace(reasons=[SimpleNamespace(why=why, whole="no" if is_no else "can't tell", text=text)
+                                      for why, is_no, text, _ in reasons], lost=[1] * sum(row[3] for row in reasons))
+    found = outcome_of(NONE._replace(**members), answer)
+    assert (found.whole, found.text) == (text.split(":")[0], "whole: " + text)
+    assert outcome_of(NONE._replace(**members), None, ["x"] * 2).text.count("read otherwise: 2") == 1
+
+
+def test_what_was_written():
+    more = [Stretch(1, 1, None, None, 1, 7, "whole"), Stretch(2, 4, 1, 2, 0, 1, "whole"),
+            Stretch(6, 2, 3, 3, None, None, "padding"), Stretch(8, 2, 4, 4, 1, 8, "unsure")]
+    found = NONE._replace(stretches=more, fields=9, seams=[Seam("phase", 5, 8)])
+    assert list(written_lines(NONE, ["a"])) == ["written: 4 fields, 1 stretch, 0 changes", "a: 4 fields, 2 pictures"]
+    assert list(written_lines(found, ["a", "b"])) == [
+        "written: 9 fields, 4 stretches, 2 changes", "a: 4 fields, 2 pictures", "b: 3 fields, 1 picture"]
+    assert list(seam_lines(found)) == ["seam after field 5: phase"]
+    assert list(rows_of(found, ["a", "b"])) == [
+        (1, 1, 1, "", "", "b", 7, "whole"), (2, 4, 1, 1, 2, "a", 1, "whole"), (6, 2, 3, 3, 3, "", "", "padding"),
+        (8, 2, 4, 4, 4, "b", 8, "unsure")]
 
 
 @pytest.mark.parametrize("text, pad, said", [

@@ -29,10 +29,10 @@ def differences(made: Plan, capture: Capture) -> List[str]:
 def _breaks(made: Plan, capture: Capture) -> List[str]:
     """Where fields don't go on, though no padding is there, and the clock leaves nothing out."""
     explained = {field for one in made.stretches if one.source is None for field in one.outs()}
-    left_out, begin = set(made.left_out), min(made.first_field.values(), default=1)
+    left_out, begin = set(made.left_out), min(made.first_field.values())
     for one in capture.breaks:
         if not left_out.isdisjoint(range(capture.ordinal(one.from_) + 1, capture.ordinal(one.to))):
-            explained.update(range(one.after, one.before + 1))
+            explained.update(range(one.after, one.before))
     spans = {(one.after, one.before) for one in capture.answer.lost if one.before <= made.fields}
     spans.update((one.after, one.before) for one in capture.breaks)
     return ["a break between fields %d and %d" % span for span in sorted(spans)
