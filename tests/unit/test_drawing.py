@@ -136,20 +136,6 @@ def place_of(part):
 # second one times begin at 0:59:59.15; the minutes of two fields are wrong, no clock shows those of a third, nor the
 # picture of a fourth. Of the third one 20 fields share a pixel, and where there are too many boxes twice as many do.
 DRAWN = """
-    NTSC Lx2 1..6 9..10 11x3 12..13 B C 15..16 79999 18..19 0 21..22 5 24..26 24..27 Ox2 28:62/2=-/c1/c1 7=S/S/#3
-      10=-/S/c0 12=-/M/c0
-      | @title 150 28 side.tbc | @line-16 1-6 150-240 blank 28; 7-7 240-255 word 28; 8-64 255-1110 blank 28
-      | @line-17 1-28 150-570 word 28; 29-29 570-585 blank 28; 30-64 585-1110 word 28
-      | @line-18 1-28 150-570 word 28; 29-29 570-585 blank 28; 30-64 585-1110 word 28
-      | @lead-in 1-2 150-180 | @chapter 4-26 195-540; 28-62 555-1080 | @lead-out 63-64 1080-1110
-      | @disc-label 368 213 chapter 0; 818 213 chapter 1 | @stop 7 247.5 224; 10 292.5 224
-      | @chapter-line 195 248 488; 555 248 488 | @lost 15-15 360-375 | @lost-fields 15-15 360-375
-      | @unread 28-30 555-600; 34-36 645-690; 40-42 735-780; 46-48 825-870 | @jumps 55-55 960-975
-      | @stills 19-23 420-495 | @shown-again 21-23 450-495; 55-59 960-1035 | @out-of-place 12-12 315-330
-      | @upright 15-15 360-375; 15-15 360-375; 55-55 960-975 | @doubtful 35-35 660-675; 41-41 750-765; 47-47 840-855
-      | @doubt 35 667.5 243.0; 41 757.5 493.0; 47 ring 848 448 | @axis 36 368 picture number; 630 692 field
-      | @run 3-13 6 188 484 338 439; 15-27 7 368 412 548 377; 31-33 2 608 359 638 350; 37-39 2 698 332 728 324;
-      43-45 2 788 306 818 297; 49-53 3 878 279 938 261; 55-61 4 968 279 1058 252
     t89990..90005 t90009..90012 2:40/2=-/M/c3 9.18=@0:58 13.18=@9:59 17.18=@0:61 25.16=s0.25
       | @number-label 140 487 0:59:59.15; 140 435 0:59:59.20; 140 382 1:00:00; 140 330 1:00:00.05; 140 278 1:00:00.10
       | @axis 36 368 time; 630 710 field | @undecided 33-33 918-942 | @unread 24-26 702-774
@@ -239,36 +225,30 @@ def test_padding():
     assert boxes[0].find(SPACE + "title").text == "line 16, fields 11 to 12: padding"
 
 
-def test_axes_and_heads():
-    """Of captures together, of four pictures with 240 pixels each, whose numbers stand below four lanes; of groups of
-    rows that have no place; and the head of a side that ends inside a field."""
-    drawn = bars.bars_of(join([capture_of(made("1..4", side), name) for name in "ab"]))
-    parts = [part for part in xml.fromstring(drawn).iter() if part.tag in (SPACE + "line", SPACE + "text")]
-    assert {"270 192 197", "270 212 1", "510 212 2", "990 212 4"} <= {" ".join(place_of(part)) for part in parts}
+def test_heads():
+    """Of groups of rows that have no place, and of a side that ends inside a field."""
     assert folds._alike([{"by": "x"}], ["by"]) == (["by", "count", "first row", "last row"], [["x", 1, None, None]])
     assert "PAL, CAV, 1 field, field 2 is cut: 5 bytes of it, 1 picture, 9 to 9" in [
         part.text for _, part in parts_of("-/#9/#9", cut=Cut(2, 5))]
 
 
-def test_texts_are_apart():
+@pytest.mark.parametrize("form, right, legend", ((BROAD, 1140, 850), (NARROW, 388, 388)))
+def test_texts_are_apart(form, right, legend):
     """And within the picture, as are the boxes and rings of the legend, of which a page 900 pixels wide shows 850.
     Letters are 7 pixels wide, or less."""
-    boxes = []
-    for _, part in parts_of("1..8 5=-/#3^/#3^"):
+    boxes, letters = [], form.letters
+    for part in xml.fromstring(drawing_of(made("1..8 5=-/#3^/#3^", side), "side.tbc", form)).iter():
         known = part.attrib
         x, y = (float(known.get(name, known.get("c" + name, 0))) for name in ("x", "y"))
         if part.tag == SPACE + "text" and "transform" not in known:
-            width = 7 / 13 * float(known.get("font-size", 13)) * len(text_in(part))
+            width = 7 / 13 * float(known.get("font-size", letters)) * len(text_in(part))
             left = x - width * {"middle": 0.5, "end": 1}.get(known.get("text-anchor"), 0)
             boxes.append((left, y - 10, left + width, y + 2))
         elif part.tag == SPACE + "circle" or known.get("width") == "14":
             boxes.append((x - 4, y - 4, x + 4, y + 4) if part.tag == SPACE + "circle" else (x, y, x + 14, y + 14))
-    for (left, top, right, bottom), *others in (boxes[place:] for place in range(len(boxes))):
-        assert 0 <= left and right <= (850 if 50 < top < 86 else 1140) and top >= 0
-        assert all(right <= other[0] or other[2] <= left or bottom <= other[1] or other[3] <= top for other in others)
-
-
-NARROW_SIDE = "NTSC Lx9 1..600 700..900 1501=?/!/~ 851..900 Ox9 9=-/#79999^/- 31=S/S/#12 60:80=B"
+    for (left, top, end, bottom), *others in (boxes[place:] for place in range(len(boxes))):
+        assert 0 <= left and end <= (legend if 50 < top < 86 else right) and top >= 0
+        assert all(end <= other[0] or other[2] <= left or bottom <= other[1] or other[3] <= top for other in others)
 
 
 def luminance(colour):
@@ -338,24 +318,6 @@ def test_contrast():
             if name == same} == {(name, *pair) for pair in colours.DARK.items() for name in ("fill", "stroke")}
     assert abs(contrast("#000000", "#ffffff") - 21) < 1e-9
     assert abs(contrast("#767676", "#ffffff") - 4.54) < 0.01  # the lightest grey that is enough on white
-
-
-def test_the_narrow_form():
-    """It has the whole side, and all of its marks, on a page that is 420 wide, and each text has room. It has no title
-    of its own."""
-    one = made(NARROW_SIDE, side)
-    parts = {form: list(xml.fromstring(drawing_of(one, "side.tbc", form)).iter()) for form in (BROAD, NARROW)}
-    named = {form: [part.get("class") for part in found] for form, found in parts.items()}
-    assert set(named[BROAD]) - set(named[NARROW]) == {"title", "system"}
-    assert [int(parts[NARROW][0].get(name)) for name in ("width", "font-size")] == [388, 11]
-    for part in parts[NARROW][1:]:
-        x, width = (float(part.get(name, "0").replace("100%", "0")) for name in ("x", "width"))
-        if part.tag == SPACE + "text" and "transform" not in part.attrib:
-            width = 7 / 13 * float(part.get("font-size", "11")) * len(text_in(part))
-            x -= width * {"middle": 0.5, "end": 1}.get(part.get("text-anchor"), 0)
-        assert 0 <= x and x + width <= 388, part.attrib
-    shown = [part.get("data-fields") for part in parts[NARROW] if part.get("class") == "line-18"]
-    assert (shown[0].split("-")[0], shown[-1].split("-")[1]) == ("1", str(len(one.readings)))
 
 
 # Marks by their first and last field, of 960 that have a pixel each, of which a mark has two at least: what is drawn of
