@@ -27,6 +27,7 @@ import pytest
 from streams import NTSC
 
 SPACE = "{http://www.w3.org/2000/svg}"
+EMPTY = made("", typed)
 # Entries of an answer's lists, of which each row below changes a part
 ENTRIES = {
     "missing": Missing(5, 5, 1, "lost", 9, 13), "lost": Lost(9, 10, 1, "number"),
@@ -77,7 +78,7 @@ MARKS = (
 
 def marks_with(name, unit="picture", **other):
     """The marks of an answer whose list has one entry."""
-    marks = marks_of(made("", typed)._replace(unit=unit, **{name: [ENTRIES[name]._replace(**other)]}))
+    marks = marks_of(EMPTY._replace(unit=unit, **{name: [ENTRIES[name]._replace(**other)]}))
     return ["%s %s: %s" % (lane, first if first == last else "%d-%d" % (first, last), text)
             for lane, ones in marks.items() for first, last, text in ones]
 
@@ -141,25 +142,25 @@ DRAWN = """
       | @axis 36 368 time; 630 710 field | @undecided 33-33 918-942 | @unread 24-26 702-774
       | @doubtful 9-9 342-366; 13-13 438-462; 17-17 534-558; 25-25 726-750 | @doubt 9 354.0 493.0; 13 450.0 243.0
       | @run 1-23 12 162 483 690 368; 27-31 3 786 347 882 326; 33-39 4 930 284 1074 253
-    MANY 9601=-/?/#4801 | @line-16 1-19200 150-1110 blank 28 | @run 1-19199 961 150 488 1110 248
-      | @line-17 1-9600 150-630 word 14; 1-9600 150-630 blank 14; 9601-9620 630-631 change 4; 9601-9620 630-631 word 11;
-      9601-9620 630-631 blank 13; 9621-19200 631-1110 word 14; 9621-19200 631-1110 blank 14
+    MANY 2401=-/?/#1201 | @line-16 1-4840 124-366 blank 28 | @run 1-4839 243 124 488 366 248
+      | @line-17 1-2400 124-244 word 14; 1-2400 124-244 blank 14; 2401-2420 244-245 change 4; 2401-2420 244-245 word 11;
+      2401-2420 244-245 blank 13; 2421-4840 245-366 word 14; 2421-4840 245-366 blank 14
     NTSC S/S*/- ~/?/! | @line-16 1-1 150-630 word 28; 2-2 630-1110 unfinished 28 | @stop 1 390.0 224
       | @line-17 1-1 150-630 read only after smoothing 28; 2-2 630-1110 change 28
       | @line-18 1-1 150-630 blank 28; 2-2 630-1110 hold 28 | @empty 630 368 no picture number and no time
     1..32 33.16=? | @line-16 1-32 150-630 blank 28; 33-33 630-645 noise 28; 34-64 645-1110 blank 28
       | +line-16 line 16, field 33: noise, change 170
     NTSC m59x20 m60x28 | @number-label 140 432 0:59; 140 312 1:00 | @run 1-48 4 160 428 1100 308 | doubt
-    MANY 9601.16=? | @line-16 1-9600 150-630 blank 28; 9601-9620 630-631 noise 1; 9601-9620 630-631 blank 27;
-      9621-19200 631-1110 blank 28 | +line-16 line 16, fields 9601 to 9620: noise in 5 % of these fields
-      | +line-16 line 16, fields 9601 to 9620: blank in 95 % of these fields
-    MANY 95:19200/192=B 10083=B | #unread 100 | +@unread 10078-10084 654-656
-    MANY 9601=B 9605=B 9609=B
-      | @run 1-9599 481 150 488 630 368; 9603-9603 1 630 368 630 368; 9611-19199 481 630 368 1110 248
-    MANY 9601=-/?/#4801 | =MOST_BOXES 6 | +line-17 fields 1 to 10240: change in less than 1 % of these fields
-      | @line-17 1-10240 150-662 change 4; 1-10240 150-662 word 12; 1-10240 150-662 blank 12;
-      10241-19200 662-1110 word 14; 10241-19200 662-1110 blank 14
-    MANY 9641=-/#100/- 9643=-/#101/- 9781=-/#100/- | =MOST_RINGS 2 | @doubt 9641 ring 632 486
+    MANY 2401.16=? | @line-16 1-2400 124-244 blank 28; 2401-2420 244-245 noise 1; 2401-2420 244-245 blank 27;
+      2421-4840 245-366 blank 28 | +line-16 line 16, fields 2401 to 2420: noise in 5 % of these fields
+      | +line-16 line 16, fields 2401 to 2420: blank in 95 % of these fields
+    MANY 95:4840/192=B 2403=B | #unread 25 | +@unread 2398-2404 244-246
+    MANY 2401=B 2405=B 2409=B
+      | @run 1-2399 121 124 488 244 369; 2403-2403 1 244 369 244 369; 2411-4839 123 244 368 366 248
+    MANY 2401=-/?/#1201 | =MOST_BOXES 6 | +line-17 fields 1 to 2560: change in less than 1 % of these fields
+      | @line-17 1-2560 124-252 change 4; 1-2560 124-252 word 12; 1-2560 124-252 blank 12;
+      2561-4840 252-366 word 14; 2561-4840 252-366 blank 14
+    MANY 2461=-/#100/- 2463=-/#101/- 2601=-/#100/- | =MOST_RINGS 2 | @doubt 2461 ring 247 478
       | +doubt and 2 more near it
     NTSC t1740..1829!1800,1801,1802,1803,1804 | system NTSC, CLV, 170 fields, 85 times, 0:00:58.00 to 0:01:00.29
       | number-label 0:00:58; 0:00:59; 0:01:00
@@ -181,12 +182,12 @@ DRAWN = """
     <1..60 -/#N/#N -/cN/cN> | #chapter 60 | #chapter-line 60 || <1..70 -/#N/#N -/cN/cN> | #chapter 70 | #chapter-line 0
     <1..30 -/#N/#N -/cN/cN> | disc-label 1; 2; 3; 4; 5; 6; 7; 8; 9
 """
-MANY = "NTSC 1..9600 1:19200/2.18=- 2:19200/2=B"
+MANY = "NTSC 1..2420 1:4840/2.18=- 2:4840/2=B"  # 20 fields to a pixel of the narrow drawing
 
 
 def parts_of(text, **more):
     """The parts of a drawing, each with its class."""
-    picture = xml.fromstring(drawing_of(made(text, side, **more), "side.tbc"))
+    picture = xml.fromstring(drawing_of(made(text, side, **more), "side.tbc", NARROW if MANY in text else BROAD))
     return [(part.get("class"), part) for part in picture.iter()]
 
 
