@@ -1,9 +1,10 @@
 #!/usr/bin/env python3
-"""Plants errors into the Python packages, one at a time, and says which of them no test sees.
+"""Plants errors into the source, one at a time, and says which of them no test sees.
 
-What is planted, tests/planted.py says. A plant is tried in a copy of the tree, by the tests that run its line: the
-quickest first, until one fails. Which they are a file in the folder for temporary ones keeps, which is made anew when
-the packages change, and of a test file when that changes.
+What is planted, tests/planted.py says for Python, and tests/planted_text.py for all else. A plant is tried in a copy of
+the tree. Of the Python packages it is by the tests that run its line: the quickest first, until one fails. Which they
+are a file in the folder for temporary ones keeps, which is made anew when the packages change, and of a test file when
+that changes. Of all else it is by the commands that tests/scripted.py has for its file.
 
 A plant's name is made of its file, its function and its text; its hash picks the part of about 60 that it belongs to.
 Those that have no effect stand in tests/mutants.txt, with the reasons.
@@ -34,21 +35,23 @@ import coverage
 import hypothesis  # noqa: F401: once, for all that is tried
 import pytest
 
-from planted import planted, plants_of, TOP
+import scripted
+from planted import TOP
+from scripted import NOBODY, NO_PLANT, planted, plants_of
 
 RECORD = pathlib.Path(tempfile.gettempdir(), "ldvbi-mutants%s.json" % str(TOP).replace("/", "-"))
 SEEN = RECORD.with_suffix(".seen")  # of each plant that was seen the test that did
 REASONS = TOP / "tests" / "mutants.txt"
 LEFT_ASIDE = "test_archive.py", "test_mutants.py", "test_package.py", "test_page.py"  # they take long, or run no line
-COPIED = "python", "simulated", "tests"  # folders of the copy; it has links to all others
-PARTS = 380  # each of about 60 plants
+LEFT_OUT = "__pycache__", ".git", ".venv", "crate", "dist", "ldvbi-mutants-*", "out"  # they aren't copied
+PARTS = 480  # each of about 60 plants
 FIRST = 40  # tests of a plant, which are run before the others
 MOST = 45  # seconds that the tests of a plant take, and no more are run
 GRACE = 20  # seconds of a processor, besides four times those of its tests, after which a plant is seen, since it hangs
 WAITING = 4  # times as long may pass, for the machine may be busy
 DOUBTED = 1  # seconds: a test that takes longer has to fail twice
 MEMORY = 3 << 30  # bytes
-NOBODY = 65534  # who runs the tests where root would: a plant may end processes, or remove files
+TOGETHER = 15  # plants that cargo builds in one copy before another is made ready for that
 
 
 # ---- Which tests run a line
@@ -152,21 +155,18 @@ def recorded(folder, names, jobs):
 # ---- A plant is tried
 
 @contextlib.contextmanager
-def room():
+def room(is_for_python=True):
     """A copy of the tree, which is another user's if root asks."""
     with tempfile.TemporaryDirectory(prefix="ldvbi-mutants-") as name:
         folder = pathlib.Path(os.path.realpath(name))
-        for path in TOP.iterdir():
-            if path.name in COPIED:
-                shutil.copytree(path, folder / path.name, ignore=shutil.ignore_patterns("__pycache__"))
-            elif path.name != ".git":
-                (folder / path.name).symlink_to(path)
+        shutil.copytree(TOP, folder, True, shutil.ignore_patterns(*LEFT_OUT), dirs_exist_ok=True)
         if os.getuid() == 0:
             for place, _, names in os.walk(folder):
                 for one in (place, *(os.path.join(place, name) for name in names)):
                     os.chown(one, NOBODY, NOBODY, follow_symlinks=False)
-        subprocess.run([sys.executable, "-m", "pytest", "-q", "--collect-only"], cwd=folder / "tests" / "unit",
-                       preexec_fn=lambda: confine(folder), stdout=subprocess.DEVNULL, check=False)  # all is compiled
+        if is_for_python:  # all is compiled
+            subprocess.run([sys.executable, "-m", "pytest", "-q", "--collect-only"], cwd=folder / "tests" / "unit",
+                           preexec_fn=lambda: confine(folder), stdout=subprocess.DEVNULL, check=False)
         yield folder
 
 
@@ -228,7 +228,7 @@ def failing(folder, tests, seconds):
 
 def tried(folder, plant, tests):
     """The test that sees a plant in the copy, if one does."""
-    path, (seconds, found) = folder / plant.file, (0, None)
+    path, found = folder / plant.file, None
     old, times = path.read_text("utf-8"), path.stat()
     path.write_text(planted(plant), "utf-8")
     os.utime(path, (0, 0))  # so that it isn't taken for what is compiled
@@ -246,11 +246,25 @@ def tried(folder, plant, tests):
     return found
 
 
+def taken(own, shared, following):
+    """The jobs of this process alone, and then each of those for all that no other has taken."""
+    yield from own
+    while True:
+        with following.get_lock():
+            place, following.value = following.value, following.value + 1
+        if place >= len(shared):
+            break
+        yield shared[place]
+
+
 def work(folder, jobs, seen, connection):
     sys.dont_write_bytecode = True
     os.environ["PYTHONDONTWRITEBYTECODE"] = "1"
     for plant, tests in jobs:
-        found = tried(folder, plant, ordered(plant, tests, seen))
+        if plant.file.startswith("python/"):
+            found = tried(folder, plant, ordered(plant, tests, seen))
+        else:
+            found = scripted.tried(folder, plant, planted(plant))
         if found in tests:
             seen[plant.name] = found
         connection.send((plant, found))
@@ -275,12 +289,16 @@ def ordered(plant, tests, seen):
 
 def side_by_side(jobs, seen, count):
     """Each plant with the test that sees it, from so many processes."""
-    context = multiprocessing.get_context("fork")
+    context, left = multiprocessing.get_context("fork"), []
+    count, following = min(count, len(jobs)), context.Value("i", 0)
+    built = [job for job in jobs if scripted.is_built(job[0].file)]
+    shared, few = [job for job in jobs if job not in built], min(count, -(-len(built) // TOGETHER))
+    is_for_python = any(tests for _, tests in jobs)
     with contextlib.ExitStack() as rooms:
-        left = []
-        for number in range(min(count, len(jobs))):
+        for number in range(count):
             ours, theirs = context.Pipe(False)
-            process = context.Process(target=work, args=(rooms.enter_context(room()), jobs[number::count], seen, theirs))
+            own, folder = built[number::few] if number < few else [], rooms.enter_context(room(is_for_python))
+            process = context.Process(target=work, args=(folder, taken(own, shared, following), seen, theirs))
             process.start()
             rooms.callback(process.terminate)
             theirs.close()
@@ -310,13 +328,15 @@ def reasons():
     return [line for line in REASONS.read_text("utf-8").splitlines() if line and line[0] not in "# "]
 
 
+def is_in(file, folder):
+    return file == folder or file.startswith(folder and folder.rstrip("/") + "/")
+
+
 def chosen(words, plants):
     """The plants that are asked for."""
     if words.again:
         return [one for one in plants if one.key in words.again]
-    found = [one for one in plants if one.file.startswith(words.folder.rstrip("/") + "/")]
-    if words.part is not None:
-        found = [one for one in found if int(one.key, 16) % PARTS == words.part % PARTS]
+    found = [one for one in plants if words.part is None or int(one.key, 16) % PARTS == words.part % PARTS]
     ranks = {one: hashlib.sha256((words.seed + one.name).encode()).digest() for one in found}
     return sorted(found, key=ranks.__getitem__)[:words.most]
 
@@ -325,17 +345,17 @@ def main():
     signal.signal(signal.SIGTERM, lambda *_: sys.exit(1))
     parser = argparse.ArgumentParser(description=__doc__, formatter_class=argparse.RawDescriptionHelpFormatter)
     parser.add_argument("--part", type=int)
-    parser.add_argument("--folder", default="python")
+    parser.add_argument("--folder", default="")
     parser.add_argument("--again", action="append", metavar="NAME")
     parser.add_argument("--most", type=int)
     parser.add_argument("--seed", default="1")
     parser.add_argument("--jobs", type=int, default=os.cpu_count())
     parser.add_argument("--list", action="store_true")
     words = parser.parse_args()
-    files = sorted(str(path.relative_to(TOP)) for path in (TOP / "python").rglob("*.py"))
-    plants = [plant for file in files for plant in plants_of(file)]
-    known_reasons = reasons()
-    stale = [one for one in known_reasons if one not in {plant.name for plant in plants}]
+    files = sorted(str(path.relative_to(TOP)) for path in (TOP / "python").rglob("*.py")) + scripted.files()
+    plants = [plant for file in files if is_in(file, words.folder) for plant in plants_of(file)]
+    names, known_reasons = {plant.name for plant in plants}, reasons()
+    stale = [one for one in known_reasons if one not in names and is_in(one, words.folder)]
     asked = chosen(words, plants)
     if words.list:
         print("\n".join("%s %s" % (one.key, one.name) for one in asked))
@@ -344,14 +364,17 @@ def main():
     without = [one for one in asked if one.name in known_reasons]
     for one in without:
         counts[one.file]["without effect"] += 1
-    known = known_tests(words.jobs)
+    is_asked = any(one.file.startswith("python/") for one in asked)
+    known = known_tests(words.jobs) if is_asked else {"texts": {}, "tests": {}}
     jobs = [(one, tests_of(one, known)) for one in asked if one not in without]
     seen = json.loads(SEEN.read_text()) if SEEN.exists() else {}
     for plant, found in side_by_side(jobs, seen, words.jobs):
         seen.pop(plant.name, None)
         seen.update({plant.name: found} if found in known["tests"] else {})
-        counts[plant.file]["seen" if found else "not seen"] += 1
-        print("seen" if found else "NOT SEEN", plant.key, plant.name, "(by %s)" % found if found else "", flush=True)
+        if found != NO_PLANT:
+            counts[plant.file]["seen" if found else "not seen"] += 1
+        said = "NOT SEEN" if not found else "none" if found == NO_PLANT else "seen"
+        print(said, plant.key, plant.name, "(by %s)" % found if found else "", flush=True)
     SEEN.write_text(json.dumps(seen))
     return say(counts, stale)
 
@@ -359,7 +382,7 @@ def main():
 def say(counts, stale):
     """Prints the table, of folders and of all files; returns the status."""
     for file in list(counts):
-        counts[os.path.dirname(file) + "/"].update(counts[file])
+        counts[os.path.join(os.path.dirname(file), "")].update(counts[file])
     print("| File | Planted | Seen | Not seen | Without effect |\n|---|---|---|---|---|")
     for file, one in sorted(counts.items()):
         print("| %s | %d | %d | %d | %d |" % (file, sum(one.values()), one["seen"], one["not seen"],

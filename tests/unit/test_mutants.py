@@ -8,7 +8,12 @@ import subprocess
 import sys
 import tempfile
 
+import pytest
+
 from streams import TOP
+
+sys.path.append(os.path.join(TOP, "tests"))
+import planted_text  # noqa: E402
 
 MODULE = '''"""A module."""
 
@@ -50,7 +55,7 @@ def test_a_plant_of_each_kind():
         top = pathlib.Path(folder)
         for name in ("python", "simulated", "tests/unit"):
             (top / name).mkdir(parents=True)
-        for name in ("mutants.py", "planted.py"):
+        for name in ("mutants.py", "planted.py", "planted_text.py", "scripted.py"):
             shutil.copy(os.path.join(TOP, "tests", name), top / "tests")
         (top / "tests" / "mutants.txt").write_text("# A list\n%s\n    a reason\ngone\n    why\n" % SWAPPED % "unseen")
         (top / "tests" / "unit" / "test_both.py").write_text(TESTS)
@@ -72,3 +77,37 @@ def test_a_plant_of_each_kind():
             "| python/unseen.py | %d | 0 | %d | 1 |" % (PLANTS, PLANTS - 1),
             "tests/mutants.txt: no plant has the name gone"]
         assert ran.returncode == 1
+
+
+# Files that aren't Python: name and text, and what is planted there
+OTHERS = [
+    ("a.rs", "fn f() {\n    if a < 2 {\n        go(b, 0..1u8);\n    }\n}\n",
+     "a < 2 -> false | a < 2 -> true | < -> <= | < -> >= | 2 -> 1 | 2 -> 3 | 2 -> 4 | go(b, 0..1u8); -> nothing | "
+     "b, 0..1u8 -> 0..1u8, b | 0 -> 1 | .. -> ..= | 1 -> 0 | 1 -> 2"),
+    ("a.rs", "const A: bool = \"x 1\" == b && c; // d(e, 5)\n", '"x 1" -> "x 1~" | == -> != | && -> ||'),
+    ("a.c", "int f(int a, int b) {\n    while (a || 0x0F) g('9');\n}\n",
+     "while (a || 0x0F) g('9'); -> nothing | a || 0x0F -> false | || -> && | 0x0F -> 0x0E | 0x0F -> 0x10 | "
+     "0x0F -> 0x1E"),
+    ("a.h", "/* 7 is a number */\nstruct S {\n    uint8_t a;\n    T b;\n};\n",
+     "7 -> 8 | uint8_t -> uint16_t | uint8_t a; -> nothing | T b; -> nothing"),
+    ("a.h", "struct S {\n    size_t a[3];\n    int b;\n};\n",
+     "size_t a[3]; int b; -> int b; size_t a[3]; | size_t -> uint32_t | size_t a[3]; -> nothing | 3 -> 2 | 3 -> 4 | "
+     "3 -> 6 | int b; -> nothing"),
+    ("a.sh", "if [ -n \"$1\" ]; then # 5\n    cp a b || exit\nfi\n",
+     '[ -n "$1" ] -> false | [ -n "$1" ] -> true | -n -> -z | "$1" -> "$1~" | cp a b || exit -> : | || -> &&'),
+    ("Makefile", "A ?= b\nall:\n\tcp $(1) a\n", "its end -> ~ | cp $(1) a -> nothing | $(1) a -> a $(1)"),
+    ("a.md", "# A 1\n`a1` of 1,999 <!--=a-->5, 0.5 [a](a/5)\n", "1 -> 2 | 1,999 -> 2,000"),
+    ("a.json", '{"a": true, "title": "b 3"}\n', '"a" -> "a~" | true -> false | "title" -> "title~" | 3 -> 4'),
+    ("a.1", ".Sh A\n.Ar b\nat 3\n", "its end -> ~ | 3 -> 4"), ("copyright", "a\n", "a -> nothing | its end -> ~"),
+]
+
+
+@pytest.mark.parametrize("name,text,wanted", OTHERS)
+def test_what_is_planted_elsewhere(name, text, wanted, monkeypatch, tmp_path):
+    monkeypatch.setattr(planted_text, "TOP", tmp_path)
+    (tmp_path / name).write_text(text)
+    plants = planted_text.plants_of(name)
+    assert [one.name.rpartition(": ")[2] for one in plants] == wanted.split(" | ")
+    for one in plants:
+        old, _, new = one.name.rpartition(": ")[2].partition(" -> ")
+        assert one.name.startswith(name + " ") and len(planted_text.planted(one)) - len(text) <= len(new), old

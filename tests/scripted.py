@@ -1,0 +1,136 @@
+"""Which commands see a plant of tests/mutants.py outside Python's package, and how it is tried by them in a copy of the
+tree. A plant that doesn't compile is none."""
+
+import os
+import pathlib
+import shutil
+import signal
+import subprocess
+
+import planted as python
+import planted_text
+from planted import TOP
+
+NO_PLANT = "no plant"
+NOBODY = 65534  # who runs all where root would: a plant may end processes, or remove files
+LONGEST = 600  # seconds of a command, which is seen to hang then
+PATTERNS = ("Makefile", "README.md", "docs/*.md", "examples/*.*", "examples/rust/**/*.*", "include/*", "packaging/*",
+            "rust/hand/Cargo.toml", "rust/hand/build.rs", "rust/hand/src/*.rs", "share/*/*")
+
+# The crate is written once, and holds the library for C, too, so that it is built in one go.
+CRATE = "{ [ -e rust/crate ] || CARGO=true sh rust/build.sh; } && "
+HAND = CRATE + r"""cp -r rust/hand/. rust/crate && mkdir -p built &&
+printf '\n[lib]\ncrate-type = ["lib", "cdylib"]\n' >> rust/crate/Cargo.toml &&
+(cd rust/crate && cargo test --quiet --no-run --features cli) &&
+cp rust/out/debug/ldvbi built && cp rust/out/debug/libldvbi.so built/libldvbi.so.2"""
+PROJECT = CRATE + """rm -rf built && mkdir built && cp -r examples/rust built/project &&
+{ [ ! -e rust/crate/.cargo ] || cp -r rust/crate/.cargo built/project; } && cd built/project && cargo check --quiet"""
+TESTS = "cd rust/crate && cargo test --quiet --features cli --tests"
+LIBRARY = """for part in refusals judged plans lines worn; do
+LDVBI_LIBRARY=built/libldvbi.so.2 PYTHONPATH=python:tests/unit python3 tests/library/$part.py || exit; done"""
+BITS = "rustc --edition 2021 --test -A dead_code -O -o built/bits rust/hand/src/bits_above.rs && built/bits"
+WRITTEN, NAMED = "python3 texts/write.py --check", "python3 tests/documents.py"
+SCHEMA = "cd tests/unit && /usr/bin/python3 -m pytest -q -x test_schema.py"
+
+
+def script(name, program="$PROGRAM"):
+    return "sh tests/%s.sh %s" % (name, program)
+
+
+ON_BUILT = [script("cli/" + name, "built/ldvbi") for name in ("program", "words", "device_faults", "want_of_memory")]
+# How a file's name begins, what builds it (or fails, as there is no plant then), and the commands, the quickest first
+ROWS = (
+    ("rust/hand/src/bits_above.rs", HAND, (BITS, TESTS)),
+    ("rust/hand/src/exports.rs", HAND, (LIBRARY,)),
+    ("rust/hand/src/main.rs", HAND, ON_BUILT), ("rust/hand/src/system.rs", HAND, ON_BUILT),
+    ("rust/hand/src/clap.rs", HAND, ON_BUILT[:2]),
+    ("rust/hand/src/", HAND, (TESTS,)),
+    ("rust/hand/", CRATE + "cp -r rust/hand/. rust/crate", (script("cli/rust_crate"),)),
+    ("include/ldvbi.h", "", (WRITTEN, NAMED, script("library/library"), script("library/examples"))),
+    ("include/", "", (script("library/installed"), script("cli/packaging"))),
+    ("Makefile", "make -n places", (script("cli/targets"), script("library/installed"), script("cli/packaging"))),
+    ("packaging/", "", (script("library/installed"), script("cli/packaging"))),
+    ("share/schema/", "", (WRITTEN, SCHEMA, NAMED, script("cli/docs"))),
+    ("share/", "", (WRITTEN, script("cli/manual"), NAMED, script("cli/docs"))),
+    ("examples/rust/", PROJECT, (script("cli/rust_answers"), script("cli/rust_crate"))),
+    ("examples/say.c", "cc -fsyntax-only -Iinclude $FILE", (script("library/installed"),)),
+    ("examples/stops.cpp", "c++ -std=c++17 -fsyntax-only -Iinclude $FILE", (script("library/examples"),)),
+    ("examples/seek.", "", (script("library/fetched"), script("library/examples"), script("cli/docs"))),
+    ("examples/", "case $FILE in *.c) cc -fsyntax-only -Iinclude $FILE ;; *.sh) sh -n $FILE ;; esac",
+     (script("library/examples"), script("cli/docs"))),
+    ("docs/", "", (WRITTEN, NAMED, script("cli/measured"), script("cli/docs"))),
+    ("README.md", "", (WRITTEN, NAMED, script("cli/docs"))),
+)
+
+
+def is_built(file):
+    """Whether each plant of a file is compiled by cargo, for which a copy has to be made ready."""
+    return file.startswith(("rust/", "examples/rust/"))
+
+
+def files():
+    """The files outside Python's package in which is planted."""
+    found = sorted({path for pattern in PATTERNS for path in TOP.glob(pattern) if path.is_file()})
+    return [str(path.relative_to(TOP)) for path in found]
+
+
+def plants_of(file):
+    return (python if file.endswith(".py") else planted_text).plants_of(file)
+
+
+def planted(plant):
+    return (python if plant.file.endswith(".py") else planted_text).planted(plant)
+
+
+def environment(folder):
+    program = "rust/ldvbi" if (TOP / "rust" / "ldvbi").exists() else "ldvbi"
+    more = {"PROGRAM": program, "STOP_AT_FIRST": "yes", "RUN_SECONDS": "120", "HOME": folder,
+            "TMPDIR": folder / "tests", "CARGO_TARGET_DIR": folder / "rust" / "out", "CARGO_PROFILE_DEV_OPT_LEVEL": "1",
+            "CARGO_PROFILE_DEV_DEBUG": "0", "PYTHONDONTWRITEBYTECODE": "1"}
+    more["DIFFERENCES"] = folder / "rust" / "differences.txt" if program.startswith("rust") else ""
+    asked = ["rustc", "--print", "sysroot"]  # rustup's own commands are where another user may not go
+    if shutil.which("rustc"):
+        root = subprocess.run(asked, stdout=subprocess.PIPE, text=True, check=False).stdout.strip()
+        more["PATH"] = "%s/bin:%s" % (root, os.environ["PATH"])
+    return {**os.environ, **{name: str(value) for name, value in more.items()}}
+
+
+def succeeds(folder, command, file):
+    """Whether a command succeeds in the copy. As nobody, it may read what root may, such as the compiler."""
+    words = ["sh", "-c", command]
+    if os.getuid() == 0:
+        words = ["setpriv", "--reuid=%d" % NOBODY, "--regid=%d" % NOBODY, "--clear-groups",
+                 "--inh-caps=+dac_read_search", "--ambient-caps=+dac_read_search", *words]
+    with subprocess.Popen(words, cwd=folder, env={**environment(folder), "FILE": file}, stdin=subprocess.DEVNULL,
+                          stdout=subprocess.DEVNULL, stderr=subprocess.DEVNULL, start_new_session=True) as process:
+        try:
+            return process.wait(LONGEST) == 0
+        except subprocess.TimeoutExpired:
+            return False
+        finally:
+            try:
+                os.killpg(process.pid, signal.SIGKILL)
+            except ProcessLookupError:
+                pass
+
+
+KNOWN = {}  # of this process: whether a command succeeds without a plant
+
+
+def tried(folder, plant, text):
+    """The command that sees a plant, whose file has this text then; NO_PLANT if it isn't built; or None."""
+    path, row = pathlib.Path(folder, plant.file), next(one for one in ROWS if plant.file.startswith(one[0]))
+    old, (_, build, commands) = path.read_text("utf-8"), row
+    for command in commands:
+        path.write_text(text, "utf-8")
+        failed = NO_PLANT if build and not succeeds(folder, build, plant.file) else None
+        failed = failed or (None if succeeds(folder, command, plant.file) else command)
+        path.write_text(old, "utf-8")
+        if failed and failed not in KNOWN and (failed, build) not in KNOWN:
+            is_good = not build or succeeds(folder, build, plant.file)
+            KNOWN[(failed, build)] = is_good and (failed == NO_PLANT or succeeds(folder, failed, plant.file))
+            if not KNOWN[(failed, build)]:
+                print("fails without a plant: %s %s" % (build, command), flush=True)
+        if failed and KNOWN[(failed, build)]:
+            return failed
+    return None
