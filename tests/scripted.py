@@ -6,6 +6,7 @@ import pathlib
 import shutil
 import signal
 import subprocess
+import sys
 
 import planted as python
 import planted_text
@@ -22,7 +23,7 @@ CRATE = "{ [ -e rust/crate ] || CARGO=true sh rust/build.sh; } && "
 HAND = CRATE + r"""cp -r rust/hand/. rust/crate && mkdir -p built &&
 printf '\n[lib]\ncrate-type = ["lib", "cdylib"]\n' >> rust/crate/Cargo.toml &&
 (cd rust/crate && cargo test --quiet --no-run --features cli) &&
-cp rust/out/debug/ldvbi built && cp rust/out/debug/libldvbi.so built/libldvbi.so.2"""
+cp rust/out/debug/ldvbi built && cp rust/out/debug/deps/libldvbi.so built/libldvbi.so.2"""
 PROJECT = CRATE + """rm -rf built && mkdir built && cp -r examples/rust built/project &&
 { [ ! -e rust/crate/.cargo ] || cp -r rust/crate/.cargo built/project; } && cd built/project && cargo check --quiet"""
 TESTS = "cd rust/crate && cargo test --quiet --features cli --tests"
@@ -119,18 +120,37 @@ KNOWN = {}  # of this process: whether a command succeeds without a plant
 
 def tried(folder, plant, text):
     """The command that sees a plant, whose file has this text then; NO_PLANT if it isn't built; or None."""
-    path, row = pathlib.Path(folder, plant.file), next(one for one in ROWS if plant.file.startswith(one[0]))
-    old, (_, build, commands) = path.read_text("utf-8"), row
-    for command in commands:
+    path, (_, build, commands) = pathlib.Path(folder, plant.file), row_of(plant.file)
+    old = path.read_text("utf-8")
+    if build and build not in KNOWN:
+        KNOWN[build] = succeeds(folder, build, plant.file)
+    if build and not KNOWN[build]:
+        raise SystemExit("scripted: without a plant this fails: %s" % build)
+    try:
         path.write_text(text, "utf-8")
-        failed = NO_PLANT if build and not succeeds(folder, build, plant.file) else None
-        failed = failed or (None if succeeds(folder, command, plant.file) else command)
+        if build and not succeeds(folder, build, plant.file):
+            return NO_PLANT
+        for command in commands:
+            if not succeeds(folder, command, plant.file) and is_good(folder, plant.file, command, old):
+                return command
+            if not KNOWN.get(command, True):  # it was tried without the plant
+                path.write_text(text, "utf-8")
+                succeeds(folder, build or "true", plant.file)
+        return None
+    finally:
         path.write_text(old, "utf-8")
-        if failed and failed not in KNOWN and (failed, build) not in KNOWN:
-            is_good = not build or succeeds(folder, build, plant.file)
-            KNOWN[(failed, build)] = is_good and (failed == NO_PLANT or succeeds(folder, failed, plant.file))
-            if not KNOWN[(failed, build)]:
-                print("fails without a plant: %s %s" % (build, command), flush=True)
-        if failed and KNOWN[(failed, build)]:
-            return failed
-    return None
+
+
+def row_of(file):
+    return next(row for row in ROWS if file.startswith(row[0]))
+
+
+def is_good(folder, file, command, old):
+    """Whether a command succeeds where nothing is planted."""
+    if command not in KNOWN:
+        pathlib.Path(folder, file).write_text(old, "utf-8")
+        build = row_of(file)[1]
+        KNOWN[command] = (not build or succeeds(folder, build, file)) and succeeds(folder, command, file)
+        if not KNOWN[command]:
+            print("scripted: without a plant this fails: %s" % command, file=sys.stderr, flush=True)
+    return KNOWN[command]
