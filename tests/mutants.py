@@ -3,8 +3,7 @@
 
 What is planted, tests/planted.py says for Python, and tests/planted_text.py for all else. A plant is tried in a copy of
 the tree. Of the Python packages it is by the tests that run its line: the quickest first, until one fails. Which they
-are a file in the folder for temporary ones keeps, which is made anew when the packages change, and of a test file when
-that changes. Of all else it is by the commands that tests/scripted.py has for its file.
+are recorded.py knows. Of all else it is by the commands that scripted.py has for its file.
 
 A plant's name is made of its file, its function and its text; its hash picks the part of about 60 that it belongs to.
 Those that have no effect stand in tests/mutants.txt, with the reasons.
@@ -15,7 +14,6 @@ usage: /usr/bin/python3 tests/mutants.py [--part N] [--folder FOLDER] [--again N
 import argparse
 import collections
 import contextlib
-import difflib
 import hashlib
 import json
 import multiprocessing.connection
@@ -37,12 +35,11 @@ import pytest
 
 import scripted
 from planted import TOP
+from recorded import known_tests, RECORD, SETTINGS, tests_in
 from scripted import NOBODY, NO_PLANT, planted, plants_of
 
-RECORD = pathlib.Path(tempfile.gettempdir(), "ldvbi-mutants%s.json" % str(TOP).replace("/", "-"))
 SEEN = RECORD.with_suffix(".seen")  # of each plant that was seen the test that did
 REASONS = TOP / "tests" / "mutants.txt"
-LEFT_ASIDE = "test_archive.py", "test_mutants.py", "test_package.py", "test_page.py"  # they take long, or run no line
 LEFT_OUT = "__pycache__", ".git", ".venv", "crate", "dist", "ldvbi-mutants-*", "out"  # they aren't copied
 PARTS = 480  # each of about 60 plants
 FIRST = 40  # tests of a plant, which are run before the others
@@ -56,100 +53,24 @@ TOGETHER = 15  # plants that cargo builds in one copy before another is made rea
 
 # ---- Which tests run a line
 
-def digest(*patterns):
-    paths = sorted(path for pattern in patterns for path in TOP.glob(pattern) if path.is_file())
-    return hashlib.sha256(b"".join(bytes(path.relative_to(TOP)) + path.read_bytes() for path in paths)).hexdigest()
-
-
-class Recorder:
-    """A plugin of pytest by which coverage knows the test that runs, also in the processes that it starts."""
-
-    @pytest.hookimpl(hookwrapper=True)
-    def pytest_runtest_protocol(self, item):
-        os.environ["MUTANTS_TEST"] = item.nodeid
-        coverage.Coverage.current().switch_context(item.nodeid)
-        begun = sum(os.times()[:4])  # of a processor: the machine may be busy
-        yield
-        self._note(item.nodeid, sum(os.times()[:4]) - begun, True)
-
-    def pytest_runtest_logreport(self, report):
-        self._note(report.nodeid, 0, report.passed)
-
-    def _note(self, *row):
-        with open(os.environ["MUTANTS_TIMES"], "a", encoding="utf-8") as file:
-            print(json.dumps(row), file=file)
-
-
-def pytest_configure(config):
-    if "MUTANTS_TIMES" in os.environ and hasattr(config, "workerinput"):
-        config.pluginmanager.register(Recorder())
-
-
-def known_tests(jobs):
-    """The texts of the packages, and of each test its seconds and the lines that it runs: {test: [seconds, {file:
-    lines}]}."""
-    texts = {str(path.relative_to(TOP)): path.read_text("utf-8") for path in (TOP / "python").rglob("*.py")}
-    names = sorted(path.name for path in (TOP / "tests" / "unit").glob("test_*.py"))
-    names = {name: digest("tests/unit/" + name) for name in names if name not in LEFT_ASIDE}
-    known = json.loads(RECORD.read_text()) if RECORD.exists() else {"files": {}, "texts": texts, "tests": {}}
-    for file, text in texts.items():
-        if known["texts"].get(file, "") != text:
-            moved = moved_lines(known["texts"].get(file, ""), text)
-            for _, lines in known["tests"].values():
-                lines[file] = sorted({new for old in lines.get(file, ()) for new in moved.get(old, ())})
-    known["texts"] = texts
-    new = [name for name in names if known["files"].get(name) != names[name]]
-    known["tests"] = {test: one for test, one in known["tests"].items()
-                      if test.split("::")[0] in names and test.split("::")[0] not in new}
-    if new:
-        with room() as folder:
-            known["tests"].update(recorded(folder, new, jobs))
-        known["files"] = names
-    RECORD.write_text(json.dumps(known))
-    return known
-
-
-def moved_lines(old, new):
-    """Where each line of a text is in a newer one. In the place of those that changed are all the new ones."""
-    moved = {}
-    for _, first, last, begin, end in difflib.SequenceMatcher(
-            None, old.splitlines(), new.splitlines(), False).get_opcodes():
-        for line in range(first, last):
-            moved[line + 1] = [begin + line - first + 1] if last - first == end - begin else range(begin + 1, end + 1)
-        if first == last:  # new lines run where those before them do
-            moved[first] = [*moved.get(first, ()), *range(begin + 1, end + 1)]
-    return moved
-
-
-def recorded(folder, names, jobs):
-    """The same of the tests of some files that pass, and aren't too slow to have their lines recorded."""
-    site = folder / "site"
-    site.mkdir()
-    site.chmod(0o777)
-    (site / "sitecustomize.py").write_text("import coverage; coverage.process_startup()")
-    (site / "rc").write_text("[run]\nsource = %s/python\nparallel = true\ndata_file = %s/lines\ncontext = "
-                             "${MUTANTS_TEST-}\ndisable_warnings = no-data-collected\n" % (folder, site))
-    more = {"COVERAGE_PROCESS_START": str(site / "rc"), "MUTANTS_TIMES": str(site / "times"),
-            "PYTHONPATH": "%s/python:%s/simulated:%s:%s/tests" % (folder, folder, site, folder)}
-    subprocess.run([sys.executable, "-m", "pytest", "-n", str(jobs), "--dist", "loadgroup", "-p", "mutants", "-m",
-                    "not unrecorded", "-q", "--basetemp", folder / "out", *names], cwd=folder / "tests" / "unit",
-                   env={**os.environ, **more}, preexec_fn=lambda: confine(folder), stdout=subprocess.DEVNULL,
-                   check=False)
-    tests, failed = {}, set()
-    rows = (site / "times").read_text("utf-8").splitlines() if (site / "times").exists() else []
-    for test, seconds, passed in map(json.loads, rows):
-        tests.setdefault(test, [0, {}])[0] += seconds
-        failed |= set() if passed else {test}
-    if rows:
+def recorded(names, jobs):
+    """What recorded.py knows of the tests in these files, which are run for it. Those that take too long to have their
+    lines recorded are left out."""
+    with room() as folder:
+        site = folder / "site"
+        site.mkdir()
+        site.chmod(0o777)
+        (site / "sitecustomize.py").write_text("import coverage; coverage.process_startup()")
+        (site / "rc").write_text(SETTINGS % (folder, site))
+        more = {"COVERAGE_PROCESS_START": str(site / "rc"), "MUTANTS_TIMES": str(site / "times"),
+                "PYTHONPATH": "%s/python:%s/simulated:%s:%s/tests" % (folder, folder, site, folder)}
+        subprocess.run([sys.executable, "-m", "pytest", "-n", str(jobs), "--dist", "loadgroup", "-p", "recorded", "-m",
+                        "not unrecorded", "-q", "--basetemp", folder / "out", *names], cwd=folder / "tests" / "unit",
+                       env={**os.environ, **more}, preexec_fn=lambda: confine(folder), stdout=subprocess.DEVNULL,
+                       check=False)
         lines = coverage.Coverage(config_file=str(site / "rc"))
         lines.combine([str(site)])
-        for path in lines.get_data().measured_files():
-            for line, contexts in lines.get_data().contexts_by_lineno(path).items():
-                for context in set(contexts) & set(tests):
-                    tests[context][1].setdefault(os.path.relpath(path, folder), []).append(line)
-    print("%d tests, of which %d fail or are left out without a plant: %s" % (
-        len(tests), len(failed), " ".join(sorted(failed))[:2000]), file=sys.stderr)
-    return {test: one for test, one in tests.items() if test not in failed}
+        return tests_in(lines.get_data().data_filename(), site / "times", folder)
 
 
 # ---- A plant is tried
@@ -365,7 +286,7 @@ def main():
     for one in without:
         counts[one.file]["without effect"] += 1
     is_asked = any(one.file.startswith("python/") for one in asked)
-    known = known_tests(words.jobs) if is_asked else {"texts": {}, "tests": {}}
+    known = known_tests(lambda new: recorded(new, words.jobs)) if is_asked else {"texts": {}, "tests": {}}
     jobs = [(one, tests_of(one, known)) for one in asked if one not in without]
     seen = json.loads(SEEN.read_text()) if SEEN.exists() else {}
     for plant, found in side_by_side(jobs, seen, words.jobs):
