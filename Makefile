@@ -280,8 +280,8 @@ channel:
 	sh bench/channel/tables.sh $(firstword $(wildcard $(dir $(PROGRAM))libldvbi.so.$(ABI)) libldvbi.so.$(ABI)) \
 	    docs/measured/channel
 
-# Plants errors into Python's packages, and says which no test sees: in a part of the places (PART=n), in a folder
-# (FOLDER=python/..), or those with these names (AGAIN=name)
+# Plants errors, and says which no test sees: in a part of the places (PART=n), in a folder (FOLDER=python/ldvbi, or
+# rust/hand, include, share ..), or those with these names (AGAIN=name)
 mutants:
 	/usr/bin/python3 tests/mutants.py --jobs $(PROCESSORS) $(PART:%=--part %) $(FOLDER:%=--folder %) $(AGAIN:%=--again %)
 
