@@ -6,15 +6,15 @@ import math
 import re
 from typing import Any, Iterator, List, Optional, TextIO
 
-PIECE = 1 << 18  # characters
-LONGEST = 1 << 28  # the characters of a value
-MOST = 1 << 28  # those of a text; the program takes no longer metadata
+PIECE = 262144  # characters
+LONGEST = 268435456  # the characters of a value
+MOST = LONGEST  # those of a text; the program takes no longer metadata
 DEEPEST = 127  # lists and objects, one in the other; the program takes no deeper ones
 
 _SPACE = re.compile(r"[ \t\n\r]*")
 # Several items of a list, up to one that is an object and comes before another; more characters aren't read together
 _SEVERAL = re.compile(r"(.*\}),[ \t\n\r]*(?=\{)", re.DOTALL)
-_TOGETHER = 1 << 12
+_TOGETHER = 4096
 # What may look wrong only because it ends with what has been read: at most an escape of two parts, \ud834\udd1e
 _CUT = 12
 
@@ -43,14 +43,14 @@ class Scanner:
     `text` is the value's own text. If the text turns out not to be JSON, a `NotJson` is raised.
 
     The file is a text file that was opened with newline="", so that places are those of its characters."""
+    begin: int
+    text: str
 
     def __init__(self, file: TextIO, piece: int = PIECE) -> None:
         self._file, self._piece = file, piece
         self._held = ""  # what has been read, from some place before the next value on
-        self._before = 0  # how many characters there were before that
-        self._at = 0  # what comes next, a place in what is held
+        self._before = self._at = 0  # how many characters there were before that; what comes next, a place in it
         self._depth = 0  # of lists and objects, inside of which that is
-        self.begin, self.text = 0, ""
 
     def comes(self, mark: str) -> bool:
         """Whether this character comes next, after white space."""

@@ -41,7 +41,7 @@ def inside(one):
 
 def test_captures_of_one_disc_are_written(archive):
     """As the command write does it; the status is that of the file, and of the other disc."""
-    status, text, said = archive.run_words("scan --csv sides --write out")
+    status, text, said = archive.run_words("scan -j1 --csv sides --write out")
     assert [row.split(",")[1] for row in text.splitlines()[1:]] == ["no", "no", "yes"]
     first, second, *lines = said.replace("ldvbi-side: ", "").splitlines()
     assert first.startswith("out: ") and first.endswith(" MB are free, and about 27 MB are needed for 1 side")
@@ -53,19 +53,19 @@ def test_captures_of_one_disc_are_written(archive):
     written = {name: archive.read("out/" + name) for name in archive.names("out")}
     assert archive.run_words("write out/again.tbc sides/a.tbc sides/b.tbc")[0] == 0
     assert written == {name: archive.read("out/" + name.replace("a.", "again.", 1)) for name in written}
-    assert archive.run_words("scan --csv sides --write out")[0] == 0  # over the older file
+    assert archive.run_words("scan -j1 --csv sides --write out")[0] == 0  # over the older file
     os.unlink(archive.named("sides/b.tbc"))
-    assert archive.run_words("scan --csv sides --write none")[0] == 1 and archive.names("none") == []
+    assert archive.run_words("scan -j1 --csv sides --write none")[0] == 1 and archive.names("none") == []
 
 
 def test_what_is_not_written(archive):
     """A fault of one disc is said, and the others go on. No side of the scan is replaced, of whichever disc it is."""
     shutil.copytree(archive.named("sides"), archive.named("before"))
-    status, _, said = archive.run_words("scan --csv sides --write sides")
+    status, _, said = archive.run_words("scan -j1 --csv sides --write sides")
     assert (status, said.splitlines()[1]) == (2, "ldvbi-side: sides/a.tbc: " + IN_PLACE % "sides/a.pcm")
     draw(archive.named("sides/d.tbc"), OTHER, losing(OTHER.order, (OTHER.at[9], 4)))
     archive.metadata("sides/b.tbc.json")
-    status, _, said = archive.run_words("scan --csv sides --write out")
+    status, _, said = archive.run_words("scan -j1 --csv sides --write out")
     assert status == 2 and said.splitlines()[1] == (
         "ldvbi-side: out/a.tbc: sides/b.tbc has 56 whole fields, and sides/b.tbc.json has 0")
     assert archive.names("out") == ["c.efm", "c.pcm", "c.stretches.csv", "c.tbc", "c.tbc.json"]
@@ -78,7 +78,7 @@ def test_documents_are_left_out(archive):
     """Of captures that are put together: fields are taken from TBC files."""
     archive.write("sides/b.vbi.json", archive.extracted("sides/b.tbc"))
     os.unlink(archive.named("sides/b.tbc"))
-    status, text, _ = archive.run_words("scan sides --write out")
+    status, text, _ = archive.run_words("scan -j1 sides --write out")
     assert "join sides/a.tbc sides/b.vbi.json" in text and (status, archive.names("out")) == (1, [])
 
 
@@ -87,8 +87,8 @@ def test_maps_and_chapters(archive):
     os.mkdir(archive.named("more"))
     os.rename(archive.named("sides"), archive.named("more/sides"))
     archive.add("more/none.tbc", "b1..30 O")  # without chapters
-    archive.scan("--html pages more")
-    status, _, said = archive.scan("--csv --html pages --map maps --chapters chapters more")
+    archive.scan("-j1 --html pages more")
+    status, _, said = archive.scan("-j1 --csv --html pages --map maps --chapters chapters more")
     assert (status, said) == (1, "ldvbi-side: no chapter of the side is believed: chapters/none.ffmeta isn't written\n")
     assert [archive.names(name) for name in ("maps", "maps/sides", "chapters", "chapters/sides")] == [
         ["none.map", "sides"], ["a.map", "b.map", "c.map"], ["sides"], ["a.ffmeta", "b.ffmeta", "c.ffmeta"]]
@@ -103,18 +103,18 @@ def test_options_of_single_sides(drawn):
     drawn.add("dark.tbc", setup=("NTSC", 16384, 30000))
     drawn.add("a b.tbc", "1..30")
     drawn.metadata("other.json", white16bIre=30000)
-    found = drawn.scan("--csv", "open.tbc", "dark.tbc", "a b.tbc")[1]
+    words = "--csv", "-j1", "open.tbc", "dark.tbc", "a b.tbc"
+    found = drawn.scan(*words)[1]
     rows = {row["side"]: row for row in csv.DictReader(found.splitlines())}
     assert [row["whole"] for row in rows.values()] == ["can't tell"] * 3 and rows["dark.tbc"]["try"] == "--white 30000"
-    for name, table, wanted in (
-            ("found.csv", found, ["can't tell", "yes", "can't tell"]),
-            ("edited.csv", found.replace("60,,", "60,--open-end,", 1), ["yes", "yes", "can't tell"]),
-            ("own.csv", "side,open_end,white\n./open.tbc,yes,\n\ndark.tbc,no,30000\n", ["can't tell", "yes", "yes"]),
-            ("bom.csv", "\ufeffside,meta\r\ndark.tbc,other.json\r\n", ["can't tell", "yes", "can't tell"]),
-            ("last.csv", "side,last\nopen.tbc,30\na b.tbc,31\n", ["no", "can't tell", "yes"])):
-        drawn.write(name, table)
-        text = drawn.scan("--csv", "open.tbc", "dark.tbc", "a b.tbc", "--sides", name)[1]
-        assert [row["whole"] for row in csv.DictReader(text.splitlines())] == wanted, name
+    for table, wanted in (
+            (found.replace("60,,", "60,--open-end,", 1), ["yes", "yes", "can't tell"]),
+            ("\ufeffside,open_end,meta\r\n./open.tbc,yes,\r\n\r\ndark.tbc,no,other.json\r\n", 
+             ["can't tell", "yes", "yes"]),
+            ("side,last,white\nopen.tbc,30,\na b.tbc,31,\ndark.tbc,,30000\n", ["no", "yes", "yes"])):
+        drawn.write("table.csv", table)
+        text = drawn.scan(*words, "--sides", "table.csv")[1]
+        assert [row["whole"] for row in csv.DictReader(text.splitlines())] == wanted, table
 
 
 # Tables that are refused, and why
@@ -160,7 +160,7 @@ def test_a_page_of_a_side_with_options_of_its_own(room):
     """It isn't read again as long as the table says the same of it, and its metadata is older."""
     room.add("side.tbc")
     room.metadata("other.json")
-    words = ["--csv", "--html", room.named("pages"), "--sides", room.named("sides.csv"), room.path]
+    words = ["-j1", "--csv", "--html", room.named("pages"), "--sides", room.named("sides.csv"), room.path]
     room.write("sides.csv", "side,meta\n%s,%s\n" % (room.path, room.named("other.json")))
     assert [scan(words, scanned), scan(words, not_read)] == [0, 0]
     os.utime(room.named("other.json"))

@@ -51,7 +51,7 @@ BROKEN = """
 S, OTHER = {"word": 0x82CFFF, "distance": 120, "rival": 650}, {"word": 0x82CFFE, "distance": 120, "rival": 650}
 LEADS = (([S, None, OTHER], {16: 530}), ([None, {**S, "rival": 120}, S], {17: 0, 18: 530}), ([OTHER, None, None], {}),
          ([S, {**S, "rival": 1}, S], {16: 530, 17: -119, 18: 530}), (None, {}), (5, {}), ({}, {}), ([5, "x", [S]], {}),
-         *(([{**S, name: value}, None, None], {}) for name in ("distance", "rival") for value in (True, 1.5, "1", None)))
+         *(([{**S, name: value}, None, None], {}) for name in ("distance", "rival") for value in (True, 1.5, "1")))
 SHORT = {"SYSTEM": "videoParameters.system", "FIELD": "field 3: word, cause and pass of a line don't fit:",
          "LEVELS": "black16bIre and white16bIre are not two samples, black below white"}
 
@@ -253,6 +253,8 @@ def test_too_many_fields():
 
 
 def test_a_cause_of_a_later_library():
-    field = ldvbi.PACKED_FIELD.pack(1, 0, 0, 0, 1, 0, 0, 0, len(Cause), 0, 0, 0)
-    for call in (lambda: list(document._records(field, 0)), lambda: cause_text(ldvbi.Reading(5, 0, 0, 0))):
+    blank, later = ldvbi.PACKED_FIELD.pack(*3 * (1, 0, 0, 0)), bytes([len(Cause)])
+    fields = [blank[:place] + later + blank[place + 1:] for place in (0, 8, 16)]
+    for call in (*(lambda field=field: list(document._records(field, 0)) for field in fields),
+                 lambda: cause_text(ldvbi.Reading(5, 0, 0, 0))):
         assert reason(call) == "the library's cause 5 is not known here"

@@ -52,18 +52,33 @@ DATABASES = (
     ("FILE: table capture has more rows, not one", CAPTURE, (INSERT, PAL), (INSERT, PAL)),
     ("FILE: SQLite can't read it: not authorized to use function: instr", CAPTURE, (INSERT, PAL),
      "CREATE VIEW drop_outs AS SELECT 0 AS field_id, 16 AS field_line, 1 AS startx, instr('aab', 'ab') AS endx"),
+    # a value may have 1 MiB
+    ("FILE: SQLite can't read it: string or blob too big", CAPTURE, (INSERT, ("x" * 1100000, *PAL[1:]))),
+    ("unknown system", CAPTURE, (INSERT, ("x" * 1000000, *PAL[1:]))),
     *((text, CAPTURE, (INSERT, row + PAL[len(row):])) for text, row in (
         ("unknown system", ("PAL_M",)), ("unknown system", (None,)), ("black level is no number", ("PAL", None)),
         ("white level is no number", ("PAL", 1, "x")), ("white level is no number", ("PAL", 1, float("inf"))),
         ("fieldHeight is not 313", ("PAL", 1, 2, 1135, 263)))))
-# How many fields there are, and which of them begin a frame; without a list the head has the count
+# How many fields there are, which of them begin a frame, and which are padding; without a list the head has the count
 FIELDS = """
-    {"fields":[{"seqNo":1,"isFirstField":false},{"seqNo":2,"isFirstField":true}]} | 2 [False, True]
-    {"fields":[{"isFirstField":true},{}]} | 2 None || {"fields":[{"isFirstField":true},5]} | 2 None
-    {"fields":[{"isFirstField":true},{"isFirstField":1}]} | 2 None
-    {COUNT12}} | 12 None || {COUNT0}} | 0 None || {COUNT-1}} | None None || {COUNT1.5}} | None None
-    {COUNTtrue}} | None None || {COUNT12},"fields":[]} | 12 None || {COUNT12},"fields":[{},{}]} | 2 None
-    {} | None None || [] | None None || {"fields":5} | None None || x | None None || {"videoParameters":5} | None None
+    {"fields":[{"seqNo":1,"isFirstField":false},{"seqNo":2,"isFirstField":true}]} | 2 [False, True] None
+    {"fields":[{"isFirstField":true},{}]} | 2 None None || {"fields":[{"isFirstField":true},5]} | 2 None None
+    {"fields":[{"isFirstField":true},{"isFirstField":1}]} | 2 None None
+    {"fields":[{"pad":false},{"pad":true},{"pad":1}]} | 3 None [False, True, False]
+    {"fields":[{"pad":true,"isFirstField":true}],"fields":5} | None None None
+    {COUNT12}} | 12 None None || {COUNT0}} | 0 None None || {COUNT-1}} | None None None || {COUNT1.5}} | None None None
+    {COUNTtrue}} | None None None || {COUNT12},"fields":[]} | 12 None None || {COUNT12},"fields":[{},{}]} | 2 None None
+    {} | None None None || [] | None None None || {"fields":5} | None None None || x | None None None
+    {"videoParameters":5} | None None None
+"""
+# Tables of fields with the order, `is_first_field` and perhaps `pad` of each, and what they say
+TABLES = """
+    field_id, is_first_field | (7, 0), (5, 1) | 2 [True, False] None
+    field_id, is_first_field, pad | (7, 0, 1), (5, 1, 0), (6, 0, 2) | 3 [True, False, False] [False, False, True]
+    field_id, is_first_field, pad | (1, 1, NULL) | 1 [True] None
+    field_id, is_first_field | (1, NULL), (2, 1) | 2 None None
+    field_id, is_first_field | (1, 2), (2, 1) | 2 None None
+    field_id, first | (1, 1) | 640 None None
 """
 
 
@@ -133,11 +148,25 @@ def test_a_pipe():
 def test_fields_and_what_lies_beside_a_file(room):
     for text, wanted in cells_of(FIELDS):
         text = text.replace("COUNT", '"videoParameters":{"numberOfSequentialFields":')
-        assert "%s %s" % read_metadata(room.write("meta.json", text))[2:4] == wanted
+        found = read_metadata(room.write("meta.json", text))
+        assert ("%s %s %s" % (found.fields, found.first, found.pad), found.dropouts) == (wanted, [])
     assert beside(room.path) is None
     for end in (".db", ".json"):
         room.write("side.tbc" + end, b"")
         assert beside(room.path) == room.path + end
+
+
+def test_fields_of_databases(room):
+    """Of one table, whatever its name is. If two have them, it isn't known which."""
+    head = CAPTURE, (INSERT, (*PAL[:5], 640))
+    for columns, values, wanted in cells_of(TABLES):
+        table = "CREATE TABLE fields (%s)" % columns, "INSERT INTO fields VALUES " + values
+        found = read_metadata(make(room, *head, *table))
+        assert "%s %s %s" % (found.fields, found.first, found.pad) == wanted
+    one, other = ("CREATE TABLE %s AS SELECT 1 AS field_id, 1 AS is_first_field" % name for name in ("a", '"a "" b"'))
+    known = {"system": "PAL", "black16bIre": 1, "white16bIre": 2, "numberOfSequentialFields": 640}
+    assert read_metadata(make(room, *head, other))[1:] == (known, 1, [True], [], None)
+    assert read_metadata(make(room, *head, one, other))[1:] == (known, 640, None, [], None)
 
 
 def test_databases_taken_and_refused(room):

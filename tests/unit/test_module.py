@@ -6,6 +6,7 @@ import _testbuffer
 import array
 import ctypes
 import functools
+import gc
 import io
 import mmap
 import os
@@ -22,6 +23,7 @@ import ldvbi
 from ldvbi import (complete_times, draw_line, find_clock, find_pace, judge, judge_chapters, judge_ends, judge_field,
                    judge_side, judge_stops, judging, library, near, nearest, next_stop, read_field, read_line,
                    read_rows, recover_pile, seek, seek_chapter, seeking, sides, stream, Stream)
+from ldvbi.collector import paused
 from ldvbi.samples import Samples
 import pytest
 from room import reason
@@ -69,6 +71,23 @@ def test_a_buffer_is_held(is_refused):
     line.extend(b"x" * is_refused)
     assert (reason(ldvbi.read_line, line, *NTSC) is not None) == is_refused
     line.append(0)
+
+
+def test_the_collector_is_paused():
+    """It doesn't look through what was made meanwhile. What was so before stays so."""
+    assert gc.isenabled() and gc.get_freeze_count() == 0
+    with paused():
+        assert not gc.isenabled()
+        kept = [[] for _ in range(5000)]
+        with paused():
+            pass
+        assert not gc.isenabled()
+    assert gc.isenabled() and len(kept) > gc.get_count()[0] + 4000 and gc.get_freeze_count() == 0
+    gc.freeze()
+    with paused():
+        pass
+    assert gc.get_freeze_count() > 0
+    gc.unfreeze()
 
 
 # ---- Where the library is, and what it has
@@ -129,8 +148,8 @@ def state():
 
 
 @pytest.mark.parametrize("asked, parts, wanted", (
-    (cause, None, "no library to read and judge with (FILE: cannot open shared object file: No such file or directory): "
-     + MAKE + " it, " + NAMES),
+    (cause, None, "no library to read and judge with (FILE: cannot open shared object file: No such file or directory)"
+     ": " + MAKE + " it, " + NAMES),
     (cause, (1, 0, 0), "FILE has the interface 1, not 2: " + MAKE + " the one that fits, " + NAMES),
     # causes and states that a later library adds stay numbers, and its statuses are refusals
     (causes, (2, 0, 5), (5, 5)), (causes, (2, 0, 255), (255, 255)), (causes, (2, 99, 0), REFUSED),

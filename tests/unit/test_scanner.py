@@ -3,6 +3,7 @@
 import io
 import itertools
 import json
+import pathlib
 import sys
 import tracemalloc
 from unittest import mock
@@ -12,6 +13,7 @@ from ldvbi import scanner
 from ldvbi.scanner import NotJson, Scanner
 import pytest
 from room import reason
+from streams import TOP
 
 LEAVES = some.one_of(some.none(), some.booleans(), some.integers(-2 ** 60, 2 ** 60), some.text(max_size=9),
                      some.floats(allow_nan=False, allow_infinity=False))
@@ -94,6 +96,12 @@ def test_what_is_no_json(wanted, place, texts):
             place, wanted)
 
 
+def test_limits_of_the_program():
+    formats = pathlib.Path(TOP, "docs", "FORMATS.md").read_text("utf-8")
+    assert "META_LIMIT-->%s bytes" % format(scanner.MOST, ",") in formats and scanner.LONGEST == scanner.MOST
+    assert "nested at most %d deep" % scanner.DEEPEST in formats
+
+
 def test_nested_and_long():
     """As deep as the program has it: 127 lists and objects in each other, also those that are gone through one by one;
     numbers, values and texts without an end; and bytes that aren't UTF-8."""
@@ -101,8 +109,8 @@ def test_nested_and_long():
     for inner in ("[" * 100000, "NaN", "-Infinity", "1e999", '{"a":[NaN]}',
                   *["1" * 5000] * hasattr(sys, "set_int_max_str_digits")):
         assert reason(scanned, "[%s]" % inner, 1 << 18, kind=NotJson) == deep % 1
-    for before, begin, end in (("", "[", "]"), ("1, ", '{"a":[', "]}")):
-        inner = begin * (126 // len(end)) + end * (126 // len(end))
+    for before, inner in (("", "[" * 126 + "]" * 126), ("", "[" * 125 + "[],[]" + "]" * 125),
+                          ("1, ", '{"a":[' * 62 + '{"a":[]},[]' + "]}" * 62)):
         assert scanned("[%s%s]" % (before, inner), 50)[-1][2] == inner
         assert reason(scanned, "[%s[%s]]" % (before, inner), 50, kind=NotJson) == deep % (1 + len(before))
     many = "[%s]" % ",".join(["[[]]"] * 200)  # none of which is deep
