@@ -353,6 +353,6 @@ def _records(block: Any, number: int) -> Iterator[str]:
     """The records of a block of fields, as the library writes their readings, after `number` others."""
     for a, b, c, d, e, f, g, h, i, j, k, l in PACKED_FIELD.iter_unpack(block):
         number += 1
-        if max(a, e, i) >= len(_CAUSES):
-            raise unknown_cause(max(a, e, i))
+        if max((a, e, i)) >= len(_CAUSES):
+            raise unknown_cause(max((a, e, i)))
         yield RECORD % (number, d, h, l, _CAUSES[a][c], _CAUSES[e][g], _CAUSES[i][k], b, f, j)

@@ -17,10 +17,10 @@ _RAW = (bytes, bytearray, mmap.mmap, type(io.BytesIO().getbuffer().obj))
 
 class _Buffer(ctypes.Structure):
     """Py_buffer of CPython's C interface."""
-    _fields_ = [("address", ctypes.c_void_p), ("owner", ctypes.py_object), ("length", ctypes.c_ssize_t),
-                ("item", ctypes.c_ssize_t), ("readonly", ctypes.c_int), ("dimensions", ctypes.c_int),
-                ("format", ctypes.c_char_p), ("shape", ctypes.c_void_p), ("strides", ctypes.c_void_p),
-                ("suboffsets", ctypes.c_void_p), ("internal", ctypes.c_void_p)]
+    _fields_ = list(zip(
+        "address owner length item readonly dimensions format shape strides suboffsets internal".split(),
+        [ctypes.c_void_p, ctypes.py_object, ctypes.c_ssize_t, ctypes.c_ssize_t, ctypes.c_int, ctypes.c_int,
+         ctypes.c_char_p, ctypes.c_void_p, ctypes.c_void_p, ctypes.c_void_p, ctypes.c_void_p]))
 
 
 _get_buffer = ctypes.pythonapi.PyObject_GetBuffer

@@ -101,7 +101,7 @@ def test_closed(room):
     side.close()
     side.close()
     for call in (lambda: side[0], lambda: side[1:2], lambda: list(side), lambda: list(begun), lambda: side.rows(0),
-                 lambda: side.size, lambda: ldvbi.next_stop(side)):
+                 lambda: side.rows_as(side.system, COUNT), lambda: side.size, lambda: ldvbi.next_stop(side)):
         assert reason(call) == "the stream is closed"
     assert (len(side), held(room.path)) == (COUNT, (0, 0))
     file = File(room.path)  # as another thread may find it between two reads
@@ -125,6 +125,7 @@ def test_closed_meanwhile(room, monkeypatch):
         def call(*words):
             side.close()
             ran.append(held(room.path) if is_file else reason(data.append, 0, kind=BufferError) is not None)
+            assert reason(list, begun) == "the stream is closed"
             return works(*words)
         return call
 
@@ -134,6 +135,8 @@ def test_closed_meanwhile(room, monkeypatch):
     for is_file in (True, False):
         for work, wanted, maps in works:
             side, ran = ldvbi.Stream(room.path if is_file else data, *NTSC), []
+            begun = side.packed(0, 70)
+            next(begun)
             with monkeypatch.context() as patch:
                 patch.setattr(side, "_read", closing(side._read))
                 patch.setattr(*(os, "pread", closing(os.pread)) if is_file and isinstance(wanted, bytes) else
