@@ -1,12 +1,13 @@
 """A line as a drawing: what is marked, and where the cells of its word stand, by what the line is made of; and the
 pictures of docs/FORMATS.md."""
 
+import io
 import os
 import pathlib
 import re
 import runpy
-import subprocess
 import sys
+from unittest import mock
 import xml.etree.ElementTree as xml
 
 import ldvbi
@@ -20,8 +21,11 @@ FORMATS = pathlib.Path(TOP, "docs", "FORMATS.md").read_text("utf-8")
 
 def described(text, setup=NTSC):
     """The line of this description (tests/cli/described.py)."""
-    words = [sys.executable, os.path.join(TOP, "tests", "cli", "described.py"), setup[0], "0", *map(str, setup[1:])]
-    return subprocess.run(words, input=text.encode(), stdout=subprocess.PIPE, check=True).stdout
+    path, out = os.path.join(TOP, "tests", "cli", "described.py"), io.TextIOWrapper(io.BytesIO())
+    words = [path, setup[0], "0", *map(str, setup[1:])]
+    with mock.patch.multiple(sys, argv=words, stdin=io.StringIO(text), stdout=out):
+        runpy.run_path(path)
+    return out.buffer.getvalue()
 
 
 class Drawn:
@@ -98,21 +102,11 @@ def test_a_part_of_a_line(text, columns, marked):
     assert (len(drawn.marked), drawn.outside) == (marked, [])
 
 
-# The columns, cut to whole ones, at which the half cells of a drawn word of NTSC begin, which have 315/22 samples each,
-# and at which the last one ends
-HALF_CELLS = """
-150  164  178  192  207  221  235  250  264  278  293  307
-321  336  350  364  379  393  407  422  436  450  465  479
-493  507  522  536  550  565  579  593  608  622  636  651
-665  679  694  708  722  737  751  765  780  794  808  822
-837
-"""
-
-
 def test_cells_stand_where_they_are_drawn():
-    """Each second half cell begins a cell; or a column off, where two half cells of one level meet."""
+    """Each second half cell begins a cell; or a column off, where two half cells of one level meet. Those of NTSC have
+    315/22 samples each, from column 150 on."""
     drawn = Drawn(described(PLAIN))
-    begins = [int(number) for number in HALF_CELLS.split()][::2]
+    begins = [150 + cell * 315 // 11 for cell in range(25)]
     ends = Drawn(described("8AE012", PAL), PAL).cells[::24]  # from column 190 on, of 851 columns
     assert (len(drawn.cells), len(begins), drawn.bits) == (25, 25, "100000101100111111111111")
     assert all(abs(one - other) <= 1 for one, other in zip([*begins, 190, 1041], [*drawn.cells, *ends]))
