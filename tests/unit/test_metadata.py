@@ -52,9 +52,10 @@ DATABASES = (
     ("FILE: table capture has more rows, not one", CAPTURE, (INSERT, PAL), (INSERT, PAL)),
     ("FILE: SQLite can't read it: not authorized to use function: instr", CAPTURE, (INSERT, PAL),
      "CREATE VIEW drop_outs AS SELECT 0 AS field_id, 16 AS field_line, 1 AS startx, instr('aab', 'ab') AS endx"),
-    # a value may have 1 MiB
+    ('FILE: SQLite can\'t read it: unsafe use of virtual table "pragma_user_version"', CAPTURE, (INSERT, PAL),
+     "CREATE VIEW drop_outs AS SELECT 0 AS field_id, 16 AS field_line, 1 AS startx, user_version AS endx "
+     "FROM pragma_user_version"),
     ("FILE: SQLite can't read it: string or blob too big", CAPTURE, (INSERT, ("x" * 1100000, *PAL[1:]))),
-    ("unknown system", CAPTURE, (INSERT, ("x" * 1000000, *PAL[1:]))),
     *((text, CAPTURE, (INSERT, row + PAL[len(row):])) for text, row in (
         ("unknown system", ("PAL_M",)), ("unknown system", (None,)), ("black level is no number", ("PAL", None)),
         ("white level is no number", ("PAL", 1, "x")), ("white level is no number", ("PAL", 1, float("inf"))),
@@ -184,6 +185,14 @@ def test_databases_taken_and_refused(room):
         os.chmod(path, 0o400)
         assert settings_of(path) == ("PAL", 1, 2, ())
         assert room.files() == before
+
+
+def test_how_a_database_is_opened(room):
+    """As it is at one time, without a wait of SQLite's own, and with limits to what its file has SQLite do."""
+    with database.opened(make(room, CAPTURE)) as known:
+        assert [known.execute("PRAGMA " + name).fetchone() for name in (
+            "trusted_schema", "cell_size_check", "busy_timeout")] == [(0,), (1,), (0,)]
+        assert (known.in_transaction, known.getlimit(0)) == (True, 1 << 20)
 
 
 def test_an_unfinished_change_is_left_alone(room):
