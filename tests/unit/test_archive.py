@@ -109,7 +109,7 @@ def test_options_of_single_sides(drawn):
     assert [row["whole"] for row in rows.values()] == ["can't tell"] * 3 and rows["dark.tbc"]["try"] == "--white 30000"
     for table, wanted in (
             (found.replace("60,,", "60,--open-end,", 1), ["yes", "yes", "can't tell"]),
-            ("\ufeffside,open_end,meta\r\n./open.tbc,yes,\r\n\r\ndark.tbc,no,other.json\r\n", 
+            ("\ufeffside,open_end,meta\r\n./open.tbc,yes,\r\n\r\ndark.tbc,no,other.json\r\n",
              ["can't tell", "yes", "yes"]),
             ("side,last,white\nopen.tbc,30,\na b.tbc,31,\ndark.tbc,,30000\n", ["no", "yes", "yes"])):
         drawn.write("table.csv", table)

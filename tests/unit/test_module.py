@@ -1,6 +1,6 @@
-"""The module ldvbi: which objects it takes samples from, where it looks for the library, and that it has what the header
-says. And what its calls refuse: the library gets each number as it is, and what it answers is said. All that it refuses
-has tests/library/refusals.py."""
+"""The module ldvbi: which objects it takes samples from, where it looks for the library, and that it has what the
+header says. And what its calls refuse: the library gets each number as it is, and what it answers is said. All that it
+refuses has tests/library/refusals.py."""
 
 import _testbuffer
 import array
@@ -12,6 +12,7 @@ import mmap
 import os
 import pathlib
 import re
+import shutil
 import subprocess
 import sys
 import types
@@ -92,12 +93,6 @@ def test_the_collector_is_paused():
 
 # ---- Where the library is, and what it has
 
-ABI = "unsigned ldvbi_abi(void) { return %d; }\n"
-# Calls that write a cause, or numbers, and return a status
-CALL = "unsigned ldvbi_%s(int a, int b, int c, void *d, long size, char *out) { if (size) *out = %d; return %d; }\n"
-JUDGE = "unsigned ldvbi_judge(int a, int b, int c, void *d, long count, void *e, long f, unsigned *out, long g) " \
-        "{ if (count) { out[0] = 5; out[1] = %du; } return count ? %d : 0; }\n"
-VERSION, PLAIN = "unsigned ldvbi_version(void) { return %d; }\n", "unsigned ldvbi_plain_rust(void) { return 1; }\n"
 MAKE, NAMES = "`make lib` or `make rust` builds", "LDVBI_LIBRARY names its file"
 REFUSED = "the library's status is 99"
 LOADED = library.library_text
@@ -115,22 +110,42 @@ OLD = """
 """
 
 
-def other(room, interface, status, cause, more=""):
-    """The file of a library with this interface, whose calls return this status and write this cause; `more` is the
-    source of another call."""
-    calls = "read_line", "read_rows", "read_field", "read_fields", "draw_line"
-    source = room.write("other.c", ABI % interface + "".join(CALL % (name, cause, status) for name in calls) + more)
-    subprocess.run([os.environ.get("CC", "cc"), "-shared", "-fPIC", "-o", room.named("other.so"), source], check=True)
-    return room.named("other.so")
+def other(interface=2, status=0, cause=0, **more):
+    """A library with this interface, whose calls return this status and write this cause; and with more calls."""
+    def call(*words):
+        for one in words:
+            if isinstance(one, ctypes.Array):
+                one[0] = cause
+        return status
+
+    known = {"ldvbi_" + name: functools.partial(call) for name in (
+        "read_line", "read_rows", "read_field", "read_fields", "draw_line")}
+    return types.SimpleNamespace(_name="FILE", ldvbi_abi=lambda: interface, **known, **more)
+
+
+def judging_as(state, status=0):
+    """A library whose judge answers number 5 in this state."""
+    def call(*words):
+        if words[-1]:
+            judging.PACKED_NUMBER.pack_into(words[-2], 0, 5, state)
+        return status if words[-1] else 0
+    return other(ldvbi_judge=call)
+
+
+def version(number, **more):
+    return other(ldvbi_version=lambda: number, **more)
 
 
 @pytest.fixture
 def anew(monkeypatch):
-    """Has the library loaded anew, from this file."""
-    def load(file):
+    """Has a library loaded anew: this one, or the one of a file."""
+    def load(one):
         library.library.cache_clear()
         library.later_call.cache_clear()
-        monkeypatch.setenv("LDVBI_LIBRARY", file)
+        if isinstance(one, str):
+            monkeypatch.setenv("LDVBI_LIBRARY", one)
+        else:
+            monkeypatch.setattr(library.ctypes, "CDLL", lambda _: one)
     yield load
     load("")
 
@@ -147,42 +162,40 @@ def state():
     return judge(bytes(24), "NTSC")[0]
 
 
-@pytest.mark.parametrize("asked, parts, wanted", (
-    (cause, None, "no library to read and judge with (FILE: cannot open shared object file: No such file or directory)"
-     ": " + MAKE + " it, " + NAMES),
-    (cause, (1, 0, 0), "FILE has the interface 1, not 2: " + MAKE + " the one that fits, " + NAMES),
+@pytest.mark.parametrize("asked, one, wanted", (
+    (cause, "/absent", "no library to read and judge with (/absent: cannot open shared object file: No such file or "
+     "directory): " + MAKE + " it, " + NAMES),
+    (cause, other(1), "%s has the interface 1, not 2: %s the one that fits, %s" % (
+        os.environ["LDVBI_LIBRARY"], MAKE, NAMES)),
     # causes and states that a later library adds stay numbers, and its statuses are refusals
-    (causes, (2, 0, 5), (5, 5)), (causes, (2, 0, 255), (255, 255)), (causes, (2, 99, 0), REFUSED),
-    (state, (2, 0, 0, JUDGE % (4, 0)), (5, 4)), (state, (2, 0, 0, JUDGE % (2 ** 31 - 1, 0)), (5, 2 ** 31 - 1)),
-    (state, (2, 0, 0, JUDGE % (0, 99)), REFUSED),
+    (causes, other(cause=5), (5, 5)), (causes, other(cause=255), (255, 255)), (causes, other(status=99), REFUSED),
+    (state, judging_as(4), (5, 4)), (state, judging_as(2 ** 31), (5, 2 ** 31)), (state, judging_as(0, 99), REFUSED),
     # the proved one is known by its version: from then on plain Rust says what it is
-    (LOADED, (2, 0, 0, VERSION % 1999), "library 0.1.999 (proved or plain Rust): FILE"),
-    (LOADED, (2, 0, 0, VERSION % 2000), "library 0.2.0 (proved): FILE"),
-    (LOADED, (2, 0, 0, VERSION % 12034056 + PLAIN), "library 12.34.56 (plain Rust, not proved): FILE")))
-def test_what_is_loaded(room, anew, asked, parts, wanted):
-    file = other(room, *parts) if parts else "/absent"
-    anew(file)
+    (LOADED, version(1999), "library 0.1.999 (proved or plain Rust): FILE"),
+    (LOADED, version(2000), "library 0.2.0 (proved): FILE"),
+    (LOADED, version(12034056, ldvbi_plain_rust=None), "library 12.34.56 (plain Rust, not proved): FILE")))
+def test_what_is_loaded(anew, asked, one, wanted):
+    anew(one)
     assert (ldvbi.classify(0xF12345).first, ldvbi.field_bytes("PAL")) == (12345, 710510)  # which need no library
-    found = reason(asked, kind=(OSError, ValueError)) or asked()
-    assert found == (wanted.replace("FILE", file) if isinstance(wanted, str) else wanted)
+    assert (reason(asked, kind=(OSError, ValueError)) or asked()) == wanted
 
 
-def test_an_older_one(room, anew):
+def test_an_older_one(anew):
     """It reads samples, and says what it is too old for."""
-    anew(other(room, 2, 0, 1))
+    anew(other(cause=1))
     rows = [(purpose, "ldvbi_" + name) for purpose, names in cells_of(OLD) for name in names.split(", ")]
     assert (cause(), sorted(name for _, name in rows)) == (1, sorted(library._LATER))
     for purpose, name in rows:
-        assert reason(library.later_call, name, kind=OSError) == "%s is too old to %s, it has no %s: %s a later one, " \
-            "%s" % (room.named("other.so"), purpose, name, MAKE, NAMES)
+        assert reason(library.later_call, name, kind=OSError) == (
+            "FILE is too old to %s, it has no %s: %s a later one, %s" % (purpose, name, MAKE, NAMES))
 
 
 def test_what_the_loader_finds(room, anew):
-    other(room, 2, 0, 0, VERSION % 2000)
+    shutil.copy(os.environ["LDVBI_LIBRARY"], room.named("other.so"))
     code = "from ldvbi.library import library_text; print(library_text())"
     found = subprocess.run([sys.executable, "-c", code], stdout=subprocess.PIPE, text=True, check=True, env={
         **os.environ, "LDVBI_LIBRARY": "other.so", "LD_LIBRARY_PATH": room.folder}).stdout
-    assert found == "library 0.2.0 (proved): %s\n" % room.named("other.so")
+    assert found.startswith("library %s (p" % ldvbi.__version__) and found.endswith("): %s\n" % room.named("other.so"))
     anew("libc.so.6")
     assert re.fullmatch(r"no library to read and judge with \(.*undefined symbol: ldvbi_abi\): %s it, %s" % (
         MAKE, NAMES), reason(cause, kind=OSError))
