@@ -81,6 +81,12 @@ TABLES = """
     field_id, is_first_field | (1, 2), (2, 1) | 2 None None
     field_id, first | (1, 1) | 640 None None
 """
+# Tables of dropouts of fields 5, 6 and 7, and what is known by them: nothing of a field in which one is none
+LINES = "field_line, startx, endx"
+DROP_OUTS = ((LINES, "", []), (LINES.replace("start", ""), "5, 17, 3, 9", []),
+             (LINES, "5, 17, 'x', 9; 6, 18, -1, 9; 6, 17, 1, NULL; 7, 16, 0, 0", [(2, 16, 0, 0)]),
+             (LINES, "5, 17, 3, 9; 7, 16, 0, 0; 7, 18, 1, 2; 5, 15, 1, 2; 8, 17, 1, 2; NULL, 17, 1, 2",
+              [(0, 17, 3, 9), (2, 16, 0, 0), (2, 18, 1, 2)]))
 
 
 def settings_of(path, *given):
@@ -164,6 +170,12 @@ def test_fields_of_databases(room):
         table = "CREATE TABLE fields (%s)" % columns, "INSERT INTO fields VALUES " + values
         found = read_metadata(make(room, *head, *table))
         assert "%s %s %s" % (found.fields, found.first, found.pad) == wanted
+    fields = "CREATE TABLE fields AS SELECT 7 AS field_id, 0 AS is_first_field UNION SELECT 5, 0 UNION SELECT 6, 1"
+    for names, values, wanted in DROP_OUTS:
+        table = "CREATE TABLE drop_outs (field_id, %s)" % names, *("INSERT INTO drop_outs VALUES (%s)" % one
+                                                                   for one in values.split("; ") if one)
+        assert read_metadata(make(room, *head, fields, *table)).dropouts == wanted
+    assert read_metadata(make(room, *head, fields, *table, fields.replace("fields", "more", 1))).dropouts == []
     one, other = ("CREATE TABLE %s AS SELECT 1 AS field_id, 1 AS is_first_field" % name for name in ("a", '"a "" b"'))
     known = {"system": "PAL", "black16bIre": 1, "white16bIre": 2, "numberOfSequentialFields": 640}
     assert read_metadata(make(room, *head, other))[1:] == (known, 1, [True], [], None)

@@ -76,7 +76,7 @@ def test_a_buffer_is_held(is_refused):
 
 def test_the_collector_is_paused():
     """It doesn't look through what was made meanwhile. What was so before stays so."""
-    assert gc.isenabled() and gc.get_freeze_count() == 0
+    gc.unfreeze()
     with paused():
         assert not gc.isenabled()
         kept = [[] for _ in range(5000)]
@@ -206,9 +206,9 @@ def test_what_the_loader_finds(room, anew):
 def test_the_header_says_so():
     """The arguments of each call, each number of an enumeration, and what is said of a status."""
     of_type = {"uint32_t": ctypes.c_uint32, "size_t": ctypes.c_size_t}
-    for name, types in (*library._ARGUMENTS.items(), *((name, types) for name, (_, types) in library._LATER.items())):
+    for name, kinds in (*library._ARGUMENTS.items(), *((name, kinds) for name, (_, kinds) in library._LATER.items())):
         given = re.findall(r"[^,]+", re.search(r"\b%s\((?:void|([^)]*))\)" % name, HEADER)[1] or "")
-        assert types == [ctypes.c_void_p if "*" in one else of_type[one.split()[0]] for one in given], name
+        assert kinds == [ctypes.c_void_p if "*" in one else of_type[one.split()[0]] for one in given], name
     statuses = [value for name, value in vars(library).items() if name.startswith("BAD_")]
     for name, text in re.findall(r"enum Ldvbi(\w+) {(.*?)}", HEADER, re.S):
         ours = [0, *statuses] if name == "Status" else list(getattr(ldvbi, name))

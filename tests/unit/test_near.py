@@ -14,7 +14,6 @@ from ldvbi_side.near import measured, nearest_word_in
 from ldvbi_side.seek import seek, wanted_of
 from ldvbi_side.side import side_of_tbc
 import pytest
-from room import in_database
 from simulated_discs import picture
 from streams import line_with, NTSC, PAL, pictures, worn_line, write_stream
 
@@ -148,11 +147,6 @@ TOLD = (({"fieldLine": [1, 16, 17, 18, 19], "startx": [1, 2, 3, 0, 5], "endx": [
             ([17, 18], [1, -1], [9, 9]), ([17], [3], [2]), ([17], [1], [9, 9]), ([17, 18], [1], [9]),
             ([17.0], [1], [9]), ([17], [True], [9]), ([17], [1], [9.0]), ([17], [1], [None]), ("17", "1", "2"))),
         *((one, []) for one in ({}, [], None, 5, "x", {"fieldLine": [17], "startx": [1]})))
-FORM = """CREATE TABLE capture (system, black_16b_ire, white_16b_ire);
-INSERT INTO capture VALUES ('NTSC', 16384, 51200);
-CREATE TABLE fields (field_id, is_first_field); INSERT INTO fields VALUES (7, 0), (5, 0), (6, 1)"""
-DROP_OUTS = "CREATE TABLE drop_outs (capture_id, field_id, field_line, startx, endx)"
-INSERT = "INSERT INTO drop_outs VALUES (1, %s)"
 
 
 def test_json(room):
@@ -166,21 +160,6 @@ def test_json(room):
     for text, wanted in (('{"fields":[5,{},%s]}', [(2, 17, 1, 9)]), ('{"fields":[%s],"fields":[{}]}', []),
                          ('{"fields":[%s],"fields":{}}', []), ('{"fields":[%s]', []), ("[%s]", [])):
         assert read_metadata(room.write("meta.json", text % one)).dropouts == wanted
-
-
-def test_database(room):
-    """A field has the place of its field_id among those of the fields; what no field has is left out."""
-    inserts = [INSERT % row for row in ("5, 17, 3, 9", "7, 16, 0, 0", "7, 18, 1, 2", "5, 15, 1, 2", "8, 17, 1, 2",
-                                        "NULL, 17, 1, 2")]
-    bad = [INSERT % row for row in ("5, 17, 'x', 9", "6, 18, -1, 9", "6, 17, 1, NULL")]
-    for number, (statements, wanted) in enumerate((
-            ([DROP_OUTS, *inserts], [(0, 17, 3, 9), (2, 16, 0, 0), (2, 18, 1, 2)]),
-            ([DROP_OUTS, *bad, inserts[1]], [(2, 16, 0, 0)]), ([DROP_OUTS], []), ([], []),
-            ([DROP_OUTS.replace("startx", "x"), inserts[0]], []),
-            ([DROP_OUTS, inserts[0], "CREATE TABLE more AS SELECT * FROM fields"], []))):
-        path = room.named("%d.db" % number)
-        in_database(path, *FORM.split(";"), *statements)
-        assert read_metadata(path).dropouts == wanted
 
 
 def near(room, *words, said=""):

@@ -108,10 +108,10 @@ def test_closed(room):
     file.close()
     for call in (lambda: file.read(1, 2), lambda: file.fetch(0, 1), file.mapped):
         assert reason(call) == "the stream is closed"
-    begun = ldvbi.fields(room.path, *NTSC)
-    next(begun)
+    loop = ldvbi.fields(room.path, *NTSC)
+    next(loop)
     assert held(room.path) == (0, 1)
-    del begun
+    del loop
     assert reason(ldvbi.Stream, room.folder, *NTSC, kind=IsADirectoryError) is not None
     assert (held(room.path), held(room.folder)) == ((0, 0), (0, 0))
 
