@@ -40,6 +40,8 @@ from scripted import NOBODY, NO_PLANT, planted, plants_of
 
 SEEN = RECORD.with_suffix(".seen")  # of each plant that was seen the test that did
 REASONS = TOP / "tests" / "mutants.txt"
+# Tests of all that these modules define: the header and texts/classes.txt have the same
+DEFINED_IN, DEFINED = "python/ldvbi/", ("::test_the_header_says_so", "::test_all_that_is_public", "::test_the_classes")
 LEFT_OUT = "__pycache__", ".git", ".venv", "crate", "dist", "ldvbi-mutants-*", "out"  # they aren't copied
 PARTS = 480  # each of about 60 plants
 FIRST = 40  # tests of a plant, which are run before the others
@@ -233,7 +235,8 @@ def side_by_side(jobs, seen, count):
 
 
 def tests_of(plant, known):
-    """Those that run its line, or one that names what it defines, with their seconds."""
+    """Those that run its line, or one that names what it defines, or that look at all definitions, with their
+    seconds."""
     places = {plant.file: set(range(plant.first, plant.last + 1))}
     if plant.defines:
         word, places = re.compile(r"\b%s\b" % plant.defines), {}
@@ -241,7 +244,8 @@ def tests_of(plant, known):
             places[file] = {line for line, row in enumerate(text.splitlines(), 1) if word.search(row)
                             and not (file == plant.file and plant.first <= line <= plant.last)}
     return {test: seconds for test, (seconds, lines) in known["tests"].items()
-            if any(places[file].intersection(lines.get(file, ())) for file in places)}
+            if any(places[file].intersection(lines.get(file, ())) for file in places)
+            or plant.defines and plant.file.startswith(DEFINED_IN) and test.endswith(DEFINED)}
 
 
 def reasons():

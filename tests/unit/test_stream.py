@@ -175,6 +175,8 @@ def test_lines_are_fetched_ahead(room, monkeypatch, setup):
         for more, count in ((1, 2 * 64), (64, COUNT), (COUNT - 65, COUNT)):
             assert len(list(itertools.islice(loop, more))) == more
             assert notes == lines[:count]
+    with mock.patch.object(side, "_read", wraps=side._read) as read:
+        assert (len(side[10:80]), len(side[10:80:9]), read.call_count) == (70, 8, 2 + 8)
     monkeypatch.setattr(ldvbi.rows, "_ADVISE", None)
     assert numbers_of(ldvbi.Stream(room.path, *setup)[10:12]) == [10, 11]
 
