@@ -201,6 +201,7 @@ def test_what_the_loader_finds(room, anew):
         MAKE, NAMES), reason(cause, kind=OSError))
     with mock.patch("builtins.open", side_effect=OSError):
         assert library._path_of("libldvbi.so.2") == "libldvbi.so.2"
+    assert library._path_of("x/../y") == os.path.abspath("y")
 
 
 def test_the_header_says_so():
