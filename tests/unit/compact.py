@@ -30,7 +30,8 @@ import sys
 
 from discs import (BLANK, LEAD_IN, LEAD_OUT, STOP, answer, chapter, item, minutes, picture, pictures, plain, second,
                    times)
-from ldvbi_side.answer.analysis import analyse
+from ldvbi_side.answer.analysis import analysed
+from ldvbi_side.as_json import as_json
 
 NAMED = {"L": LEAD_IN, "O": LEAD_OUT, "B": BLANK, "?": "- ? ?", "C": "- 800DDD 800DDD"}
 FIELDS = {
@@ -158,7 +159,8 @@ ITEMS = {
     "secondRows": lambda one: "%s@%s %s %s:%s" % (span(one), span(one, "field", "lastField"), one["count"],
                                                   one["weight"], one["against"]),
     "badLines": lambda one: "%s %s" % (place(one), one["cause"]), "reasons": lambda one: one["why"],
-    "showings": lambda one: "%s@%s" % (one[0], span(one, 1, 2)), "completed": str, "confirmed": str}
+    "showings": lambda one: "%s@%s" % (one[0], span(one, 1, 2)), "completed": str, "confirmed": str,
+    "own": lambda one: "%s %d-%d %s to %s, %d" % one}
 ITEMS.update(leadOut=ITEMS["leadIn"], chapterConflicts=ITEMS["conflicts"])
 
 
@@ -175,6 +177,7 @@ MEMBERS = {
     "numbers": lambda found: "{count} {least} to {greatest}".format(**found["numbers"]),
     "count": lambda found: str(found["numbers"]["count"]),
     "whys": lambda found: ", ".join(sorted({one["why"] for one in found["missing"] + found["leftOut"]})),
+    "orMore": lambda found: ", ".join(str(one["after"]) for one in found["lost"] if one["orMore"]),
     "aside": lambda found: ", ".join(str(one["field"]) for one in found["doubtful"]),
     "levels": lambda found: found["levels"] and "{shows} {words} {bad} {blank} {field}/{line}".format(
         **found["levels"]) or "", "said": said_of}
@@ -214,8 +217,10 @@ def table_in(path):
 
 
 def check_row(name, side, *members, **more):
-    """A row has a name, a side, and members of its answer. What is known or asked besides, `Fields` has."""
-    found = analyse(made(side, plain)._replace(**more))
+    """A row has a name, a side, and members of its answer, or its `own` breaks. What is known or asked besides, `Fields`
+    has."""
+    known = analysed(made(side, plain)._replace(**more))
+    found = {**as_json(known.answer), "own": known.breaks}
     for member in members:
         asked, _, wanted = member.partition(" ")
         if asked == "no":

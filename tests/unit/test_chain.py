@@ -1,27 +1,37 @@
-"""What breaks cost, how far apart numbers stand, which are believed, and what becomes of those passed over."""
+"""What breaks cost, how far apart numbers stand, which are believed, also of a disc that is turned by hand, where
+minutes are lost, and what becomes of numbers passed over."""
 
+import re
+
+from compact import cells_of
+from ldvbi import Number, State
 from ldvbi_side.answer.missing import fates, PassedOver
-from ldvbi_side.judge.chain import chosen
-from ldvbi_side.judge.paces import ChapterPace, MinutePace, Pace, price
+from ldvbi_side.judge.believed import Line, Numbers, Stretch
+from ldvbi_side.judge.chain import chain, chosen, is_on_both
+from ldvbi_side.judge.order import is_free, with_turned
+from ldvbi_side.judge.paces import ChapterPace, MinutePace, Pace, price, Unit
+from ldvbi_side.judge.places import minute_breaks, Showing
 from ldvbi_side.judge.readings import Reading
 import pytest
 
 VIDEO = Pace("video")
 PACES = {"video": VIDEO, "both": Pace("both"), "film": Pace("film"), "minutes": MinutePace("PAL"),
-         "chapters": ChapterPace()}
+         "NTSC minutes": MinutePace("NTSC"), "chapters": ChapterPace()}
 # Of a pace: fields, a number, the step to the next one and their variants, and how many fields are too many or too few.
 # A video picture has 2 fields; of both fields the second one is one after; minutes fit within one minute; one chapter
 # may be passed over in 18 fields, and at a break of the pictures' numbers, which 100 stands for, any may follow.
 OFF = {"video": "10 7 5: 0, 12 7 5: 2, 9 7 5: -1, 4 7 0: None", "both": "1 7 0 0 1: 0, 1 7 1 1 0: 0, 3 7 1 0 1: 0, "
-       "2 7 0 0 0: None", "minutes": "10 4 0: 0, 2999 4 0: 0, 1 4 1: 0, 5999 4 1: 0, 6001 4 1: 3001, 1 4 3: -8999, "
-       "5 4 -1: 3005", "chapters": "17 7 2: 2, 18 7 2: 0, 400 7 3: 4, 400 7 -1: 160, 9 7 0: 0, 9 7 1: 0, 9 7 2: 2, "
+       "2 7 0 0 0: None", "film": "1 7 0 0 1: None, 2 7 0 0 2: None", "minutes": "10 4 0: 0, 2999 4 0: 0, 3000 4 0: 3000, "
+       "1 4 1: 0, 5999 4 1: 0, 6000 4 1: 3000, 1 4 3: -8999, 5 4 -1: 3005", "NTSC minutes": "7199 4 1: 0, "
+       "7200 4 1: 3604, 3591 4 2: 0, 3590 4 2: -3602", "chapters": "17 7 2: 2, 18 7 2: 0, 400 7 3: 4, 400 7 -1: 160, 9 7 0: 0, 9 7 1: 0, 9 7 2: 2, "
        "9 7 4: 6, 9 7 -1: 160, 9 7 100: 0, 9 7 101: 0, 9 7 140: 1, 9 7 97: 1"}
 # A number, a step and variants, and the fields between. Film has 2 and 3 fields in turn: pictures with an odd number
 # have 3, those with an even one, or none: video in between.
 BETWEEN = {"video": "7 5 0 0: 10", "film": "1 1 0 0: 3, 2 1 0 0: 2, 1 4 0 0: 10, 1 1 1 1: 2, 2 1 1 1: 3, 1 1 2 2: 2, "
            "1 3 2 2: 6"}
 # How many numbers have so many fields
-NUMBERS = {"video": "5: 2", "both": "3: 1", "film": "2: 1, 4: 1, 5: 2, 7: 3", "minutes": "2999: 0, 5999: 1"}
+NUMBERS = {"video": "5: 2", "both": "3: 1", "film": "2: 1, 4: 1, 5: 2, 7: 3", "minutes": "2999: 0, 5999: 1",
+           "NTSC minutes": "3595: 0, 3596: 1"}
 
 
 def test_a_break_costs_1_and_its_binary_digits():
@@ -32,18 +42,31 @@ def test_a_break_costs_1_and_its_binary_digits():
 def test_paces_rows(name, table):
     for kind, rows in table.items():
         for asked, wanted in (row.split(": ") for row in rows.split(", ")):
-            assert str(getattr(PACES[kind], name)(*map(int, asked.split()))) == wanted
+            words = [*map(int, asked.split()), *[0, 0] * (kind == "video" and name == "off")]
+            assert str(getattr(PACES[kind], name)(*words)) == wanted
+
+
+def test_rows_of_paces():
+    """Of numbers that go on from one to the next, in whichever fields of their pictures they were read, the row is the
+    same or one of those a step away, and none of these is asked in vain."""
+    for pace in (VIDEO, PACES["both"], PACES["film"]):
+        ways = [(one, other) for one in range(pace.variants) for other in range(pace.variants)
+                if pace.kind != "film" or one == other < 2]  # as it changes only at a cut
+        steps = {pace.row(0, number) - pace.row(pace.between(number, step, *way), number + step)
+                 for number in (6, 7) for step in range(1, 9) for way in ways}
+        assert steps == set(pace.steps)
+    for name in ("minutes", "chapters"):
+        assert {PACES[name].row(9, 7) - PACES[name].row(900, 7 + step) for step in (0, 1)} == set(PACES[name].steps)
 
 
 def test_least_off():
-    """No fields are less off than the least, whatever the variants are: of minutes and chapters it is exact."""
+    """As many fields as by the variants by which they are least off."""
     rows = [(number, step, fields) for number in (6, 7) for step in (-3, -1, 1, 2, 5) for fields in range(1, 16)]
     for pace in PACES.values():
         ways = [(one, other) for one in range(pace.variants) for other in range(pace.variants)]
         for number, step, fields in rows + [(7, 1, 6001), (8, 3, 5), (8, -2, 9), (3, 2, 17), (3, 90, 4)]:
             least = abs(pace.least_off(fields, number, step) or 0)
-            offs = [abs(pace.off(fields, number, step, *way) or 0) for way in ways]
-            assert least == offs[0] if len(ways) == 1 else least <= min(offs)
+            assert least == min(abs(pace.off(fields, number, step, *way) or 0) for way in ways)
 
 
 def readings(*numbers, first=1):
@@ -83,6 +106,35 @@ def test_which_are_believed(ones, wanted):
     assert list(believed(ones).values()) == wanted
 
 
+# Readings, each as field:number/weight, with = of a sure one, and the fields that are believed. A break of one field
+# costs 2, of three 3, of 65,535 17; that a number begins to stay costs 2; of chains that are worth the same the longer
+# one is taken, the one without a jump back, and the first. Four readings before one are asked in any case.
+CHAINS = """
+    1:5/4 | 1 || 1:5/4 3:70000/4 | 1 || 1:5/3 3:70000/4 | 3
+    1:5/4 3:5/1 | 1 || 1:5/4 3:5/2 5:5/1 | 1 3 5 || 1:70000/3 3:9/4 5:9/1 | 3 || 1:5/1 3:5/1 | 1
+    1:5/4= 5:5/1 | 1 || 1:4/4= 3:5/4= 5:5/1 | 1 3 || 1:5/4= 3:5/4= 5:5/1 | 1 3 5
+    1:5/4 3:6/4 6:7/2 | 1 3 6 || 1:5/4 3:6/4 6:7/1 | 1 3 || 1:5/4 3:6/4 4:5/3 | 1 3 || 1:5/4 3:6/4 4:5/4 | 1 3 4
+    59:30/4= 101:32819/4 104:32820/4= | 59 101 104 || 59:30/4= 101:32819/3 103:9/1 104:32820/4= | 59 101 104
+    59:30/4= 101:40000/4 103:9/1 105:900/1 107:90/1 111:40004/4= | 59 101 111
+    59:30/4= 101:40000/4 103:9/1 104:9000/1 105:900/1 107:90/1 111:40004/4= | 59 111
+"""
+
+
+def parsed(text):
+    """Readings, and those of them that are sure."""
+    found = [(Reading(int(field), int(number), int(weight), (17,)), sure) for field, number, weight, sure in re.findall(
+        r"(\d+):(\d+)/(\d)(=?)", text)]
+    return [one for one, _ in found], {one.field: one.number for one, sure in found if sure}
+
+
+def test_chains():
+    for text, wanted in cells_of(CHAINS):
+        ones, sure = parsed(text)
+        assert " ".join(map(str, believed(ones, sure))) == wanted, text
+        if not sure:
+            assert [one.field for one in chain(ones, VIDEO)] == list(believed(ones))
+
+
 def test_between_two_that_are_sure():
     """Of a single number the two breaks cost more than it weighs, of ten they don't; a sure one is believed whatever
     stands around it or in its field."""
@@ -91,6 +143,71 @@ def test_between_two_that_are_sure():
     assert list(believed(readings(*row), {3: 2, 25: 13}).values()) == row
     both = [*readings(1, 2), Reading(5, 900, 1, (17,)), Reading(5, 3, 4, (18,)), *readings(4, 5, first=7)]
     assert believed(both, {5: 900}) == {5: 900}
+
+
+# Numbers of fields, of which one is due and one doubtful: most stand on the field before as well, or just half of them.
+@pytest.mark.parametrize("text, wanted", (("5 5 6 6", False), ("5 5 5 6 6", True), ("- - 5 5? 6 6 -", False),
+                                          ("- 5 5 - - 6 6 6", True), ("5 5 5. 6 6", False), ("- -", False)))
+def test_numbers_on_both_fields(text, wanted):
+    states = {"?": State.doubtful, ".": State.due}
+    assert is_on_both([Number(int(one.rstrip("?.")), states.get(one[-1], State.believed)) if one != "-" else
+                       Number(None, State.nothing) for one in text.split()]) == wanted
+
+
+# Believed numbers of a disc that is turned by hand, others, and those of them that are believed, too: at most 5 off the
+# numbers beside them, 40 fields away, and with three more marks as near, which are breaks, stills and such numbers. The
+# marks of WHEEL are 3, 9 and 15, where a number begins to stay, and not where it stays on; those of FAR 7, 11 and 15.
+HAND = {"WHEEL": "1:10 3:10 5:10 7:11 9:11 11:11 13:12 15:12 17:12", "FAR": "5:10 7:10 9:11 11:11 13:12 15:12",
+        "NONE": ""}
+TURNED = """
+    WHEEL 19:13 | 18:15/2 | 18 || WHEEL 19:13 | 18:17/2 | 18 || WHEEL 19:13 | 18:18/2 | none
+    WHEEL 19:13 | 18:8/2 | 18 || WHEEL 19:13 | 18:7/2 | none || WHEEL 19:13 | 18:14/1 | none
+    WHEEL 19:13 | 18:12/1 | 18 || WHEEL 19:13 | 18:13/1 | 18 || 1:10 3:10 5:10 7:10 9:10 11:11 | 10:13/2 | none
+    FAR 91:13 | 51:15/2 | 51 || FAR 91:13 | 52:15/2 | none || FAR 91:13 | 50:15/2 | none
+    FAR 91:17 | 51:15/2 | 51 || FAR 91:18 | 51:15/2 | none || FAR 87:13 | 47:15/2 | 47 || FAR 88:13 | 47:15/2 | none
+    FAR 57:13 59:13 60:14 | 55:15/2 | 55 || FAR 57:13 59:13 60:14 | 56:15/2 | none
+    1:10 3:11 | 4:13/2 6:13/2 8:13/2 10:14/2 | 4 6 8 10 || 1:10 3:11 | 4:13/2 6:13/2 8:13/2 | none
+    NONE | 1:5/4 3:5/4 5:5/4 7:5/4 | none
+"""
+
+
+def test_turned_by_hand():
+    for text, others, wanted in cells_of(TURNED):
+        ones = parsed(re.sub("([A-Z]+)", lambda one: HAND[one[0]], text).replace(" ", "/4 ") + "/4")[0]
+        others = parsed(others)[0]
+        found = with_turned(Numbers(Unit("picture", 25), VIDEO, ones), ones + others).believed
+        assert found == sorted(found) and set(ones) <= set(found)
+        assert " ".join(str(one.field) for one in found if one in others) == wanted.replace("none", ""), text
+
+
+def test_which_fields_are_free():
+    """Of those that were played at other speeds two stretches may share the field in which they meet."""
+    speeds = [Stretch(first, last, Line(2, 2, 1, 1)) for first, last in ((10, 20), (30, 40))]
+    asked = (1, 10), (1, 11), (12, 15), (19, 30), (20, 30), (20, 31), (39, 50), (40, 50)
+    assert [one for one in asked if is_free(speeds, *one)] == [(1, 10), (20, 30), (40, 50)]
+    assert is_free([], 1, 99)
+
+
+# Showings of minutes, fields with lead-in or lead-out, and the breaks: a minute that was held, or that has lost some of
+# its fields between two others, or minute 0 after lead-in. PAL has 3,000 fields to one, NTSC 3,590 to 3,600.
+MINUTES = """
+    PAL | 4@1-3000 5@3001-6000 6@6001-9000 | none | none || PAL | 4@1-3001 | none | held 1-3001 4 4 1
+    NTSC | 4@1-3600 5@3601-7190 6@7191-7200 | none | none || NTSC | 4@1-3601 | none | held 1-3601 4 4 1
+    NTSC | 4@1-9 5@10-3598 6@3599-3600 | none | lost 9-3599 4 6 1 || NTSC | 4@1-9 5@10-20 6@3600-3600 | none | none
+    PAL | 4@1-9 5@10-3008 6@3009-3010 | none | lost 9-3009 4 6 1 || PAL | 4@1-9 6@10-3008 7@3009-3010 | none | none
+    PAL | 4@1-9 5@10-3008 7@3009-3010 | none | none || PAL | 4@1-9 5@10-3008 6@3009-3010 | 20 | none
+    PAL | 4@1-9 5@10-3008 6@3009-3010 | 9 3009 | lost 9-3009 4 6 1 || PAL | 0@10-20 1@3000-3001 | none | none
+    PAL | 0@10-20 1@3009-3010 | 2 9 | lost 9-3009 0 1 1 || PAL | 0@10-20 1@3010-3011 | 2 9 | none
+    PAL | 1@10-20 2@3009-3010 | 9 | none || PAL | 0@10-20 2@3009-3010 | 9 | none || PAL | 0@10-20 1@3009-3010 | 10 | none
+    PAL | 0@10-20 1@3009-3010 | 9 30 | none || PAL | 0@10-20 1@3009-3010 | 9 3009 | lost 9-3009 0 1 1
+"""
+
+
+def test_breaks_of_minutes():
+    for system, showings, ends, wanted in cells_of(MINUTES):
+        shown = [Showing(*map(int, re.split("[@-]", one))) for one in showings.split()]
+        found = minute_breaks(MinutePace(system), shown, [int(end) for end in ends.split() if end != "none"])
+        assert ", ".join("%s %d-%d %d %d %d" % one for one in found) == wanted.replace("none", ""), showings
 
 
 def test_a_long_row_of_wrong_numbers():

@@ -21,7 +21,7 @@ from ldvbi_side.command.map import COLUMNS, map_rows
 from ldvbi_side.join.captures import aside_in
 from ldvbi_side.judge.paces import Unit
 from ldvbi_side.judge.places import Break
-from ldvbi_side.judge.readings import Stray
+from ldvbi_side.judge.readings import Fields, Stray
 from ldvbi_side.texts import counted_by
 import pytest
 from streams import TOP
@@ -47,13 +47,14 @@ DETOURS = """
     inserted inserted | 1..200 41..60 201..220 381..400 221..500 | no lost breaks missing unread doubtful
         | said no: 2 detours (the first: fields 401 to 440 show pictures 41 to 60)
         | detours inserted 401-440 41-60, inserted 481-520 381-400
-    inserted | t0..999 t1500..1999 t1000..2499 | no lost breaks missing unread
-        | said no: 1 detour (fields 2001 to 3000 show times 0:01:00.00 to 0:01:19.24)
+    inserted | t0..299 t400..599 t300..699 | no lost breaks missing unread
+        | said no: 1 detour (fields 601 to 1000 show times 0:00:16.00 to 0:00:23.24)
     inserted | NTSC f1..100 f41..60 f101..200 | said no: 1 detour (fields 251 to 300 show pictures 41 to 60) | no lost
     replaced | 1..60 40061..40070 71..140 | no lost breaks unread | missing 61-70 undecided | doubtful x20 | count 130
         | said can't tell: fields 121 to 140 show pictures 40061 to 40070, misread or played in the place of others; 1..
     replaced | 1..60 <61..70 -/-/#N+40000^ B> 71..140 | no lost breaks | missing 61-70 unread | doubtful x10
         | said can't tell: fields 121 to 140 show pictures 40061 to 40070, misread or played in the place of others
+    replaced | 1..60 40061..40070 71..140 124=62 | count 130 | doubtful x22
     replaced | 1..100 61=-/#71/? 63=-/#72/? 65=-/#73/? 67=-/#74/? 69=-/#75/? | no lost breaks repeated
         | missing 31-35 unread | aside 61, 63, 65, 67, 69 | detours replaced 61-70 71-75
     replaced | 1..10 40011..40040 41..50 | no lost breaks doubtful | count 50 | whys undecided
@@ -103,7 +104,7 @@ LASTS = """
     0:01:00.02 | NTSC t1..1799 | lost 3598-3599 2 number | missing 0:01:00.00-0:01:00.02 undecided
     0:00:02.02 | NTSC t0..59 | lost 120-121 4 number | missing 0:00:02.00-0:00:02.02 lost
     0:03:00.02 | NTSC t2..5399!0,1%1800 | lost 0-1 2 number, 10788-10789 2 number | missing .., 0:03:00.02 lost
-    0:03 | m0..1x3000 | missing 0:02-0:03 lost | lost 6000-6001 3001 number || 0:01:30 | m0..1x3000 | no lost missing
+    0:03 | m0..1x9 | missing 0:02-0:03 lost | lost 18-19 3001 number | orMore 18 || 0:01:30 | m0..1x9 | no lost missing
     100 | 1..90 51..60 | said no: 20 fields lost; 1 jump (back); 10 pictures lost | lost 180-181 20 number
     100 | 1..97 | lost 194-195 6 number || 99 | Lx2 1..97 Ox2 | is_strict | said no: 4 fields lost; 2 pictures lost
     97 | Lx2 1..97 | is_strict | said yes
@@ -153,10 +154,9 @@ def test_an_unknown_clock_of_numbers_on_both_fields():
         return made(text, lambda rows, system, first: answer(
             [rows[place - place % 2] for place in range(len(rows))], system))
 
-    for text, lost, why in (("NTSC t0..999!400", (800, 801, 2), "undecided"),
+    for text, lost, why in (("NTSC t0..499!400", (800, 801, 2), "undecided"),
                             ("NTSC t0..1799 t1802..3700", (3600, 3601, 4), "undecided"),
-                            ("NTSC t0..999!400,401", (800, 801, 4), "number"),
-                            ("NTSC t0..4500!400", (800, 801, 2), "number")):
+                            ("NTSC t0..499!400,401", (800, 801, 4), "number")):
         found = on_both(text)
         assert (found["pace"], found["whole"]) == ("both", "no" if why == "number" else "can't tell")
         assert [tuple(one.values()) for one in found["lost"]] == [(*lost, why, True)]
@@ -282,6 +282,11 @@ def test_what_else_is_known():
         check_row("known", "Lx4 1..30 Ox4", "said " + said, **more)
     for text, said in (("Lx4 1..30", "no: field 65 is cut"), ("1..9 Ox5 10..28", "no: lead-out in field 19, and ..")):
         check_row("cut before lead-out", text, "said " + said, cut=Cut(65, 5))
+    for text, pad, said in (("B 1..30", [1], "yes"), ("Bx2 1..30", [1, 2], "no: 2 fields are padding"),
+                            ("1..30 5=B", [5], "no: 1 picture is padding"), ("1..30", [6], "no: 1 field is padding"),
+                            ("1..30 5=B 9=B", [5, 6, 9], "no: 2 pictures are padding")):
+        check_row("padding", text, "said " + said, pad=[field in pad for field in range(1, 63)])
+    assert not any(Fields("PAL", [], [], [], b"")[5:])  # nothing else is known of a side
     check_row("worn, and whole", "<1..200 -/#N^/#N^ -/?/!>", "said yes", "levels")
     check_row("a cut field alone", "B", "said no: field 2 is cut; no picture number and no time", cut=Cut(2, 5))
     known = made("NTSC t0..20 t22..40", typed)

@@ -27,7 +27,7 @@ class Begin(NamedTuple):
     before: int = 0
 
 
-def begin_of(answer: Answer, judged: Optional[JudgedSide], unit: Unit, is_strict: bool = False) -> Optional[Begin]:
+def begin_of(answer: Answer, judged: Optional[JudgedSide], unit: Unit, is_strict: bool) -> Optional[Begin]:
     """How a side begins, by the library, or for minutes alone by the fields before the first one; None if there is
     nothing to say. With `is_strict` all numbers from the disc's first one on have to be read, too."""
     least = answer.numbers.least

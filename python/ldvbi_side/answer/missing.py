@@ -38,12 +38,12 @@ def missing_of(places: Places, gaps: Gaps, codes: Codes, begin: Optional[Begin],
             others.append((0, number - 1))
         if is_first:  # as if the number before the disc's first one stood before the lost fields
             breaks = [Break("lost", begin.after, begin.before, start, number, begin.fields)] + breaks
-            unshown |= places.numbers.clock.left_out_in(start + 1, number - 1)
+            unshown |= places.numbers.clock.left_out_in(start, number)
             firsts[start] = begin.after
     if end:
         breaks, firsts = breaks + [end], {**firsts, end.to: end.before}
         lost += [(end.after, end.before)] * (end.kind == "lost")
-        unshown |= places.numbers.clock.left_out_in(end.from_ + 1, end.to - 1)
+        unshown |= places.numbers.clock.left_out_in(end.from_, end.to)
     losses = Between(lost)
     passed = _passed_over(places, breaks, losses, codes)
     unread = places.without_field.union([number for number, _ in places.due])

@@ -19,7 +19,7 @@ SHARE = 10  # numbers to one that is set aside, at most, if what was read shows 
 Found = Iterator[Tuple[str, str]]  # reasons, each by its word and its text
 
 
-def reasons_of(answer: Answer, gaps: Gaps, begin: Optional[Begin], is_strict: bool = False,
+def reasons_of(answer: Answer, gaps: Gaps, begin: Optional[Begin], is_strict: bool,
                unseen: Sequence[Tuple[int, int]] = (), last: Optional[Last] = None) -> List[Ground]:
     """Why a side with this answer and these gaps, which begins so, isn't whole, or why that can't be told, in order of
     weight. `why` is a word for programs, `text` says it, and `whole` is what the reason alone would make of the side.

@@ -97,12 +97,7 @@ class Numbers(_Numbers):  # so that it can keep what was found of it
             return range(1, len(self.fields))
         steps = zip(map(operator.sub, self.fields[1:], self.fields),
                     map(operator.sub, self.values[1:], self.values))
-        found = [place for place, step in enumerate(steps, 1) if step != _USUAL]
-        if self.swapped:
-            swaps = [bisect.bisect_left(self.fields, field) for field in self.swapped]
-            near = {place + after for place in swaps for after in (0, 1) if 0 < place + after < len(self.fields)}
-            found = sorted(near.union(found))
-        return found
+        return [place for place, step in enumerate(steps, 1) if step != _USUAL]
 
     def aside(self, readings: List[Reading]) -> List[Reading]:
         """Those of these readings whose fields have no believed reading."""

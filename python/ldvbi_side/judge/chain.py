@@ -12,6 +12,7 @@ its variant, is found last. docs/SIDES.md has the rules."""
 
 import contextlib
 import functools
+import math
 from typing import Dict, Iterator, List, Mapping, Tuple
 
 from ldvbi import ClockKind, Counted, JudgedSide, Number, Pace as JudgedPace, State, complete_times, judge_side
@@ -23,11 +24,11 @@ LAST = 4  # readings before one that are asked in any case
 LONG = 1000  # readings between two anchors that may be noise, if there are more
 DENSE = 4  # fields to one of these, at most, and of so many one that goes on
 LEAST = price(1)  # that a break costs
-TIE = 2 ** -20  # of chains that are worth the same the one with more readings is taken
-BACK = 4 * TIE  # and with fewer jumps back
+TIE = 9.5367431640625e-07  # of chains that are worth the same the one with more readings is taken
+BACK = 3.814697265625e-06  # and with fewer jumps back
 STILL = 2  # what it costs that numbers begin to stay
-NEVER = -10 ** 9  # the value of a chain that doesn't begin where it has to
-FEWER = 2 ** -20  # of breaks that cost as much those of fewer fields are taken
+NEVER = -math.inf  # the value of a chain that doesn't begin where it has to
+FEWER = 9.5367431640625e-07  # of breaks that cost as much those of fewer fields are taken
 
 
 # ---- The library's numbers
@@ -47,10 +48,10 @@ def judged_of(fields: Fields, counted: Counted) -> JudgedSide:
                 return found
             return min(found, judge(clock=DROP_FRAME), key=lambda one: len(one.gaps))
     found = judge()
-    return judge(pace=JudgedPace.video) if found.pace == JudgedPace.film and _is_on_both(found.numbers) else found
+    return judge(pace=JudgedPace.video) if found.pace == JudgedPace.film and is_on_both(found.numbers) else found
 
 
-def _is_on_both(numbers):
+def is_on_both(numbers: List[Number]) -> bool:
     """Whether most numbers stand on the field before as well, as on no film: at a third of the speed numbers on both
     fields may look like those of film."""
     shown = [number if state in (State.believed, State.doubtful) else None for number, state in numbers]
@@ -125,14 +126,14 @@ def _earlier(pace, index, row, number, of_row, of_number, top):
     if number in of_number:
         yield of_number[number], 0
     yield top, LEAST
-    for before in range(index - 1, max(index - 1 - LAST, -1), -1):
+    for before in reversed(range(index)[-LAST:]):
         yield before, LEAST
 
 
 def _between(readings, pace, is_first_sure, is_last_sure, is_still):
     """The best chain that begins with the first reading, if that is sure, and ends with the last one, if that is.
     `is_still` says whether the first one's number stayed."""
-    if len(readings) < 2:
+    if not readings:
         return readings
     values, origins, stays = [], [], []
     top = 0  # the reading at which the best chain of all ends
@@ -184,7 +185,7 @@ def _without_ties(readings, places, pace):
 
 def _worth(pace, before, one, after):
     """What a reading is worth between these."""
-    return one.weight - (_cost(pace, before, one) if before else 0) - (_cost(pace, one, after) if after else 0)
+    return one.weight - sum(_cost(pace, *pair) for pair in ((before, one), (one, after)) if all(pair))
 
 
 # ---- Variants

@@ -17,6 +17,7 @@ from .order import with_speeds, with_swaps, with_turned
 from .paces import RATES, MinutePace, Unit
 from .readings import ByField, Codes, Reading
 
+SECOND = (16,)  # the line that has the second and the picture of a time
 CARRIED = 1  # seconds that are lost at most if a minute is carried over although others were read
 
 
@@ -36,14 +37,14 @@ class Times(NamedTuple):
             near = next((near for near in (field, field + 1) if near in self.minutes), field - 1)
             for value, lines in self.minutes.get(near, {}).items():
                 # a number that is joined of two is as sure as the less sure one
-                weight = min(self.codes.weight(near, lines), self.codes.weight(field, (16,)))
+                weight = min(self.codes.weight(near, lines), self.codes.weight(field, SECOND))
                 readings.append(Reading(field, value * self.whole + part, weight,
-                                        (16,) + lines if near == field else (16,)))
+                                        SECOND + lines if near == field else SECOND))
         return readings
 
     def with_voted(self, readings: List[Reading], judged: JudgedSide) -> List[Reading]:
         """These readings, and the times of fields without a minute to which the library gave one by vote."""
-        more = [Reading(field, number, self.codes.weight(field, (16,)), (16,))
+        more = [Reading(field, number, self.codes.weight(field, SECOND), SECOND)
                 for field in self.parts.keys() - {one.field for one in readings}
                 for number, state in [judged.numbers[field - 1]]
                 if number is not None and state in (State.believed, State.doubtful)]
@@ -51,14 +52,14 @@ class Times(NamedTuple):
 
     def of_line(self, line: Line, fields: List[int]) -> List[Reading]:
         """The times of these fields of a line, in which only the second and the picture were read."""
-        return [Reading(field, line.number_at(field), self.codes.weight(field, (16,)), (16,)) for field in fields
+        return [Reading(field, line.number_at(field), self.codes.weight(field, SECOND), SECOND) for field in fields
                 if field not in self.minutes and self.parts.get(field) == line.number_at(field) % self.whole]
 
     def completed_weight(self, field: int, number: int) -> int:
         """The weight of line 16, less that of any other minute which the field itself says."""
         against = [self.codes.weight(field, lines) for minute, lines in self.minutes.get(field, {}).items()
                    if minute != number // self.whole]
-        return max(self.codes.weight(field, (16,)) - max(against, default=0), 0)
+        return max(self.codes.weight(field, SECOND) - max(against, default=0), 0)
 
 
 class Found(NamedTuple):
@@ -125,7 +126,7 @@ def _believed(times, readings):
     if more:
         numbers = numbers._replace(believed=anchored(sorted(known + more, key=lambda one: one.field), pace, judged))
     numbers = with_swaps(with_speeds(numbers, known, times.of_line), known, times.parts)
-    completed = frozenset(reading.field for reading in numbers.believed if reading.lines == (16,))
+    completed = frozenset(reading.field for reading in numbers.believed if reading.lines == SECOND)
     return Found(numbers._replace(completed=completed), readings, times)
 
 
@@ -137,6 +138,6 @@ def _completions(times, numbers, readings):
         dues = [near.number + (field - near.field) // 2 for near in numbers.around(field) if near]
         found = {due - most + off for due in dues for off in [(times.parts[field] - due + most) % times.whole]
                  if off <= 2 * most}
-        more += [Reading(field, number, times.completed_weight(field, number), (16,)) for number in sorted(found)
+        more += [Reading(field, number, times.completed_weight(field, number), SECOND) for number in sorted(found)
                  if number >= 0 and (field, number) not in said]
     return more

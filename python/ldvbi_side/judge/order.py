@@ -7,7 +7,7 @@ import itertools
 import math
 import operator
 from collections import Counter
-from typing import Callable, Collection, Dict, List, Mapping
+from typing import Callable, Collection, Dict, List, Mapping, Sequence
 
 from .believed import APART, SLOW, Line, Numbers, Stretch, line_from, meeting
 from .paces import price
@@ -71,7 +71,7 @@ def with_speeds(numbers: Numbers, readings: List[Reading],
     fields, numbers = [one.field for one in readings], numbers._replace(believed=list(numbers.believed))
     for line, ones in sorted(lines, key=lambda found: -sum(one.weight for one in found[1])):
         first, last = _extent(numbers, line, ones)
-        if _is_free(numbers.speeds, first, last):
+        if is_free(numbers.speeds, first, last):
             near = readings[bisect.bisect_left(fields, first):bisect.bisect(fields, last)]
             read = {one.field for one in near}
             found = [one._replace(variant=(one.field - line.field) % 2) for one in near] if kind == "both" else near
@@ -81,7 +81,7 @@ def with_speeds(numbers: Numbers, readings: List[Reading],
     return numbers._replace()
 
 
-def _is_free(speeds, first, last):
+def is_free(speeds: Sequence[Stretch], first: int, last: int) -> bool:
     """Whether no stretch is in more of these fields than the first one or the last."""
     place = bisect.bisect(speeds, (first, math.inf))
     return (place == 0 or speeds[place - 1].last <= first) and (place == len(speeds) or speeds[place].first >= last)
@@ -123,9 +123,8 @@ def _loose(numbers, readings):
                zip(map(operator.sub, begins[1:], begins), map(operator.sub, values[1:], values))]
     fits = {field for field, before, after in zip(numbers.fields, [False] + goes_on, goes_on + [False])
             if before or after}
-    pairs = [believed[place:place + 2] for place, is_fit in enumerate(goes_on) if not is_fit]
-    stays = {one for pair in pairs if pair[0].number == pair[1].number and pair[1].variant <= pair[0].variant
-             for one in pair}
+    stays = {one for pair in zip(believed, believed[1:]) if pair[0].number == pair[1].number and
+             pair[1].variant <= pair[0].variant for one in pair}
     return [one for one in readings if one.field not in fits], sorted(stays)
 
 

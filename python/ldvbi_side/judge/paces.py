@@ -67,7 +67,7 @@ class Pace:
             return (5 * (number + step) + other) // 2 - (5 * number + other) // 2
         return 2 * step + (other - variant if self.kind == "both" else 0)
 
-    def off(self, fields: int, number: int, step: int, variant: int = 0, other: int = 0) -> Optional[int]:
+    def off(self, fields: int, number: int, step: int, variant: int, other: int) -> Optional[int]:
         """How many fields are too many (or, negative, too few); 0 if they fit; None if the number stays."""
         if step == 0:
             return 0 if self.kind == "both" and fields == other - variant else None
@@ -105,8 +105,8 @@ class MinutePace(_LongPace):
     def __init__(self, system: str) -> None:
         self.shortest, self.fields, self.longest = MINUTE_FIELDS[system]
 
-    def off(self, fields: int, number: int, step: int, variant: int = 0, other: int = 0) -> int:
-        return fields - step * self.fields if step < 0 or self.least_wrong(fields, step) else 0
+    def off(self, fields: int, number: int, step: int, *variants: int) -> int:
+        return fields - step * self.fields if self.least_wrong(fields, step) else 0
 
     def numbers_in(self, fields: int) -> int:
         """How many minutes this many fields have at least, one after the other."""
@@ -126,7 +126,7 @@ class ChapterPace(_LongPace):
     ALL = 80  # chapters, 0 to 79
     MANY = 18  # fields
 
-    def off(self, fields: int, number: int, step: int, variant: int = 0, other: int = 0) -> int:
+    def off(self, fields: int, number: int, step: int, *variants: int) -> int:
         chapters = (number + step) % 100 - number % 100
         if chapters in (0, 1) or chapters == 2 and fields >= self.MANY:
             return 0

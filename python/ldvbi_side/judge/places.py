@@ -58,10 +58,8 @@ class Places(NamedTuple):
         """The number of the picture that a field belongs to, read or due: its own, or that of a field just before it,
         else that of the field after it. None if none of these has one."""
         longest = 3 if self.numbers.pace and self.numbers.pace.kind == "film" else 2
-        for near in [field - back for back in range(longest)] + [field + 1]:
-            if near in self.number_of:
-                return self.numbers.unit.text_of(self.number_of[near])
-        return None
+        near = [*range(field, field - longest, -1), field + 1]
+        return next((self.numbers.unit.text_of(self.number_of[one]) for one in near if one in self.number_of), None)
 
 
 class _Step(NamedTuple):
@@ -95,7 +93,7 @@ def places_of(numbers: Numbers, codes: Codes) -> Places:
     showings = _showings(numbers, steps)
     breaks = [_break(numbers, step.before, step.after, step.off) for step in steps if step.kind == "break"]
     if isinstance(numbers.pace, MinutePace):
-        breaks += _minute_breaks(numbers.pace, showings, ends)
+        breaks += minute_breaks(numbers.pace, showings, ends)
     left_out = set().union(*(numbers.clock.left_out_in(before.number + 1, after.number - 1)
                              for _, before, after, kind, _ in steps if kind in ("next", "break")))
     number_of = {**{field: number for number, field in due}, **numbers.taken}
@@ -151,11 +149,10 @@ def _due(numbers, steps, codes):
         elif kind == "next" and after.number - before.number > 1:
             if isinstance(numbers.pace, Pace):
                 between = _due_between(numbers, before, after)
-                if spacing > 1:
-                    empty = {number for number, field in between if (number - before.number) % spacing and
-                             codes.fields.causes[field - 1][0] == "blank"}
-                    unshown |= empty
-                    between = [one for one in between if one[0] not in empty]
+                empty = {number for number, field in between if (number - before.number) % spacing and
+                         codes.fields.causes[field - 1][0] == "blank"}
+                unshown |= empty
+                between = [one for one in between if one[0] not in empty]
                 # film that is turned by hand fits by chance more often, as its pictures have 2 fields or 3
                 if numbers.pace.kind == "film" and numbers.others.issuperset(range(before.field + 1, after.field)):
                     unseen.update(number for number, _ in between)
@@ -228,7 +225,7 @@ def _spacing_of(numbers: Numbers) -> int:
     return step if count >= LEAST and 2 * count > sum(steps.values()) else 1
 
 
-def _minute_breaks(pace: MinutePace, showings: List[Showing], ends: List[int]) -> List[Break]:
+def minute_breaks(pace: MinutePace, showings: List[Showing], ends: List[int]) -> List[Break]:
     """The minutes that show more fields than they have, and those that have room for fewer: between two others, or of
     minute 0 between lead-in and minute 1. At `ends`, fields with lead-in or lead-out, another side may begin."""
     found = [Break("held", first, last, number, number, last - first + 1 - pace.longest)

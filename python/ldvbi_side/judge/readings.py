@@ -141,8 +141,9 @@ def codes_of(fields: Fields) -> Codes:
     stray = [_stray(fields, field, line, "line") for field, line, is_code in aside if is_code]
     unknown = [Unknown(field, line, *_said(fields, field, line)) for field, line, is_code in aside if not is_code]
     cav, clv = (len(set().union(*(kinds[kind] for kind in names))) for names in (CAV_KINDS, CLV_KINDS))
-    codes = Codes(fields, kinds, "neither" if not cav and not clv else "cav" if cav >= clv else "clv", stray, unknown)
-    for kind in CLV_KINDS if cav >= clv else CAV_KINDS:
+    is_cav = cav >= clv
+    codes = Codes(fields, kinds, "neither" if not cav and not clv else "cav" if is_cav else "clv", stray, unknown)
+    for kind in CLV_KINDS if is_cav else CAV_KINDS:
         stray += codes.strays(kind, kinds[kind], "format")
         kinds[kind] = {}
     return codes
