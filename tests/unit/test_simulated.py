@@ -20,12 +20,12 @@ from truth import Truth
 from verdicts import said_of, true_of
 
 pytestmark = pytest.mark.unrecorded
-# Of sides that were played in other ways the pictures of a side, and how many of three at least have exact missing
+# Of sides that were played in other ways the pictures of a side, and how many of two at least have exact missing
 # numbers, exact first fields, and just the reasons why they aren't whole
-SIDES = {"skips": (None, 2, 2, 0), "worn": (300, 3, 3, 3), "swapped": (200, 3, 3, 2), "speeds": (1100, 3, 3, 2),
-         "joined": (150, 3, 3, 3), "losses": (600, 1, 1, 3), "restarts": (150, 3, 3, 3), "loops": (300, 0, 3, 2),
-         "turned": (300, 0, 3, 2), "searched": (500, 0, 2, 0), "sides": (200, 0, 3, 3), "minutes": (None, 0, 3, 3)}
-SEEDS = {"joined": (0, 2, 3), "sides": (0, 3, 5)}  # the truth of two discs with numbers far apart takes long
+SIDES = {"skips": (None, 1, 1, 0), "worn": (300, 2, 2, 2), "swapped": (200, 2, 2, 1), "speeds": (1100, 2, 2, 1),
+         "joined": (150, 2, 2, 2), "losses": (600, 0, 0, 2), "restarts": (150, 2, 2, 2), "loops": (300, 0, 2, 1),
+         "turned": (300, 0, 2, 1), "searched": (500, 0, 1, 0), "sides": (200, 0, 2, 2), "minutes": (None, 0, 2, 2)}
+SEEDS = {"joined": (0, 2), "sides": (0, 3)}  # the truth of two discs with numbers far apart takes long
 
 
 def within(counts, table):
@@ -47,38 +47,37 @@ def measure(kinds, sides):
 
 
 def test_bounds():
-    """No answer contradicts the words of its side, of a third of them. All wrong numbers are set aside, and hardly a
-    right one; no field has another number than on the disc. It is seldom left open whether a side is whole, but of few
+    """No answer contradicts the words of its side, of some of them. All wrong numbers are set aside, and hardly a right
+    one; no field has another number than on the disc. It is seldom left open whether a side is whole, but of few
     minutes alone. Single fields of a disc with a number on both fields of its pictures, or of film, are no gap."""
-    totals, of_all, told = measure(KINDS, [(seed, {"sound": seed % 3 == 0}) for seed in range(2000, 2042)])
+    totals, of_all, told = measure(KINDS, [(seed, {"sound": seed % 7 == 0}) for seed in range(2000, 2014)])
     within(of_all, """
-        faults: 0; wrong: 474 0; wrong chapters: 478 0; right: 102912; right found: ..1; right chapters: 76765;
-        right chapters found: 0; numbers: 45601.. 0; due: 2801.. 0; unread numbers: 2701.. 0;
-        lost numbers: 1401.. ..3; undecided: ..199; lost places: 330; backs: 189 0; lost: 231.. 0;
-        stops: 42..; missing: 41..; left out: 42..; first fields: 41..; chapter table: 42..; whole: 42..;
-        reasons: 41..; said yes: 2..; said can't tell: ..5""")
-    assert sum(of_all["said " + word] for word in ("yes", "no", "can't tell")) == 42
-    within(of_all - totals["cav-both"] - totals["cav-film"], "lost places: 201.. 0")
+        faults: 0; wrong: 160 0; wrong chapters: 215 0; right: 32491; right found: ..1; right chapters: 29118;
+        right chapters found: 0; numbers: 15001.. 0; due: 471.. 0; unread numbers: 441.. 0; lost numbers: 401.. ..1;
+        undecided: ..49; lost places: 103; backs: 52 0; lost: 70.. 0; stops: 14..; missing: 13..; left out: 14..;
+        first fields: 13..; chapter table: 14..; whole: 14..; reasons: 13..; said yes: 2..; said can't tell: ..2""")
+    assert sum(of_all["said " + word] for word in ("yes", "no", "can't tell")) == 14
+    within(of_all - totals["cav-both"] - totals["cav-film"], "lost places: 47 0")
     for counts in totals.values():
-        within(counts, "sides: 6; wrong: 1..; right: 1..; numbers: 1..")
+        within(counts, "sides: 2; right: 1..; numbers: 1..")
 
 
 def test_sides_that_were_played_in_other_ways():
     """No answer contradicts the words of its side. Where few times have their minute, the library believes few of them.
     Of film that is turned by hand numbers may be called unread that were never shown; of no other kind."""
     totals, of_all, told = measure(PLAYED, [
-        (seed, {"kind": kind, "count": count, "sound": kind != "minutes" or seed == 0})
-        for kind, (count, *_) in SIDES.items() for seed in SEEDS.get(kind, range(3))])
-    within(of_all, "sides: 36; faults: 0; whole: 36; wrong: 112.. 0; right: 70001..; right found: ..15")
+        (seed, {"kind": kind, "count": count, "sound": kind != "minutes" and seed == 0})
+        for kind, (count, *_) in SIDES.items() for seed in SEEDS.get(kind, range(2))])
+    within(of_all, "sides: 24; faults: 0; whole: 24; wrong: 76 0; right: 55001..; right found: ..12")
     within(of_all - totals["turned"], """
-        numbers: 17001.. ..1; due: 861.. ..1; unread numbers: 801.. ..1; lost numbers: 13001.. ..10; swaps: 4 ..1;
-        speeds: 3 0""")
-    within(of_all - totals["turned"] - totals["skips"] - totals["sides"], "lost places: 81.. 0")
+        numbers: 10601.. ..1; due: 381.. ..1; unread numbers: 361.. ..1; lost numbers: 6400.. ..10; swaps: 3 ..1;
+        speeds: 2 0""")
+    within(of_all - totals["turned"] - totals["skips"] - totals["sides"], "lost places: 71 0")
     for kind, (_, *least) in SIDES.items():
         within(totals[kind], "missing: %d..; first fields: %d..; reasons: %d.." % tuple(least))
-    for kind, table in (("turned", "backs: 201.. ..31; unread numbers: 1.. ..6"), ("loops", "backs: 11.. ..4"),
-                        ("restarts", "backs: 4 ..2; lost: 2 0"), ("worn", "backs: 11.. 0; lost: 4 0"),
-                        ("losses", "lost: 51.. ..2"), ("sides", "lost: 5 0"), ("minutes", "lost: 3 0")):
+    for kind, table in (("turned", "backs: 185.. ..25; unread numbers: 1.. ..4"), ("loops", "backs: 11.. ..3"),
+                        ("restarts", "backs: 3 ..1; lost: 1 0"), ("worn", "backs: 1 0; lost: 4 0"),
+                        ("losses", "lost: 41.. ..2"), ("sides", "lost: 4 0"), ("minutes", "lost: 1 0")):
         within(totals[kind], table)
 
 
@@ -101,8 +100,8 @@ FAULTY = {"doubtful.clear()": "believed and set aside, or neither", "doubtful.ap
 BY_HAND = """
     1..29 19=-/#10/#77 || t1000..1029 19.17=@0:09 || Lx3 1..29 Ox4 100..129 14=70000 || 101..130 || NTSC 1..29 -21:24
     NTSC t0..20 t22..40 || NTSC B || 1..29 19=-/#70000/#70000* || NTSC f1..29 23:30=B 26=-/#70000/#70000*
-    1..29 Bx40 34..59 || t1000..1059 3:120/4.16=- || 1..59 -/#60/#60x2 61..99 || n0..4x3000 -7001:8000
-    1..29 -/#30/#30x42 -/#31/#31 -/#32/#32x41 B 33..59 || n0..4x3000 -7001:8000 5101=O
+    1..29 Bx40 34..59 || t1000..1059 3:120/4.16=- || 1..59 -/#60/#60x2 61..99 || n0..2x3000 -4001:5000
+    1..29 -/#30/#30x42 -/#31/#31 -/#32/#32x41 B 33..59 || n0..2x3000 -4001:5000 3101=O
 """
 
 
@@ -152,25 +151,12 @@ REAL_TRUE = {"wrong parity": ({"yes"}, "can't tell"), "away": ({"no"}, "no, can'
 @pytest.mark.parametrize("kind, wanted, said", [(kind, *row) for kind, row in REAL_TRUE.items()])
 def test_real_sides(kind, wanted, said):
     """No answer contradicts the words of its side, and none is falsely yes."""
-    sides = [real(kind, seed, 120) for seed in range(14)]
+    sides = [real(kind, seed, 120) for seed in range(8)]
     found = [(true_of(side, may_end=True), said_of(side, may_end=True)[0]) for side in sides]
     assert {true for true, _ in found} == wanted and ("no", "yes") not in found
     assert [one for _, one in found if one not in said] == []
-    for side in sides[:3]:
+    for side in sides[:2]:
         assert faults_of(fields_of(side), analyse(fields_of(side))) == []
-
-
-def test_what_scratches_and_players_do():
-    """A scratch misreads one bit of a line; a player that was away comes back to where it was, or further on."""
-    found = []
-    for side in (real("scratched", seed, 120) for seed in range(8)):
-        turned = Counter(side.document["fields"][field - 1]["vbi"]["vbiData"][line - 16] ^ true
-                         for field, line, true in side.misread)
-        found += [bits for bits, count in turned.most_common(1) if count > 20]
-    assert found and all(bits & (bits - 1) == 0 for bits in found)
-    away = [Truth(real("away", seed, 120)) for seed in range(12)]
-    assert any(one.inserted for one in away) and any(one.replaced for one in away)
-    assert {len(one.inserted + one.replaced) for one in away} == {0, 1}
 
 
 # What is true of sides with a fault, whether they have a lead-out, and what may be said of them
@@ -183,11 +169,11 @@ TRUE = {"sound": ("yes", True, "yes"), "both": ("yes", True, "yes"), "film cut":
 def test_faults(fault, wanted, has_end, said):
     """Minutes alone don't show one field more or less, nor the ends of their disc, nor how long a minute is that
     doesn't stand between two others. A capture that was cut off is whole only if it may end."""
-    sides = [faulty(random.Random(seed), fault, seed, 120) for seed in range(14)]  # two of each layout
+    sides = [faulty(random.Random(seed), fault, seed, 120) for seed in range(7)]  # one of each layout
     others = [side for side in sides if side.layout != "clv-minutes"]
     assert {(true_of(side), lead_out_of(side) is not None) for side in others} == {(wanted, has_end)}
     assert [side.settings for side in others if said_of(side)[0] not in said] == []
     if fault == "cut off":
         assert {true_of(side, may_end=True) for side in others} == {"yes"}
     of_minutes = [true_of(side) for side in sides if side.layout == "clv-minutes"]
-    assert of_minutes == ["either"] * (0 if fault in ("both", "film cut") else 2)
+    assert of_minutes == ["either"] * (fault not in ("both", "film cut"))
