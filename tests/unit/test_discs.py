@@ -13,7 +13,6 @@ from ldvbi_side.join.discs import Discs
 from ldvbi_side.join.heads import head_of_side
 from ldvbi_side.join.marks import MOST, marks_in, plain_marks, ranges_of
 from ldvbi_side.join.others import shown_by
-import pytest
 
 # What stands for sides in the table: of one disc by a users' code, and with the same programme status throughout
 NAMES = {"USERS": "83D0A1/-/-", "STATUS20": "1:40/2.16=8DC0E5", "STATUS": "1:80/2.16=8DC0E5",
@@ -100,43 +99,29 @@ def test_too_many_marks():
     assert plain_marks(marks._replace(said={"chapter": [], "programme status": ones})) is None
 
 
-@pytest.fixture
-def three(room):
-    """Two captures of one disc, and one of another disc."""
-    room.add("sides/a 1.tbc", "83D0A1/-/- 1..30 O")
-    room.add("sides/a2.tbc", "83D0A1/-/- 1..11 14..30 O")
-    room.add("sides/b.tbc", "83D0A2/-/- 1..30 O")
-    return room
-
-
-def test_what_a_scan_prints(three):
-    """In a row the side that it may go with, and the command that joins them."""
+def test_what_a_scan_says(room):
+    """Of two captures of one disc, and one of another disc. In a row stands the side that it may go with, below the
+    command that joins them. An index is of pages of all scans, with the options with which they were read, and not of
+    a side that isn't there any longer; a page that was read before says the same of its side."""
+    for name, text in (("a 1", "83D0A1/-/- 1..30 O"), ("a2", "83D0A1/-/- 1..11 14..30 O"), ("b", "83D0A2/-/- 1..30 O")):
+        room.add("sides/%s.tbc" % name, text)
     command = "ldvbi-side join 'sides/a 1.tbc' sides/a2.tbc"
-    rows = three.scan("--csv sides")[1].splitlines()
-    assert [row.split(",")[-1] for row in rows] == ["with", "", "sides/a 1.tbc", ""]
-    known = json.loads(three.scan("--json sides")[1])
+    first = room.scan("--csv --html pages sides")
+    assert [row.split(",")[-1] for row in first[1].splitlines()] == ["with", "", "sides/a 1.tbc", ""]
+    assert room.scan("--csv --html pages sides") == first
+    known = json.loads(room.scan("--json sides")[1])
     assert [one["with"] for one in known["sides"]] == [[], ["sides/a 1.tbc"], []]
     assert known["discs"] == [{"sides": ["sides/a 1.tbc", "sides/a2.tbc"], "by": ["users' code"], "join": command}]
-    assert three.scan("sides")[1].splitlines()[4:] == ["may be one disc (users' code): " + command]
-    assert three.run_words(*shlex.split(command)[1:])[0] == 0
-
-
-def test_what_an_index_shows(three):
-    """Of pages of all scans, with the options with which they were read; not of a side that isn't there any longer."""
-    three.scan("--html", "pages", "--black", "16384", "sides/a 1.tbc")
-    three.scan("--html", "pages", "--black", "16384", "sides/a2.tbc", "sides/b.tbc")
-    text = three.text("pages/index.html")
+    assert room.scan("sides")[1].splitlines()[4:] == ["may be one disc (users' code): " + command]
+    assert room.run_words(*shlex.split(command)[1:])[0] == 0
+    room.scan("--html", "others", "--black", "16384", "sides/a 1.tbc")
+    room.scan("--html", "others", "--black", "16384", "sides/a2.tbc", "sides/b.tbc")
+    text = room.text("others/index.html")
     begin = text.index("<h2>May be one disc</h2>")
     command = shlex.join(["ldvbi-side", "join", "--black=16384", *(
-        os.path.realpath(three.named(name)) for name in ("sides/a 1.tbc", "sides/a2.tbc"))])
+        os.path.realpath(room.named(name)) for name in ("sides/a 1.tbc", "sides/a2.tbc"))])
     assert "<li>users&#x27; code: <code>%s</code></li>" % html.escape(command) in text[begin:]
-    os.unlink(three.named("sides/a2.tbc"))
-    three.scan("--html", "pages", "--black", "16384", "sides/b.tbc")
-    assert "one disc" not in three.text("pages/index.html")
+    os.unlink(room.named("sides/a2.tbc"))
+    room.scan("--html", "others", "--black", "16384", "sides/b.tbc")
+    assert "one disc" not in room.text("others/index.html")
     assert discs_of([]) == ""
-
-
-def test_a_page_read_before(three):
-    """Says the same of its side."""
-    first = three.scan("--csv --html pages sides")
-    assert first == three.scan("--csv --html pages sides") and ",sides/a 1.tbc\n" in first[1]

@@ -122,7 +122,7 @@ def test_what_stands_beside():
     assert (found.verdict, found.reasons, found.swap) == (Verdict.not_whole, Reason.is_swapped, 21)
     found = asked(ldvbi.judge_side, "1..30 -/#70/#70 B -/#80/#80 B 200..230 O")
     assert found.gaps == (Gap(58, 64, 334, 2, 30, 200, GapKind.lost),)
-    # the player jumps ahead and comes back; pictures 31 to 40 are misread
+    # the player jumps ahead and comes back; pictures 31 to 40 are misread, and these are set aside
     found = asked(ldvbi.judge_side, "1..30 201..210 31..60 O")
     assert (found.verdict, found.reasons) == (Verdict.not_whole, Reason.is_inserted)
     assert found.gaps == (Gap(58, 60, 20, 0, 30, 201, GapKind.inserted), Gap(78, 80, 0, 0, 210, 31, GapKind.inserted))
@@ -130,19 +130,11 @@ def test_what_stands_beside():
     found = asked(ldvbi.judge_side, "1..30 201..210 41..60 O")
     assert (found.verdict, found.reasons) == (Verdict.cannot_tell, Reason.is_open)
     assert found.gaps == (Gap(58, 60, 0, 0, 30, 201, GapKind.replaced), Gap(78, 80, 0, 0, 210, 41, GapKind.replaced))
-    # these are set aside, unless as many numbers go on with them as with those around
-    assert found.aside == (60, 62, 64, 66, 68, 70, 72, 74, 76, 78)
-    shown = [Number(number, State.doubtful if field in found.aside else state)
-             for field, (number, state) in enumerate(asked(ldvbi.judge, "1..30 201..210 41..60 O"))]
-    assert found.numbers == shown
-    found = asked(ldvbi.judge_side, "1..30 201..250 81..100 O")
-    assert (len(found.gaps), found.aside) == (2, ())
-    assert found.numbers == asked(ldvbi.judge, "1..30 201..250 81..100 O")
+    assert found.aside == tuple(range(60, 80, 2))
+    assert found.numbers == [Number(number, State.doubtful if field in found.aside else state) for field, (
+        number, state) in enumerate(asked(ldvbi.judge, "1..30 201..210 41..60 O"))]
     found = asked(ldvbi.judge_side, "L Bx9 O")
     assert (found.first, found.last, found.swap, found.gaps, found.reasons) == (None, None, None, (), Reason.no_numbers)
-
-
-def test_many_fields_without_a_number():
     found = asked(ldvbi.judge_side, "1..30 Bx120 91..110 O")
     assert (found.verdict, found.reasons, found.blank) == (Verdict.cannot_tell, Reason.is_blank, 59)
     assert asked(ldvbi.judge_side, "1..30 Bx80 71..110 O").blank is None
@@ -193,8 +185,8 @@ SOUGHT = (
     ("f100..299", NTSC, (206,), (265, *FILM)), ("f100..299", NTSC, (206, "pictures", "film"), (265, *FILM)),
     ("t3000..3399", PAL, (3111, "times"), (222, *VIDEO)), (MISREAD, PAL, (150,), (298, State.due, Pace.video)),
     (MISREAD, PAL, (79999,), None), ("", PAL, (5,), None), ("5..6", PAL, (5,), None), ("5..7", PAL, (6,), (2, *VIDEO)),
-    *((LONG, PAL, (number,), (28 + 2 * number, *VIDEO)) for number in (1, 2, 30, 199, 200, 398, 399)),
-    *((LONG, PAL, (number,), None) for number in (0, 400, 79999, 2 ** 32 - 1)))
+    *((LONG, PAL, (number,), (28 + 2 * number, *VIDEO)) for number in (1, 200, 399)),
+    *((LONG, PAL, (number,), None) for number in (0, 400, 2 ** 32 - 1)))
 
 
 def test_seeking():
@@ -228,8 +220,8 @@ def test_numbers_of_a_damaged_side_are_found():
     """Where they are first in the whole side: each third picture isn't read, and some are misread."""
     damaged = side_of("1..299 3:590/6=? 11:590/22=-/#79999/#7 241:260=B")
     numbers, count = ldvbi.judge(damaged, "PAL"), 0
-    for number in range(1, 300, 7):
+    for number in range(1, 300, 11):
         found, first = ldvbi.seek(damaged, number), ldvbi.first_of(numbers, number)
         assert (found and found.field) == first, number
         count += found is not None
-    assert count > 20
+    assert count > 15

@@ -8,7 +8,7 @@ import random
 import time
 
 from compact import cells_of, check_row, made, rows, table_in
-from discs import LEAD_IN, LEAD_OUT, answer, minutes, picture, plain, second, side, times, typed
+from discs import LEAD_OUT, answer, minutes, picture, plain, second, side, times, typed
 import ldvbi
 from ldvbi import Kind, Reason
 from ldvbi.readings import Cut
@@ -27,7 +27,7 @@ import pytest
 from streams import TOP
 
 MOST = 16  # fields whose calls a field of noise may take
-LENGTHS = 20000, 80000  # fields of sides of which one may take longer than the other as this power of their lengths
+LENGTHS = 5000, 20000  # fields of sides of which one may take longer than the other as this power of their lengths
 EXPONENT = 1.15
 ROWS = list(table_in(os.path.join(os.path.dirname(__file__), "sides.txt")))
 
@@ -120,13 +120,11 @@ def test_last(last, row, cells):
 def test_seconds_alone():
     """Of a disc whose clock leaves out numbers just one time a second is read: too few for the library. So each place
     may be a loss, or the clock's."""
-    numbers = [number for number in range(4000) if number % 1001 != 400]
-    fields = times(numbers, 30)
-    for place, number in enumerate(numbers):
-        if number % 30:
-            fields[2 * place] = "- " + fields[2 * place].partition(" ")[2]
+    numbers = [number for number in range(1500) if number % 1001 != 400]
+    fields = [row if place % 2 or numbers[place // 2] % 30 == 0 else "- " + row.partition(" ")[2]
+              for place, row in enumerate(times(numbers, 30))]
     found = answer(fields, "NTSC")
-    assert (found["whole"], [one["by"] for one in found["lost"]]) == ("can't tell", ["undecided"] * 4)
+    assert (found["whole"], [one["by"] for one in found["lost"]]) == ("can't tell", ["undecided"] * 2)
 
 
 def test_what_stands_beside_entries():
@@ -170,9 +168,9 @@ def test_a_library_without_a_clock(monkeypatch):
         return later_call(name)
 
     monkeypatch.setattr("ldvbi.sides.later_call", older)
-    found = made("NTSC t0..3999!400%1001")
-    assert (found["whole"], len(found["lost"]), found["leftOut"]) == ("can't tell", 4, [])
-    assert {(one["by"], one["fields"]) for one in found["lost"]} == {("undecided", 2)}
+    found = made("NTSC t0..2500!400%1001")
+    assert (found["whole"], found["leftOut"]) == ("can't tell", [])
+    assert [(one["by"], one["fields"]) for one in found["lost"]] == [("undecided", 2)] * 3
 
 
 def test_what_schema_and_map_say():
@@ -203,39 +201,36 @@ def test_the_worst_sides():
         profile.runcall(analyse, plain(fields))
         return sum(one.callcount for one in profile.getstats()) / len(fields)
 
-    dice, count = random.Random(7), 2000
+    dice, count = random.Random(7), 1000
     times = ["%s %s %s" % (second(dice.randrange(60), dice.randrange(20)), *(
         minutes(dice.randrange(10), dice.randrange(60)) for _ in (17, 18))) for _ in range(count)]
-    wild = [picture(dice.randrange(80000)) for _ in range(2 * count)]
     most = MOST * calls(rows("0..%d" % (count // 2 - 1)))
-    for fields in (["- %s %s" % pair for pair in zip(wild, wild[count:])],
-                   ["- %s %s" % (one, one) for one in wild[:count]], times,
-                   rows("-/#100/#20000x%d" % count), rows("5x%d" % (count // 2)),
+    for fields in ([chance(dice, 80000, 80000) for _ in range(count)], [chance(dice, 80000) for _ in range(count)],
+                   times, rows("-/#100/#20000x%d" % count), rows("5x%d" % (count // 2)),
                    rows(" ".join(str(40000 * (place // 5 % 2) + place) for place in range(count // 2)))):
         assert calls(fields) < most
+
+
+def chance(dice, *most):
+    """A field with a number on both lines, or with one on either."""
+    return "- %s %s" % (tuple(picture(dice.randrange(one)) for one in most) * 2)[:2]
 
 
 # Patterns of sides, of any length: clean; lead-in in each twelfth field; noise that leaves a third of the numbers;
 # numbers below 60 by chance; each 150 fields a stretch at three times the speed; each 22 fields a picture lost; of NTSC
 # CLV likewise, with lead-out after each 500.
-def chance(dice, most):
-    return "- {0} {0}".format(picture(dice.randrange(most)))
-
-
 PATTERNS = {
     "clean": lambda count, dice: rows("1..%d" % (count // 2)),
-    "lead-in": lambda count, dice: [LEAD_IN if place % 12 == 11 else row
-                                    for place, row in enumerate(rows("1..%d" % (count // 2)))],
+    "lead-in": lambda count, dice: rows("1..%d 12:%d/12=L" % (count // 2, count)),
     "noise": lambda count, dice: [
         row if dice.random() < 0.35 else chance(dice, 80000) if dice.random() < 0.5 else "- ? ?"
         for row in rows("1..%d" % (count // 2))],
     "small": lambda count, dice: [chance(dice, 60) if place % 2 else "- - -" for place in range(count)],
     "fast": lambda count, dice: rows(" ".join("%d..%d/3 %d..%d" % (begin, begin + 72, begin + 73, begin + 122)
                                               for begin in range(0, count * 123 // 150, 123))),
-    "lost": lambda count, dice: [row for place, row in enumerate(rows("1..%d" % (count * 11 // 20)))
-                                 if place % 22 not in (4, 5)],
+    "lost": lambda count, dice: rows("1..%d!3%%11" % (count * 11 // 20)),
     "lost times": lambda count, dice: [LEAD_OUT if place % 500 == 0 else row for place, row in enumerate(
-        times(range(count * 11 // 20), 30)) if place % 22 not in (4, 5)]}
+        rows("t0..%d!2%%11" % (count * 11 // 20), 30))]}
 
 
 @pytest.mark.unrecorded

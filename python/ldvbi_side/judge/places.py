@@ -221,8 +221,7 @@ def _spacing_of(numbers: Numbers) -> int:
     pairs = zip(numbers.believed, numbers.believed[1:])
     steps = Counter(after.number - before.number for before, after in pairs
                     if after.field - before.field == 2 * (after.number - before.number))
-    step, count = max(steps.items(), key=lambda one: one[1], default=(1, 0))
-    return step if count >= LEAST and 2 * count > sum(steps.values()) else 1
+    return next((step for step, count in steps.items() if count >= LEAST and 2 * count > sum(steps.values())), 1)
 
 
 def minute_breaks(pace: MinutePace, showings: List[Showing], ends: List[int]) -> List[Break]:
