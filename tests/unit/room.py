@@ -1,5 +1,5 @@
-"""A folder of its own for a test, in which it runs the command: as a call in this process, or as a process that shows
-more. Why a call is refused, and what a database answers."""
+"""A folder of its own for a test, in which it runs the command: as a call in this process, in which a scan reads its
+sides, too, or as a process that shows more. Why a call is refused, and what a database answers."""
 
 import contextlib
 import functools
@@ -13,10 +13,12 @@ import sqlite3
 import subprocess
 import sys
 import time
+from unittest import mock
 
 from compact import words_of
 import ldvbi
 from ldvbi_side.__main__ import main
+from ldvbi_side.command.processes import Ended
 from streams import NTSC, pictures, PROGRAM, write_stream
 
 COMMAND = [sys.executable, "-m", "ldvbi_side"]
@@ -61,6 +63,19 @@ def command_of(process):
     return b""
 
 
+@contextlib.contextmanager
+def here(job, tasks, _, after):
+    """What `SideBySide` does, without other processes: one job after the other."""
+    def messages():
+        for index, task in enumerate(tasks):
+            told = []
+            job(task, told.append)
+            after(task, os.getpid())
+            yield from ((index, one) for one in (*told, Ended(0)))
+
+    yield messages()
+
+
 class Room(contextlib.ExitStack):
     """`path` is that of a TBC file in the folder, which isn't there yet."""
 
@@ -85,10 +100,15 @@ class Room(contextlib.ExitStack):
     def text(self, name):
         return self.read(name).decode()
 
-    def files(self):
-        """What is in each file, those of folders with them."""
+    def states(self):
+        """The length of each file, those of folders with them, and when it was written."""
         paths = [os.path.join(place, name) for place, _, names in os.walk(self.folder) for name in names]
-        return {os.path.relpath(path, self.folder): self.read(path) for path in paths}
+        return {os.path.relpath(path, self.folder): (one.st_size, one.st_mtime_ns)
+                for path, one in zip(paths, map(os.lstat, paths))}
+
+    def files(self):
+        """What is in each of them."""
+        return {name: self.read(name) for name in self.states()}
 
     def draw_side(self):
         write_stream(self.path, NTSC, pictures(12))
@@ -118,7 +138,8 @@ class Room(contextlib.ExitStack):
                                  timeout=DEADLINE, check=False, **pipes)
             return run.returncode, run.stdout, (run.stderr or b"").decode()
         out, err = io.TextIOWrapper(io.BytesIO(), "utf-8", "surrogateescape"), io.StringIO()
-        with contextlib.chdir(self.folder), contextlib.redirect_stdout(out), contextlib.redirect_stderr(err):
+        with contextlib.chdir(self.folder), contextlib.redirect_stdout(out), contextlib.redirect_stderr(err), \
+                mock.patch("ldvbi_side.command.scan.SideBySide", here):
             try:
                 status = main(self.words(*words))
             except SystemExit as stop:

@@ -32,19 +32,19 @@ NAMES = [
 
 def ends(drawn, files, *words, statuses=(2,)):
     """The status of a run. A fault is said in one line that names one of these files, and files are as before."""
-    before = drawn.files()
+    before = drawn.states()
     status, printed, said = drawn.run_words(*words)
     assert status in statuses
     if status == 2:
         assert re.search(r"\Aldvbi-side: [^\n]*\n\Z", said) and said.strip().isprintable() and len(said) < 650
         assert any(legible(one)[:100] in said for one in files)
-        assert (printed, drawn.files()) == ("", before)
+        assert (printed, drawn.states()) == ("", before)
     else:
         assert re.search(r"\A(ldvbi-side: [^\n]*\n)*\Z", said)
     if "copy.db" in drawn.names():  # which has all words
         found, = in_database(drawn.named("copy.db"), "SELECT vbi0, vbi1, vbi2 FROM vbi ORDER BY field_id")
         assert [list(three) for three in found] == pictures(12)
-    for name in set(drawn.files()) - set(before):
+    for name in set(drawn.states()) - set(before):
         os.unlink(drawn.named(name))
     return status
 
@@ -56,22 +56,27 @@ def title_of(text, scripts=0):
 
 
 def test_names(drawn):
-    """Of sides that are there or absent, and of all that is written."""
+    """Of sides that are there or absent, and of all that is written. In pages, drawings and indexes a name is text, in
+    tables it stands as it is."""
     drawn.metadata("meta.json", count=12)
     os.mkdir(drawn.named("some"))
-    for name in (os.fsdecode(b"some/" + name) for name in NAMES):
+    sides = []
+    for place, name in enumerate(os.fsdecode(b"some/" + name) for name in NAMES):
+        end = (".tbc", ".vbi.json")[place % 2]
+        for words in (["--"], ["join", "--", "side.vbi.json"], ["side.tbc", "--meta"]):
+            ends(drawn, [name + end], *words, name + end)
+        sides.append(name + ".vbi.json")
         for end in (".tbc", ".vbi.json"):
-            for words in (["--"], ["join", "--", "side.vbi.json"], ["side.tbc", "--meta"]):
-                ends(drawn, [name + end], *words, name + end)
             os.link(drawn.named("side" + end), drawn.named(name + end))
-            os.mkdir(drawn.named("made"))
-            check_outputs(drawn, name + end)
-            shutil.rmtree(drawn.named("made"))
-            os.unlink(drawn.named(name + end))
+        check_outputs(drawn, name + end)
+        os.unlink(drawn.named(name + ".tbc"))
+    status, printed, said = drawn.run_words("scan", "-j", "1", "--json", "--", *sides)
+    assert (status, said, {one["side"] for one in json.loads(printed)["sides"]}) == (1, "", set(sides))
 
 
 def check_outputs(drawn, name):
-    """In pages, drawings and indexes a name is text, in tables it stands as it is."""
+    """Of a side with this name, into files whose names begin as it does."""
+    os.mkdir(drawn.named("made"))
     paths = [name.replace("some", "made", 1) + end for end in ("", "2", "3", "4", "5")]
     options = sum(zip(("--html", "--svg", "-o", "--map", "--into"), paths), ())
     assert drawn.run_words("--meta", "meta.json", "--json", *options, "--", name) == (0, "", "")
@@ -86,11 +91,9 @@ def check_outputs(drawn, name):
     assert unquote_to_bytes(html.unescape(link)) == os.fsencode("../" + paths[0])
     assert {wanted, shown(name), shown("of " + name)} <= {
         html.unescape(one) for one in re.findall("<t?[ad][^>]*>([^<]*)</", index.replace("<wbr/>", ""))}
-    if name.endswith(".json"):
-        assert drawn.run_words("join", "--html", "made/both", "--", "side.vbi.json", name)[::2] == (0, "")
-        assert title_of(drawn.text("made/both")) == "side.vbi.json, " + shown(name)
-        status, printed, said = drawn.run_words("scan", "--json", "--", name)
-        assert (status, said, json.loads(printed)["sides"][0]["side"]) == (1, "", name)
+    assert drawn.run_words("join", "--html", "made/both", "--", "side.vbi.json", name)[::2] == (0, "")
+    assert title_of(drawn.text("made/both")) == "side.vbi.json, " + shown(name)
+    shutil.rmtree(drawn.named("made"))
 
 
 # What a member of JSON may be
@@ -123,12 +126,12 @@ def test_broken_texts(drawn):
     field = {"vbi": {"vbiData": [0, 0, 0]}, "dropOuts": {"startx": [100], "endx": [120], "fieldLine": [17]}}
     drawn.metadata("sound.json", count=12, field=field, numberOfSequentialFields=12, fieldWidth=910)
     for seed, name, text, faults, others, *runs in (
-            (30, "wrong.vbi.json", drawn.document, 180, 0, "wrong.vbi.json --json",
+            (30, "wrong.vbi.json", drawn.document, 60, 0, "wrong.vbi.json --json",
              "join side.vbi.json wrong.vbi.json"),
-            (31, "wrong.json", drawn.read("sound.json"), 120, 10, "side.tbc --meta wrong.json --json",
+            (31, "wrong.json", drawn.read("sound.json"), 40, 4, "side.tbc --meta wrong.json --json",
              "side.tbc --meta wrong.json --into copy.json")):
         found = Counter()
-        for data in broken(text, random.Random(seed), 30):
+        for data in broken(text, random.Random(seed), 9):
             drawn.write(name, data)
             for words in map(str.split, runs):
                 found[ends(drawn, [name, words[0]], *words, statuses=(0, 1, 2, 3, 4))] += 1
@@ -189,7 +192,7 @@ def test_broken_databases(drawn):
     for begin, end in ((0, 16), (0, 100), (16, 100), (100, 4096), (0, len(sound))):
         drawn.write("wrong.db", sound[:begin] + bytes(one ^ 0xA5 for one in sound[begin:end]) + sound[end:])
         end_both(drawn, (0, 2) if begin == 16 else (2,))
-    for _ in range(40):
+    for _ in range(10):
         at, count = chance.randrange(len(sound)), chance.choice([1, 4, 100, 4096])
         drawn.write("wrong.db", sound[:at] + chance.randbytes(count) + sound[at + count:])
         end_both(drawn, (0, 2))
@@ -197,10 +200,9 @@ def test_broken_databases(drawn):
         end_both(drawn, (0, 2) if at > len(sound) - 4096 else (2,))  # the last page is empty but for its head
 
 
-# What is printed, and what is written to a file
-PRINTED = ("side.tbc --csv", "side.tbc --json", "side.tbc --seek 3", "side.tbc --document", "side.tbc --bad-lines",
-           "join side.tbc side.vbi.json --json", "join side.tbc side.vbi.json", "scan --csv side.tbc",
-           "scan --json side.tbc", "scan side.tbc", "--version", "scan --help")
+# What is printed, each in another way, and what is written to a file
+PRINTED = ("side.tbc --csv", "side.tbc --json", "side.tbc --document", "join side.tbc side.vbi.json",
+           "scan --csv side.tbc", "scan --json side.tbc", "--version", "scan --help")
 WRITTEN = ("side.tbc -o", "side.tbc --html", "side.tbc --svg", "side.tbc --map", "side.tbc --into",
            "side.tbc --document -o", "side.tbc --csv -o", "join side.tbc side.vbi.json --html")
 
@@ -210,17 +212,19 @@ def test_outputs_that_take_nothing(drawn):
     drawn.metadata("side.tbc.json", count=12)
     in_database(drawn.named("side.db"), *SOUND)
     before, full = drawn.files(), "No space left on device"
-    for words in PRINTED:
-        for close, said in ((None, full), (lambda: os.close(1), "Bad file descriptor")):
-            with open("/dev/full", "wb") as file:
-                assert drawn.run_command(words, stdout=file, env=buffered(), preexec_fn=close) == (
-                    2, None, "ldvbi-side: standard output: %s\n" % said)
+    for place, words in enumerate(PRINTED):
+        close, said = ((None, full), (lambda: os.close(1), "Bad file descriptor"))[place % 4 == 1]
+        with open("/dev/full", "wb") as file:
+            assert drawn.run_command(words, stdout=file, env=buffered(), preexec_fn=close) == (
+                2, None, "ldvbi-side: standard output: %s\n" % said)
     for words in WRITTEN:
         drawn.refused("/dev/full: " + full, words + " /dev/full")
+    soft, hard = resource.getrlimit(resource.RLIMIT_FSIZE)
+    resource.setrlimit(resource.RLIMIT_FSIZE, (64, hard))
+    drawn.cleanup.callback(resource.setrlimit, resource.RLIMIT_FSIZE, (soft, hard))
     for words in (*(words + " out" for words in WRITTEN), "side.tbc --meta side.db --into out",
-                  "scan side.tbc --html pages"):
-        status, _, said = drawn.run_command(
-            words, preexec_fn=lambda: resource.setrlimit(resource.RLIMIT_FSIZE, (64, 64)))
+                  "scan -j 1 side.tbc --html pages"):
+        status, _, said = drawn.run_command(words)
         shutil.rmtree(drawn.named("pages"), ignore_errors=True)
         assert (status, said.count("\n"), drawn.files()) == (2, 1, before)
         assert re.search("^ldvbi-side: (out|side.db|pages/.*): ", said)

@@ -44,7 +44,7 @@ SYSTEMS = {
 # What the first six lines of NTSC show
 FIRST_LINES = [(0x82CFFF, "word", 1), (0x82CFFF, "word", 2), (0, "blank", 0), (0, "unfinished", 0),
                (0, "change 170", 0), (0, "hold 200", 0)]
-WRONG_CAUSES = ("%s", "%s ", "%s 0100", "%s 100.0", "%s  100", "%s 100 ", "%s100", "x%s 100")
+WRONG_CAUSES = ("Word %s", "%s", "%s ", "%s 0100", "%s 100.0", "%s  100", "%s 100 ", "%s100", "x%s 100")
 
 
 def schema_of(kind):
@@ -110,17 +110,26 @@ def changes(value, table, tried, place=""):
 
 
 def shortened(members):
-    """An object with at most five items in each list, as many as one of a fixed length has."""
-    return {name: value[:5] if isinstance(value, list) else value for name, value in members.items()}
+    """An object with one or two items in each list, or as many as one of a fixed length has."""
+    return {name: value[:2 if value and isinstance(value[0], (dict, list)) else 5] if isinstance(value, list) else value
+            for name, value in members.items()}
+
+
+def validators(schema):
+    """What says whether a document is valid, by the member that has been changed: of all others it is known."""
+    whole = {name: value for name, value in schema.items() if name not in ("required", "additionalProperties")}
+    found = {name: Draft202012Validator({**whole, "properties": {name: one}}).is_valid
+             for name, one in schema["properties"].items()}
+    return {"": Draft202012Validator(schema).is_valid, **found}
 
 
 def each_place(schema, table, documents):
     """All documents are valid, and what is made of them is as the table has it, each row of which is of some place."""
-    is_valid, tried = Draft202012Validator(schema).is_valid, {}
-    assert all(map(is_valid, documents))
+    are_valid, tried = validators(schema), {}
+    assert all(map(are_valid[""], documents))
     for text in sorted(map(json.dumps, documents), key=len):
         for changed, place, may_be in changes(json.loads(text, object_hook=shortened), table, tried):
-            assert is_valid(changed) == may_be, (place, changed)
+            assert are_valid[re.match(r"\.?(\w*)", place)[1]](changed) == may_be, (place, changed)
     assert set(table) <= set(tried.values())
 
 
@@ -138,7 +147,7 @@ def answers():
     yield analyse(made("Bx3", plain)._replace(
         try_levels=lambda: Tried(6, 0, 16384, 51200, Best("NTSC", None, 30000, 6))))
     for seed, kind in enumerate(KINDS):
-        yield analyse(fields_of(simulated(seed, kind, 0.02, 400), seed % 2 == 0))
+        yield analyse(fields_of(simulated(seed, kind, 0.02, 200), seed % 2 == 0))
 
 
 def together():
@@ -158,26 +167,25 @@ def test_scans(room):
     for name in ("side.tbc", "worn.tbc", "absent.tbc"):
         room.add(name, "83D0A1/-/- 1..2")
     os.unlink(room.named("absent.tbc"))
-    for kind, words in (("read", "--html pages side.tbc worn.tbc"), ("failed", "absent.tbc no")):
+    for kind, words in (("read", "-j 1 --html pages side.tbc worn.tbc"), ("failed", "-j 1 absent.tbc no")):
         each_place(schema_of("-scan"), read_table("version 2", kind), [json.loads(room.scan("--json " + words)[1])])
 
 
-def each_line(is_valid, document):
+def each_line(schema, record):
     """What may stand beside each other for a line: its word, cause and pass, and the word nearest to it."""
     words, near = (0x800000, 0xFFFFFF), {"word": 0, "distance": 0, "rival": 0}
     allowed = [*itertools.product([0], ("blank", "unfinished"), [0], [None]),
                *itertools.product(words, ["word"], (1, 2), [None]),
                *itertools.product(words, ("word", "unfinished"), [3], [near])]
-    record = document["fields"][0]
+    is_valid = Draft202012Validator({"$ref": "#/$defs/record", "$defs": schema["$defs"]}).is_valid
     lists = [record["vbi"]["vbiData"], record["vbiCause"], record["vbiPass"], record.get("vbiNear", [None] * 3)]
     for line in range(3):
         before = [one[line] for one in lists]
-        for members in itertools.product((0, 0x7FFFFF, *words, 0x1000000, 8388608.5),
-                                         ("word", "blank", "unfinished", "Word"), range(5),
-                                         (None, near) if "vbiNear" in record else [None]):
+        for members in itertools.product((0, 0x7FFFFF, *words, 0x1000000, 8388608.5), ("word", "blank", "unfinished"),
+                                         range(5), (None, near) if "vbiNear" in record else [None]):
             for one, member in zip(lists, members):
                 one[line] = member
-            assert is_valid(document) == (members in allowed), members
+            assert is_valid(record) == (members in allowed), members
         for one, member in zip(lists, before):
             one[line] = member
 
@@ -205,9 +213,17 @@ def test_documents(room, system, kind, version, options, passes):
             "hold %d" % (width - 1)} <= {cause for record in fields for cause in record["vbiCause"]}
     assert schema["properties"]["fields"]["maxItems"] == 1000000
     each_place(schema, read_table("document", system, version), documents)
-    each_line(Draft202012Validator(schema).is_valid, {**documents[0], "fields": fields[:1]})
-    cause = {**schema["$defs"]["cause" + system.title()], "$defs": schema["$defs"]}
-    is_cause = Draft202012Validator(cause).is_valid
+    name = "cause" + system.title()
+    if kind:
+        assert schema["$defs"][name] == schema_of("")["$defs"][name]
+    if system == "NTSC":
+        each_line(schema, fields[0])
+
+
+@pytest.mark.parametrize("system", SYSTEMS)
+def test_causes(system):
+    schema, (_, width, hold, _) = schema_of(""), SYSTEMS[system]
+    is_cause = Draft202012Validator({**schema["$defs"]["cause" + system.title()], "$defs": schema["$defs"]}).is_valid
     for name, least in (("change", 0), ("hold", hold)):
         columns = (*range(-1, 1200), 1910, 9099, 9100, 11350)
         assert [column for column in columns if is_cause("%s %d" % (name, column))] == list(range(least, width))
