@@ -28,15 +28,15 @@ from room import buffered, children, command_of, DEADLINE, in_database
 from streams import line_with, NTSC, worn_line
 from test_into import FORM
 
-RUNS, SEED = int(os.environ.get("STOPPED_RUNS", "60")), 20
+RUNS, SEED = int(os.environ.get("STOPPED_RUNS", "12")), 20
 COMMANDS = (
     "sides/side.tbc --json --html page.html --svg side.svg --map side.map", "scan --csv -j 2 --html pages sides",
-    "sides/side.tbc --into copy.json", "scan -j 4 --html pages --again sides",
+    "sides/side.tbc --into copy.json",
     "sides/side.tbc --meta side.db --into copy.db", "sides/side.tbc --document --recovered -o out",
     "join sides/side.tbc sides/other.tbc --html both.html")
 STATUSES = {signal.SIGINT: 130, signal.SIGTERM: 143}
 HEEDED = (*STATUSES, signal.SIGHUP)
-FIELDS = 240
+FIELDS = 80
 
 
 def heed_all():
@@ -152,16 +152,17 @@ def test_faults_that_nobody_thought_of(room, capsys, name, sides, read, fault):
     assert not [*pathlib.Path(room.folder).rglob("*.part")]
 
 
-# Has the first process whose file is complete, and hasn't got its name, wait.
+# Has the first process whose file is complete, and hasn't got its name, wait, and say which one it is.
 FIRST_WAITS = """
 import os, time
 synced = os.fsync
 
 def fsync(file):
     try:
-        os.close(os.open("waits", os.O_CREAT | os.O_EXCL))
+        waits = os.open("waits", os.O_CREAT | os.O_EXCL | os.O_WRONLY)
     except FileExistsError:
         return synced(file)
+    os.write(waits, b"%d" % os.getpid())
     time.sleep(600)
 
 os.fsync = fsync
@@ -198,20 +199,18 @@ def test_one_side_fails_and_the_others_are_read(room):
 def test_while_a_page_is_written(room, number, to_all, status, row, left):
     """By Ctrl-C, which all processes get, by a signal to the first one, or to the one that writes. None is left."""
     worn = line_with(0xF00001, NTSC, [(430, 441, False)])
-    room.add("1.tbc", [[worn, worn, worn]] * 80)
-    os.mkdir(room.named("pages"))
+    room.add("1.tbc", [[worn, worn, worn]] * 20)
     room.write("sitecustomize.py", FIRST_WAITS)
     paths = os.pathsep.join([room.folder, os.environ["PYTHONPATH"]])
     process = scanning(room, "--html pages 1.tbc", env={**buffered(), "PYTHONPATH": paths})
-    while not (room.names("pages") and os.path.exists(room.named("waits"))):
+    while not (os.path.exists(room.named("waits")) and room.read("waits")):
         assert process.poll() is None
-        time.sleep(0.005)
-    assert room.names("pages")[0].endswith(".part")
-    one, = children(process.pid)
+        time.sleep(0.01)
+    one = int(room.read("waits"))
+    assert [name[-5:] for name in room.names("pages")] == [".part", ".html"]  # and its name, which is kept
     (os.killpg if to_all else os.kill)(one if row else process.pid, number)
     room.ended(process, status, row)
-    assert b"spawn_main" not in command_of(one)
-    assert room.names("pages") == left
+    assert (command_of(one), room.names("pages")) == (b"", left)
 
 
 def ignores(task, tell):
@@ -248,6 +247,16 @@ def test_processes_that_stay_or_end():
     assert (ended[2:], children(os.getpid())) == ([3], [])
     with SideBySide(tidies, [0, signal.SIGHUP], 1, lambda task, process: None) as messages:
         assert list(messages) == [(0, []), (0, Ended(0)), (1, []), (1, Ended(1))]
+
+
+@pytest.mark.parametrize("before, after", ((1000, 262144), (300000, 300000)))
+def test_how_much_memory_a_process_may_take(before, after):
+    """With 256 MB, or as much as it began with, it goes on to its next job; with more it ends after a job."""
+    connection = mock.Mock(**{"recv.side_effect": [1, 2, EOFError]})
+    with mock.patch.object(processes, "signal"), mock.patch.object(
+            processes, "_peak", side_effect=[before, after, after + 1]):
+        processes._run(lambda task, tell: tell(task), connection)
+    assert [call.args[0] for call in connection.send.call_args_list] == [(False, 1), (True, None), (False, 2)]
 
 
 class Terminal(io.StringIO):
@@ -300,6 +309,7 @@ def test_whole_texts(clock):
         "1 of 3 sides, 55 %, 0:02 left", "2 of 3 sides, 75 %, 0:01 left", "3 of 3 sides, 100 %", "")),
     ([1], 0, [*9 * [(0, 0.5)], None, (0, 0.5)], Terminal, shown(
         "0 of 1 sides, 0 %", "", "0 of 1 sides, 50 %, 0:00 left", "")),
+    ([0], 1, [(0, 1)], Terminal, shown("0 of 1 sides, 0 %", "1 of 1 sides, 0 %", "")),
     ([], 1, [], Terminal, shown("")), ([1], 1, [(0, 0.5), None, (0, 1)], io.StringIO, "")))
 def test_a_line_for_all(clock, sizes, seconds, parts, errors, wanted):
     """What is written while parts of sides are reached, each so many seconds after the other; None empties the line."""
@@ -323,7 +333,7 @@ def steps(task):
 def test_sides_of_both_kinds_in_one_scan(room):
     """What part of a scan a side is goes by its fields, of which a document has three times as many here as a TBC
     file. It is done when it has been judged. A side whose page is kept is no part."""
-    for name, fields in (("1.tbc", "1..100"), ("2.tbc", "1..300"), ("3.tbc", "1..3")):
+    for name, fields in (("1.tbc", "1..30"), ("2.tbc", "1..90"), ("3.tbc", "1..3")):
         room.add(name, fields)
     room.write("2.vbi.json", room.extracted("2.tbc"))
     room.scan("--html pages 3.tbc")
@@ -331,5 +341,6 @@ def test_sides_of_both_kinds_in_one_scan(room):
         scan(["-j", "1", "--html", "pages", "1.tbc", "2.vbi.json", "3.tbc"], steps)
     (one, other), = progress.call_args.args
     assert 2 < other / one < 4.5
+    assert (one, other) == (os.path.getsize(room.named("1.tbc")) / 600000, len(room.read("2.vbi.json")) / 150)
     assert [call.args for call in progress().__enter__().reached.call_args_list] == [
         (side, part) for side in (0, 1) for part in (0.0, 0.99, 1)]
