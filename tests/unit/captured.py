@@ -14,11 +14,13 @@ from streams import NTSC, PAL
 SETUPS = {"NTSC": NTSC, "PAL": PAL}
 MARK = 0xA5A5  # before a field's place, on a line of its picture
 PLACE_LINE = 99
+FURTHER = {"syncConf": 90, "medianBurstIRE": 17.5, "decodeFaults": 3}  # of each field; padding has 0
 SCHEMA = """
     CREATE TABLE capture (capture_id INTEGER PRIMARY KEY, system TEXT, black_16b_ire INTEGER, white_16b_ire INTEGER,
         number_of_sequential_fields INTEGER, is_mapped INTEGER, git_branch TEXT);
     CREATE TABLE field_record (capture_id INTEGER NOT NULL, field_id INTEGER NOT NULL, audio_samples INTEGER,
         disk_loc REAL, efm_t_values INTEGER, field_phase_id INTEGER, is_first_field INTEGER, pad INTEGER,
+        sync_conf INTEGER, median_burst_ire REAL, decode_faults INTEGER,
         PRIMARY KEY (capture_id, field_id));
     CREATE TABLE vbi (capture_id INTEGER, field_id INTEGER, vbi0 INTEGER, vbi1 INTEGER, vbi2 INTEGER,
         PRIMARY KEY (capture_id, field_id));
@@ -98,7 +100,7 @@ def draw(path, disc, order, unread=(), worse=(), form="json", jitter=0, **more):
                 "audioSamples": samples, "diskLoc": place / 2 + 0.25, "dropOuts": {
                     "endx": [200], "fieldLine": [40], "startx": [101 if place in worse else 199]},
                 "efmTValues": values_of(place), "fieldPhaseID": place % PHASES[disc.system] + 1,
-                "isFirstField": place % 2 == 0, "seqNo": at + 1, "vbi": {"vbiData": disc.words[place]}})
+                "isFirstField": place % 2 == 0, "seqNo": at + 1, "vbi": {"vbiData": disc.words[place]}, **FURTHER})
     parameters = {"system": disc.system, "black16bIre": setup[1], "white16bIre": setup[2], "gitBranch": "dräwn",
                   "numberOfSequentialFields": len(order), "isMapped": False, **more}
     if form == "db":
@@ -115,8 +117,8 @@ def _draw_database(path, parameters, entries):
     database.execute("INSERT INTO capture VALUES (1, ?, ?, ?, ?, 0, ?)", [parameters[name] for name in (
         "system", "black16bIre", "white16bIre", "numberOfSequentialFields", "gitBranch")])
     for at, one in enumerate(entries):
-        database.execute("INSERT INTO field_record VALUES (1, ?, ?, ?, ?, ?, ?, 0)", [at] + [one[name] for name in (
-            "audioSamples", "diskLoc", "efmTValues", "fieldPhaseID", "isFirstField")])
+        database.execute("INSERT INTO field_record VALUES (1, ?, ?, ?, ?, ?, ?, 0, ?, ?, ?)", [at] + [
+            one[name] for name in ("audioSamples", "diskLoc", "efmTValues", "fieldPhaseID", "isFirstField", *FURTHER)])
         database.execute("INSERT INTO vbi VALUES (1, ?, ?, ?, ?)", [at] + one["vbi"]["vbiData"])
         database.execute("INSERT INTO drop_outs VALUES (1, ?, 40, ?, 200)", (at, one["dropOuts"]["startx"][0]))
     database.commit()
@@ -139,10 +141,12 @@ def places_in(path, disc, unread=()):
             is_padding = data == black
             assert is_padding or (mark, data[-2:]) == (MARK, b"ww")
             places.append(None if is_padding else place)
+            assert not is_padding or entry["audioSamples"] in (ticks(0), ticks(0) + 1)  # as many as keep in step
             sound = bytes(4) if is_padding else struct.pack("<HH", place, 0x1234)
             assert pcm.read(4 * entry["audioSamples"]) == sound * entry["audioSamples"]
             assert efm.read(entry["efmTValues"]) == (b"" if is_padding else bytes([place % 251]) * values_of(place))
             assert (entry["seqNo"], bool(entry.get("pad"))) == (number, is_padding)
+            assert {name: entry[name] for name in FURTHER} == (dict.fromkeys(FURTHER, 0) if is_padding else FURTHER)
             words = [0, 0, 0] if is_padding or place in unread else disc.words[place]
             assert entry["vbi"]["vbiData"] == words and (is_padding or entry["diskLoc"] == place / 2 + 0.25)
         assert [one.read(1) for one in (file, pcm, efm)] == [b"", b"", b""]
@@ -164,12 +168,12 @@ def entries_of(path):
     database = sqlite3.connect(path + ".db")
     rows = database.execute(
         "SELECT field_id + 1, audio_samples, efm_t_values, field_phase_id, is_first_field, pad, disk_loc, vbi0, vbi1, "
-        "vbi2, (SELECT count(*) FROM drop_outs WHERE drop_outs.field_id = one.field_id) FROM field_record AS one "
-        "JOIN vbi USING (capture_id, field_id) ORDER BY field_id").fetchall()
+        "vbi2, sync_conf, median_burst_ire, decode_faults, (SELECT count(*) FROM drop_outs WHERE drop_outs.field_id = "
+        "one.field_id) FROM field_record AS one JOIN vbi USING (capture_id, field_id) ORDER BY field_id").fetchall()
     assert all((row[-1] == 1) != bool(row[5]) for row in rows)
     assert database.execute("SELECT number_of_sequential_fields, git_branch, is_mapped FROM capture").fetchall() == [
         (len(rows), "dräwn", 1)]
     database.close()
     return [{"seqNo": row[0], "audioSamples": row[1], "efmTValues": row[2], "fieldPhaseID": row[3],
-             "isFirstField": bool(row[4]), "pad": bool(row[5]), "diskLoc": row[6], "vbi": {"vbiData": list(row[7:10])}}
-            for row in rows]
+             "isFirstField": bool(row[4]), "pad": bool(row[5]), "diskLoc": row[6], "vbi": {"vbiData": list(row[7:10])},
+             **dict(zip(FURTHER, row[10:13]))} for row in rows]

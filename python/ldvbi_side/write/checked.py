@@ -32,8 +32,9 @@ def _disorder(made: Plan) -> Optional[str]:
         if one.out != out or one.fields < 1:
             return "field %d is planned as field %d" % (out, one.out)
         out += one.fields
-        if one.first is None or one.last is None:
+        if one.first is None:
             continue
+        assert one.last is not None
         if last is not None and (one.first < last or one.last < one.first or not left_out.issuperset(
                 range(last + 1, one.first))):
             return "%s comes after %s" % (made.count_unit().text_of(one.first), made.count_unit().text_of(last))
@@ -67,8 +68,7 @@ class _Shown:
     def set_aside(self, made: Plan) -> None:
         """Leaves out the numbers of fields that aren't taken, of which it isn't sure that they are these numbers', or
         whose run another capture disputes."""
-        taken = {(one.source, field) for one in made.stretches if one.source is not None and one.field is not None
-                 for field in range(one.field, one.field + one.fields)}
+        taken = {(one.source, field) for one in made.stretches for field in one.taken()}
         captures = [source.capture for source in self.sources]
         disputed = disputed_in(disagreements_of(captures))
         read = [self.ranks.of(number) for places in self.places for number in places.values()]
@@ -83,9 +83,9 @@ class _Shown:
 
     def of(self, one: Stretch) -> Iterator[Tuple[int, int]]:
         """Each number that the fields of a stretch show, and that field of the output."""
-        if one.source is not None and one.field is not None and one.first is not None:
-            for step in range(one.fields):
-                number = self.places[one.source].get(one.field + step)
+        if one.source is not None and one.first is not None:
+            for step, field in enumerate(one.taken()):
+                number = self.places[one.source].get(field)
                 if number is not None:
                     yield number, one.out + step
 
@@ -110,9 +110,9 @@ def _stretches(made: Plan, shown: _Shown, begun: _Begun) -> List[ldvbi.Stretch]:
     found: List[ldvbi.Stretch] = []
     rank, before = begun.rank, None
     for one in made.stretches:
-        if one.first is not None and one.last is not None:
+        if one.first is not None:
             begins = shown.ranks.of(one.first)
-            if before is not None and before.last is not None and before.last >= one.first:  # goes on with its number
+            if before is not None and one.first in before.numbers():  # goes on with its number
                 if one.source is None:
                     begins += 1
                 elif before.source is not None:  # a swapped pair cuts it
@@ -149,7 +149,8 @@ def _text_of(found: Fault, made: Plan, shown: _Shown) -> str:
     if found.rule == Rule.misplaced:
         return _misplaced(one, made, shown) or "a number of fields %d to %d is out of its place" % (
             one.out, one.outs()[-1])
-    if found.rule == Rule.hidden and one.first is not None and one.last is not None:
+    if found.rule == Rule.hidden:
+        assert one.first is not None and one.last is not None
         return "%s to %s are padding, and a capture has one of them" % (text(one.first), text(one.last))
     return "fields %d to %d stand for more numbers than they have fields" % (one.out, one.outs()[-1])
 

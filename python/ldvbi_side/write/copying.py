@@ -26,9 +26,10 @@ def copy_samples(new: IO[bytes], made: Plan, inputs: Sequence[Input], black: int
         for one in made.stretches:
             for first in range(0, one.fields, most):
                 fields = min(one.fields - first, most)
-                if one.source is None or one.field is None:
+                if one.source is None:
                     new.writelines(itertools.repeat(blank, fields))
                 else:
+                    assert one.field is not None
                     copy_bytes(files[one.source], new, (one.field - 1 + first) * size, fields * size)
                 yield one.out - 1 + first + fields
 
@@ -56,13 +57,14 @@ def copy_sound(new: IO[bytes], made: Plan, inputs: Sequence[Input], pads: Sequen
     with contextlib.ExitStack() as stack:
         files = [stack.enter_context(open(base_of(one.path) + end, "rb")) for one in inputs]
         for place, one in enumerate(made.stretches):
-            if one.source is None or one.field is None:
+            if one.source is None:
                 older = _older(made.stretches, place, pads)
                 more = inputs[older[0]].sizes[end][older[1]:older[1] + one.fields] if older else array.array(
                     "I", map(silent, one.outs()))
                 sizes.extend(more)
                 new.write(bytes(sum(more)))
             else:
+                assert one.field is not None
                 first, last = one.field - 1, one.field - 1 + one.fields
                 begin = offsets[one.source][first]
                 copy_bytes(files[one.source], new, begin, offsets[one.source][last] - begin)
@@ -75,7 +77,8 @@ def _older(stretches: Sequence[Stretch], place: int, pads: Sequence[Pad]) -> Opt
     stretch before or after it; None if it is new."""
     count = stretches[place].fields
     for one, is_before in ((stretches[place - 1:place], True), (stretches[place + 1:place + 2], False)):
-        if one and one[0].source is not None and one[0].field is not None:
+        if one and one[0].source is not None:
+            assert one[0].field is not None
             begin = one[0].field - 1 + one[0].fields if is_before else one[0].field - 1 - count
             pad = pads[one[0].source]
             if pad and begin >= 0 and all(pad[begin:begin + count]) and len(pad) >= begin + count:

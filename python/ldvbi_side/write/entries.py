@@ -32,10 +32,11 @@ def write_entries(new: IO[bytes], made: Plan, sources: Sequence[Source], inputs:
         for kept in fields_of(made, sources):
             if kept.out > 1:
                 new.write(between)
-            if kept.source is None or kept.field is None:
+            if kept.source is None:
                 entry = _padding_entry(kept, sample, counts_at(kept, sizes))
                 new.write(json.dumps(entry, separators=(",", ":")).encode())
             else:
+                assert kept.field is not None
                 one, place = inputs[kept.source], 3 * kept.field - 3
                 text = _entry(files[kept.source], _entries_of(one), kept.field).decode()
                 words = one.words[place], one.words[place + 1], one.words[place + 2]

@@ -108,8 +108,7 @@ def _told(part: Part, unit: Unit) -> Told:
 def _ranges(made: Plan, captures: List[Capture], unit: Unit) -> List[Range]:
     """The stretches of the plan that have numbers and aren't padding."""
     left_out = set(made.left_out)
-    return [Range(unit.text_of(one.first), unit.text_of(one.last),
-                  sum(number not in left_out for number in range(one.first, one.last + 1)),
-                  captures[one.source].name, one.field, one.field + one.fields - 1, one.how)
-            for one in made.stretches if one.source is not None and one.field is not None
-            and one.first is not None and one.last is not None]
+    return [Range(unit.text_of(one.numbers()[0]), unit.text_of(one.numbers()[-1]),
+                  sum(number not in left_out for number in one.numbers()),
+                  captures[one.source].name, one.taken()[0], one.taken()[-1], one.how)
+            for one in made.stretches if one.source is not None and one.first is not None]

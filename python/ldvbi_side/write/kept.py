@@ -29,7 +29,8 @@ def fields_of(made: Plan, sources: Sequence[Source]) -> Iterator[Kept]:
         for step, out in enumerate(one.outs()):
             field = None if one.field is None else one.field + step
             is_first, phase = is_first, phase % phases + 1
-            if one.source is not None and field is not None:
+            if one.source is not None:
+                assert field is not None
                 facts = sources[one.source].facts
                 is_first = facts.first[field - 1] if facts.first else is_first
                 phase = facts.phase[field - 1] or phase if facts.phase else phase

@@ -23,8 +23,9 @@ class Layout:
     def _seams(self, source: int, field: int, out: int) -> Iterator[str]:
         """The kinds of seams that there were if the field stood there."""
         last = next((one for one in reversed(self.stretches) if one.source is not None), None)
-        if last is None or last.source is None or last.field is None:
+        if last is None:
             return
+        assert last.source is not None and last.field is not None
         ones, others = self._sources[source].facts, self._sources[last.source].facts
         other, apart = last.field + last.fields - 1, out - last.outs()[-1]
         if ones.first and others.first and (ones.first[field - 1] == others.first[other - 1]) != (apart % 2 == 0):

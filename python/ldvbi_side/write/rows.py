@@ -77,7 +77,8 @@ def _kept_rows(made: Plan, sources: Sequence[Source], inputs: Sequence[Input], s
     for kept in fields_of(made, sources):
         words: Sequence[int] = (0, 0, 0)
         field: Optional[int] = None
-        if kept.source is not None and kept.field is not None:
+        if kept.source is not None:
+            assert kept.field is not None
             words = inputs[kept.source].words[3 * kept.field - 3:3 * kept.field]
             field = kept.field - 1 + bases[kept.source]
         yield (kept.out - 1 + bases[0], kept.source, field, kept.is_first, kept.phase, *words,

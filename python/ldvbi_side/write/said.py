@@ -74,8 +74,7 @@ def written_lines(made: Plan, names: Sequence[str]) -> Iterator[str]:
                                              counted(changes, "change"))
     for place, name in enumerate(names):
         ones = [one for one in made.stretches if one.source == place]
-        numbers = len({number for one in ones if one.first is not None and one.last is not None
-                       for number in range(one.first, one.last + 1)})
+        numbers = len({number for one in ones for number in one.numbers()})
         yield "%s: %s, %s" % (name, counted(sum(one.fields for one in ones), "field"), counted(numbers, made.unit))
 
 

@@ -26,6 +26,17 @@ class Stretch(NamedTuple):
         """Its fields of the output."""
         return range(self.out, self.out + self.fields)
 
+    def taken(self) -> range:
+        """Its fields of the capture; none for padding."""
+        return range(0) if self.field is None else range(self.field, self.field + self.fields)
+
+    def numbers(self) -> range:
+        """Its numbers; none for lead-in and lead-out."""
+        if self.first is None:
+            return range(0)
+        assert self.last is not None
+        return range(self.first, self.last + 1)
+
 
 class Seam(NamedTuple):
     """Two fields of the output that can't follow each other on the disc: `parity` if both or neither begin a frame,
@@ -40,8 +51,9 @@ def seams_of(stretches: Sequence[Stretch], sources: Sequence[Source]) -> List[Se
     firsts: List[Tuple[int, int]] = []  # fields of the output, each with what is known of it
     phases: List[Tuple[int, int]] = []
     for one in stretches:
-        if one.source is None or one.field is None:
+        if one.source is None:
             continue
+        assert one.field is not None
         facts, begin = sources[one.source].facts, one.field - 1
         if facts.first:
             firsts += zip(one.outs(), map(int, facts.first[begin:begin + one.fields]))
