@@ -202,7 +202,7 @@ def test_what_was_written_last_is_copied_too(room):
      FORM.replace("vbi1 INTEGER NOT NULL", "b INTEGER"), 0, ()),
     (GAPS, FORM, 12, ["UPDATE field_record SET field_id = 20 WHERE field_id = 5"]),
     (GAPS, FORM, 11, ["INSERT INTO field_record VALUES (5, 5, 0, 1, 0)"]),
-    (GAPS, "CREATE TABLE vbi (field_id INT, vbi0, vbi1, vbi2); INSERT INTO vbi VALUES (NULL, 1, 2, 3)", 0, ()),
+    (GAPS, "CREATE TABLE vbi (field_id INT, vbi0, vbi1, vbi2); INSERT INTO vbi VALUES (NULL, 1, 2, 3), (0, 1, 2, 3)", 0, ()),
     ("SQLite can't copy it: no such column: capture_id", FORM.replace("(capture_id", "(a", 1), 9, ()),
     *(("its trigger one of the table %s may write something else" % table, FORM, 0, [TRIGGER % table])
       for table in ("vbi", "drop_outs")),
@@ -343,7 +343,10 @@ REFUSED_RUNS = """
     side.vbi.json | side.vbi.json: no metadata is looked for beside a name that doesn't end with .tbc; give the metadata
          to copy by --meta
     side.vbi.json --meta 12.json --recovered | side.vbi.json is a document, and --recovered is for a TBC file
-    side.tbc --meta 12.db --into used | used-journal is there: used is in use, or was left unfinished
+    side.tbc --meta 12.db --into j | j-journal is there: j is in use, or was left unfinished
+    side.tbc --meta 12.db --into w | w-wal is there: w is in use, or was left unfinished
+    side.tbc --meta 12.db --into s | s-shm is there: s is in use, or was left unfinished
+    side.tbc --meta 12.db --into 12.db-wal | 12.db-wal would be written in the place of an input or of another output
     side.tbc --meta 12.db --into /dev/null | /dev/null is no file
     side.tbc --meta 12.db --into a.json | 12.db is a database, and the name of a.json ends like that of a JSON document
     side.tbc --meta 13.json --into a.db | 13.json is a JSON document, and the name of a.db ends like that of a database
@@ -420,7 +423,8 @@ def test_refused_runs(drawn):
     drawn.write("broken.json", b"{")
     for count in (11, 12):
         make(drawn, count=count, name="%d.db" % count)
-    drawn.write("used-journal", b"")
+    for name in ("j-journal", "w-wal", "s-shm"):
+        drawn.write(name, b"")
     before = drawn.files()
     for words, text in cells_of(REFUSED_RUNS):
         drawn.refused(text, words + " --into copy" * ("--into" not in words))

@@ -11,6 +11,7 @@ from captured import Disc, draw, entries_of, going_back, losing, places_in, stan
 from discs import LEAD_IN, LEAD_OUT, pictures, times
 from ldvbi_side.command import write as command
 from ldvbi_side.write import copying
+from ldvbi_side.write.stretches import Stretch
 import pytest
 from room import IN_PLACE, in_database
 
@@ -62,18 +63,18 @@ CASES = {
     "times": (TIMES, [(losing(TIMES.order, (16, 6)), {})], range(16, 22))}
 
 
-def drawn(room, name, form="json"):
+def drawn(room, name, form="json", **known):
     """The captures of a case; the answer is the words that write them."""
     one, captures, _ = CASES[name]
     for letter, (order, more) in zip("abc", captures):
-        draw(room.named(letter + ".tbc"), one, order, form=form, **more)
+        draw(room.named(letter + ".tbc"), one, order, form=form, **more, **known)
     return "write out.tbc " + " ".join(letter + ".tbc" for letter in "abc"[:len(captures)])
 
 AMID = ("a field twice", "unread at the ends")
 
 
-@pytest.mark.parametrize("form", ["json", "db"])
-@pytest.mark.parametrize("name", CASES)
+@pytest.mark.parametrize("name, form", [*((name, "json") for name in CASES), *((name, "db") for name in (
+    "pictures lost", "each lacks others", "a second field", "second fields", "film, filled", "times"))])
 def test_what_is_written(room, name, form):
     """Each field of the disc's numbers stands there once, in order, and padding only where no capture has one. The
     output is judged in the same way by itself."""
@@ -172,13 +173,12 @@ def test_options(room):
     assert room.run_words("write o.tbc a.tbc --meta a.tbc.json --recovered")[0] == 1
 
 
-@pytest.mark.parametrize("form", ["json", "db"])
-def test_two_worn_captures_make_one_whole_side(room, form):
+def test_two_worn_captures_make_one_whole_side(room):
     """One lost fields within a picture, and has some unread; the other one went back, and lost others. Both have jumps
     within frames, so that pictures beside them are unsure in one, and sure in the other."""
     orders = [lost(VIDEO, (5, 1, 4), (18, 0, 3)), going_back(lost(VIDEO, (10, 1, 7)), VIDEO.at[21], VIDEO.at[15] + 1)]
     for letter, order, more in zip("ab", orders, ({"unread": range(VIDEO.at[12], VIDEO.at[13])}, {"jitter": 1})):
-        draw(room.named(letter + ".tbc"), VIDEO, order, form=form, **more)
+        draw(room.named(letter + ".tbc"), VIDEO, order, **more)
     joined = room.run_words("join a.tbc b.tbc --ranges")[1].split("\n")[1:-1]
     status, text, said = room.run_words("write out.tbc a.tbc b.tbc --ends")
     assert (status, text.split("\n")[0], said) == (0, "whole: yes", "")
@@ -245,65 +245,85 @@ def test_what_is_read_otherwise_is_said(room, monkeypatch):
 
 # ---- Refusals, after which nothing is left
 
-def broken(name, change):
-    """Changes the first capture's metadata."""
-    def breaks(room):
-        document = json.loads(room.text(name))
+def changed(change):
+    """A change of a document."""
+    def made(data):
+        document = json.loads(data)
         change(document)
-        room.write(name, json.dumps(document))
-    return breaks
+        return json.dumps(document).encode()
+    return made
 
 
-def appended(name, data):
-    return lambda room: room.write(name, room.read(name) + data)
+def other(name):
+    """Another value of a member of the parameters."""
+    return changed(lambda one: one["videoParameters"].update({name: 51000}))
 
 
-REFUSED = {
-    "another system": ("", lambda room: draw(room.named("b.tbc"), PAL, PAL.order),
-                       "system of a.tbc is NTSC, of b.tbc PAL: decode both in one way"),
-    "other levels": ("", broken("b.tbc.json", lambda one: one["videoParameters"].update(white16bIre=51000)),
-                     "white16bIre of a.tbc is 51200, of b.tbc 51000: decode both in one way"),
-    "fewer fields": ("", broken("b.tbc.json", lambda one: one["fields"].pop()),
-                     "b.tbc has 55 whole fields, and b.tbc.json has 54"),
-    "a field of another number": ("", broken("b.tbc.json", lambda one: one["fields"][3].update(seqNo=9)),
-                                  "b.tbc.json: field 4: its seqNo is 9"),
-    "cut": ("", appended("b.tbc", b"12"), "b.tbc: its last field is cut: 2 bytes; head -c makes it whole"),
-    "other sound": ("", appended("b.pcm", b"1234"),
-                    "b.pcm has 161896 bytes, and its fields' audioSamples come to 161892"),
-    "no counts of sound": ("", broken("b.tbc.json", lambda one: one["fields"][2].pop("efmTValues")),
-                           "b.efm has 2413 bytes, and its fields' efmTValues come to no sum"),
-    "no metadata": ("", lambda room: os.unlink(room.named("b.tbc.json")),
-                    "b.tbc: no b.tbc.json or b.tbc.db beside it"),
-    "an input": (" b.tbc", lambda room: os.link(room.named("a.tbc"), room.named("out.tbc")), IN_PLACE % "out.tbc"),
-    "older sound": ("", lambda room: (os.unlink(room.named("b.pcm")), room.write("out.pcm", "old")),
-                    "out.pcm is there, and would be taken for a part of what is written: remove it"),
-    "a number of another kind": (" --from 0:00:01.00", lambda room: None, "--from 0:00:01.00: a.tbc has pictures"),
-    "too much padding": (" --from 0 --most-padding 1", lambda room: None,
-                         "2 of 50 fields would be padding; see --most-padding"),
-    "a folder": ("", lambda room: os.mkdir(room.named("out.tbc")), "out.tbc is no file"),
-}
+PARAMETERS = {"sampleRate": 14.5, "blanking16bIre": 16000, "activeVideoStart": 134, "activeVideoEnd": 894,
+              "colourBurstStart": 74, "colourBurstEnd": 110, "isSubcarrierLocked": True}
+# The files that are changed, or made, each with a function of its bytes, or without one if it is removed; more words;
+# and why what is asked of two captures is refused then
+REFUSED = (
+    ({"b.tbc.json": changed(lambda one: one["videoParameters"].update(black16bIre=7))}, "",
+     "black16bIre of a.tbc is 16384, of b.tbc 7: decode both in one way"),
+    *(({"b.tbc.json": other(name)}, "", "%s of a.tbc is %s, of b.tbc 51000: decode both in one way" % (name, value))
+      for name, value in {**PARAMETERS, "white16bIre": 51200}.items()),
+    ({"b.tbc.json": changed(lambda one: one["fields"].pop())}, "", "b.tbc has 55 whole fields, and b.tbc.json has 54"),
+    ({"b.tbc.json": changed(lambda one: one["fields"][3].update(seqNo=9))}, "",
+     "b.tbc.json: field 4: its seqNo is 9"),
+    ({"b.tbc": lambda data: data + b"12"}, "", "b.tbc: its last field is cut: 2 bytes; head -c makes it whole"),
+    ({"b.pcm": lambda data: data + b"1234"}, "",
+     "b.pcm has 161896 bytes, and its fields' audioSamples come to 161892"),
+    ({"b.tbc.json": changed(lambda one: one["fields"][2].pop("efmTValues"))}, "",
+     "b.efm has 2413 bytes, and its fields' efmTValues come to no sum"),
+    ({"b.tbc.json": None}, "", "b.tbc: no b.tbc.json or b.tbc.db beside it"),
+    *(({one: None, name: lambda _: b"old"}, "", name + " is there, and would be taken for a part of what is written: "
+       "remove it") for one, name in (("b.pcm", "out.pcm"), ("b.efm", "out.efm"), ("no", "out.tbc.db"))),
+    ({}, "--from 0:00:01.00", "--from 0:00:01.00: a.tbc has pictures"),
+    ({}, "--from 0:01", "--from 0:01: a.tbc has pictures"),
+    ({}, "--from 0 --most-padding 1", "2 of 50 fields would be padding; see --most-padding"),
+    ({}, "p.tbc", "system of a.tbc is NTSC, of p.tbc PAL: decode both in one way"),
+    ({}, "d.tbc", "metadata of one form is needed: a.tbc.json, b.tbc.json, d.tbc.db"),
+    ({}, "side.vbi.json", "side.vbi.json is a document: fields are taken from TBC files"))
 
 
-@pytest.mark.parametrize("name", REFUSED)
-def test_refused(room, name):
-    more, prepare, text = REFUSED[name]
-    words = drawn(room, "each lacks others")
-    prepare(room)
-    before = room.files()
-    room.refused(text, words + more)
-    assert room.files() == before
-
-
-def test_refused_forms(room):
-    draw(room.named("a.tbc"), VIDEO, VIDEO.order)
-    draw(room.named("b.tbc"), VIDEO, VIDEO.order, form="db")
-    room.refused("metadata of one form is needed: a.tbc.json, b.tbc.db", "write out.tbc a.tbc b.tbc")
+def test_refused(room):
+    words = drawn(room, "each lacks others", **PARAMETERS)
+    draw(room.named("p.tbc"), PAL, PAL.order)
+    draw(room.named("d.tbc"), VIDEO, VIDEO.order, form="db")
     room.write("side.vbi.json", '{"version":2}')
-    room.refused("side.vbi.json is a document: fields are taken from TBC files", "write out.tbc side.vbi.json")
+    for files, more, text in REFUSED:
+        before = {name: room.read(name) for name in files if name in room.names()}
+        for name, change in files.items():
+            if change:
+                room.write(name, change(before.get(name)))
+            elif name in before:
+                os.unlink(room.named(name))
+        names = room.names()
+        room.refused(text, words + " " + more if more else words)
+        assert room.names() == names
+        for name in files:
+            if name in before:
+                room.write(name, before[name])
+            elif name in names:
+                os.unlink(room.named(name))
+    room.write("b.tbc.json", changed(lambda one: one["videoParameters"].pop("sampleRate"))(room.read("b.tbc.json")))
+    os.link(room.named("a.tbc"), room.named("out.tbc"))
+    room.refused(IN_PLACE % "out.tbc", words + " b.tbc")
+    os.unlink(room.named("out.tbc"))
+    os.mkdir(room.named("out.tbc"))
+    room.refused("out.tbc is no file", words)
+    assert room.names("out.tbc") == [] and not [name for name in room.names() if "part" in name]
+
+
+def test_refused_databases_and_words(room):
+    draw(room.named("b.tbc"), VIDEO, VIDEO.order, form="db")
     for statements, text in (
             (["CREATE TRIGGER more AFTER INSERT ON vbi BEGIN SELECT 1; END"],
              "its trigger more of the table vbi may write something else"),
             (["DROP TRIGGER more", "UPDATE field_record SET field_id = 99 WHERE field_id = 3"],
+             "the fields' numbers, field_id, leave some out, or have one twice"),
+            (["UPDATE field_record SET field_id = 4, capture_id = 2 WHERE field_id = 99"],
              "the fields' numbers, field_id, leave some out, or have one twice"),
             (["ALTER TABLE field_record RENAME COLUMN is_first_field TO other"],
              "no table, or more than one, has the fields"),
@@ -316,6 +336,21 @@ def test_refused_forms(room):
                         ("out.tbc a.tbc --change x", "argument --change: no number: 'x'")):
         status, printed, said = room.run_words("write " + words)
         assert (status, printed, said.split(": error: ")[1]) == (2, "", text + "\n")
+
+
+OLDER = (  # what is taken before and after two fields of padding, which of its fields are padding there, and the first
+    ((1, 2), (5, 2), "--pp--", (0, 2)), ((1, 2), (5, 2), "--p---", None), ((1, 2), (5, 2), "------", None),
+    (None, (3, 2), "pp--", (0, 0)), (None, (2, 2), "pp--", None), (None, (3, 2), None, None),
+    ((1, 2), None, "--pp", (0, 2)), ((1, 2), None, "--p", None), ((1, 2), None, "p-pp", (0, 2)),
+    ((1, 2), (9, 2), "--pp--pp--", (0, 2)), ((1, 2), (9, 2), "------pp--", (0, 6)))
+
+
+@pytest.mark.parametrize("before, after, pads, wanted", OLDER)
+def test_padding_that_is_padding_already(before, after, pads, wanted):
+    parts = [one and Stretch(1, one[1], 1, 1, 0, one[0], "whole") for one in (before, after)]
+    found = [one for one in (parts[0], Stretch(1, 2, 1, 1, None, None, "padding"), parts[1]) if one]
+    pad = pads and [one == "p" for one in pads]
+    assert copying._older(found, int(before is not None), [pad]) == wanted
 
 
 def test_a_full_disk(room, monkeypatch):

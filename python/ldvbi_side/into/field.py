@@ -90,7 +90,7 @@ def _list_like(old: str) -> Optional[str]:
 def value_place(text: str, begin: int, end: int, name: str) -> Tuple[int, int]:
     """Where the value of the member with this name begins and ends, which the object that stands there has."""
     quoted = '"%s"' % name
-    if text.count(quoted, begin, end) == 1 and text.find("\\", begin, end) < 0:
+    if "\\" not in text and text.count(quoted, begin, end) == 1:
         # nothing else can be the name, or have it written in another way
         colon = _COLON.match(text, text.index(quoted, begin, end) + len(quoted))
         assert colon is not None

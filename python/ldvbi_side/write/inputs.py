@@ -10,8 +10,8 @@ from ..side import RECOVERED, Side
 from .told import SOUNDS, Entries, Told, base_of, state_of
 
 # The members of videoParameters in which all captures have to be alike, as far as they have them
-ALIKE = ("system", "fieldWidth", "fieldHeight", "sampleRate", "black16bIre", "white16bIre", "blanking16bIre",
-         "activeVideoStart", "activeVideoEnd", "colourBurstStart", "colourBurstEnd", "isSubcarrierLocked")
+ALIKE = ("system", "sampleRate", "black16bIre", "white16bIre", "blanking16bIre", "activeVideoStart", "activeVideoEnd",
+         "colourBurstStart", "colourBurstEnd", "isSubcarrierLocked")
 State = Tuple[int, int, int, int]
 
 
