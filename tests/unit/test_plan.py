@@ -47,8 +47,6 @@ PLANS = """
     none has three | NTSC f1 1..20 26..40 | 1-19 a4, 20 a42, 21-25 x10, 26-39 a44, 40 a72
     only the frames and the colour say how many | lost=51..60 NTSC f1..40
         | 1-19 a1, 20 a49, 21-24 x10, 25-40 a51 | unsure=20
-    neither two fields nor three fit: two more do | lost=51..55 NTSC f1..21 Bx2 f22..40
-        | 1-19 a1, 20 a49, 21 x5, 22-40 a51
     film and its lead-out | NTSC L f1..5 O & ends=1 | 1-5 a2, None a15
     padding of an older output ends what goes on | lost= pad=11,12 1..5 Bx2 7..20
         | 1-4 a1, 5 a9, 6 x2, 7-20 a13
@@ -57,9 +55,8 @@ PLANS = """
     the clock may leave 20 out: the fields go on | lost= NTSC t0..40!20 | 0:00:00.00-0:00:01.10 a1 | left_out=20 padded=
     no clock leaves out three | lost=41..46 NTSC t0..40 | 0:00:00.00-0:00:00.18 a1, 0:00:00.19 a39,
         0:00:00.20-0:00:00.22 x6, 0:00:00.23-0:00:01.10 a41 | padded=20,21,22
-    of two times one is left out, as the colour says | lost=41,42 NTSC t0..40!20 | 0:00:00.00-0:00:00.18 a1,
-        0:00:00.19 a39, 0:00:00.20-0:00:00.21 x2, 0:00:00.22-0:00:01.10 a41
-    of pictures none is | lost=41,42 NTSC 1..20 22..40 | 1-19 a1, 20 a39, 21-22 x4, 23-40 a41
+    of two times the colour says that one is left out, but not which | lost=41,42 NTSC t0..40!20
+        | 0:00:00.00-0:00:00.18 a1, 0:00:00.19 a39, 0:00:00.20-0:00:00.21 x4, 0:00:00.22-0:00:01.10 a41
     inside a loss | NTSC t0..4499!7%1000 -1991:2028 | 0:00:00.00-0:00:33.04 a1, 0:00:33.05 a1989,
         0:00:33.06-0:00:33.25 x38, 0:00:33.26-0:02:29.28 a1991, 0:02:29.29 a8951
         | left_out=7,1007,2007,3007,4007 padding=38

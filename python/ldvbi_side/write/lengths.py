@@ -14,9 +14,7 @@ class Lengths:
     its cadence. A number of video has two."""
 
     def __init__(self, captures: Sequence[Followed]) -> None:
-        answer = captures[0].source.answer
         self.is_film = any(one.source.answer.pace == "film" for one in captures)
-        self.has_clock = (answer.system, answer.unit) == ("NTSC", "time")
         self._known: Dict[int, int] = {}
         for capture in captures if self.is_film else ():
             self._add(capture)
@@ -45,12 +43,11 @@ class Lengths:
         return self.is_film and block.ranks == 1 and fields < self._known.get(block.rank, 2)
 
     def between(self, first: int, end: int, fits: Callable[[int], bool]) -> int:
-        """How many fields the numbers from the first one to before the end have, none of which is shown: of a disc
-        whose clock isn't known, fewer if only so `fits` what comes after; of film, the nearest count to the cadence on
-        either side that fits."""
+        """How many fields the numbers from the first one to before the end have, none of which is shown: of film, the
+        nearest count to the cadence on either side that `fits` what comes after."""
         count = end - first
         if not self.is_film:
-            return 2 * count - 2 * (self.has_clock and count > 1 and not fits(2 * count) and fits(2 * count - 2))
+            return 2 * count
         variants = [self._variant(first, -1), self._variant(end - 1, 1)]
         guesses = [Pace("film").between(first, count, one, one) for one in variants if one is not None]
         guesses = guesses or [5 * count // 2]
