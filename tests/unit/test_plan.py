@@ -40,6 +40,14 @@ PLANS = """
     back | 1..30 11..40 ; 1..20 | 1-10 a1, 11-40 a61 || a still | 1..20 21x4 22..40 ; 1..10 | 1-20 a1, 21-40 a47
     minutes | m59x3000 ; m58..59x3000 | 0:58-0:59 b1 || one in part | m58x3000 m59x10 ; m59x3000 | 0:58 a1, 0:59 b1
     minutes that none has | m57x3000 ; m59x3000 | 0:57 a1, 0:58 x3000, 0:59 b1
+    a minute that isn't shorter than any | NTSC m57x3600 m58x3590 m59x3600 | 0:57-0:59 a1 | unsure=
+    one that is | NTSC m57x3600 m58x3589 m59x3600 | 0:57 a1, 0:58 a3601, 0:59 a7190 | unsure=58
+    whole frames are lost, so that the last picture is sure | LACKS | 1-9 a1, 10 a19, 11-12 x4, 13-40 a21 | unsure=10
+    frames are lost in part | lost=22..25 1..40 | 1-11 a1, 11-13 x4, 13 a22, 14-39 a23, 40 a75
+        | unsure=13,40 partial=11,13 padded=12
+    of film, in part | lost=52..55 NTSC f1..40 | 1-21 a1, 21-22 x4, 23-39 a52, 40 a95 | unsure=40 partial=21 padded=22
+    of film, whole | lost=51..55 NTSC f1..40 | 1-19 a1, 20 a49, 21-22 x5, 23-40 a51 | unsure=20 padded=21,22
+    another one has what is lost | lost=39..42 NTSC 1..40 ; lost= NTSC 15..30 | 1-14 a1, 15-21 b1, 22-40 a39 | unsure=
     film, cut | CUT ; NTSC f1..120 | 1-120 b1 || a chapter's field | 1..40 41=-/c0/c0 ; 1..3 | 1-40 a1
     film, of which pictures are lost: odd ones have three | NTSC f1..20 f26..40
         | 1-19 a1, 20 a49, 21-25 x13, 26-39 a51, 40 a86
