@@ -19,7 +19,7 @@ from ldvbi_side.write.kept import fields_of
 from ldvbi_side.write.plan import Plan, plan, Wanted
 from ldvbi_side.write.said import outcome_of, rows_of, seam_lines, written_lines
 from ldvbi_side.write.sources import Facts, PHASES, Source
-from ldvbi_side.write.stretches import Seam, seams_of, Stretch
+from ldvbi_side.write.stretches import Seam, seams_of, Stretch, UNSURE
 import pytest
 from room import reason
 from simulate import captures
@@ -33,7 +33,7 @@ PLANS = """
     as long as what is around it | 1..10 151..170 31..40 ; 1..40 | 1-40 b1
     its numbers are elsewhere | DETOUR ; 1..100 ; 121..180 | 1-100 b1, 101-120 x40, 121-180 c1
     lost, and back by as much: no detour | 1 4..40 39..60 ; 1..20 | 1-3 b1, 4-38 a3, 39-59 a77,
-        60 a119
+        60? a119
     both fields have numbers | b1..20 39=B Bx4 ; b1 | 1-20 a1 || and others go on | b1..10 ; b1..20 | 1-20 b1
     a swapped pair | 1..100 ~41 ; 1..10 | 1-20 a1, 21 a42, 21 a41, 22-100 a43
     each has lost others | 1..40 -61:62 ; 1..40 -41:46 | 1-23 a1, 24-40 b41
@@ -41,34 +41,34 @@ PLANS = """
     minutes | m59x3000 ; m58..59x3000 | 0:58-0:59 b1 || one in part | m58x3000 m59x10 ; m59x3000 | 0:58 a1, 0:59 b1
     minutes that none has | m57x3000 ; m59x3000 | 0:57 a1, 0:58 x3000, 0:59 b1
     a minute that isn't shorter than any | NTSC m57x3600 m58x3590 m59x3600 | 0:57-0:59 a1 | unsure=
-    one that is | NTSC m57x3600 m58x3589 m59x3600 | 0:57 a1, 0:58 a3601, 0:59 a7190 | unsure=58
-    whole frames are lost, so that the last picture is sure | LACKS | 1-9 a1, 10 a19, 11-12 x4, 13-40 a21 | unsure=10
-    frames are lost in part | lost=22..25 1..40 | 1-11 a1, 11-13 x4, 13 a22, 14-39 a23, 40 a75
+    one that is | NTSC m57x3600 m58x3589 m59x3600 | 0:57 a1, 0:58? a3601, 0:59 a7190 | unsure=58
+    whole frames are lost, so that the last picture is sure | LACKS | 1-9 a1, 10? a19, 11-12 x4, 13-40 a21 | unsure=10
+    frames are lost in part | lost=22..25 1..40 | 1-11 a1, 11-13 x4, 13? a22, 14-39 a23, 40? a75
         | unsure=13,40 partial=11,13 padded=12
-    of film, in part | lost=52..55 NTSC f1..40 | 1-21 a1, 21-22 x4, 23-39 a52, 40 a95 | unsure=40 partial=21 padded=22
-    of film, whole | lost=51..55 NTSC f1..40 | 1-19 a1, 20 a49, 21-22 x5, 23-40 a51 | unsure=20 padded=21,22
+    of film, in part | lost=52..55 NTSC f1..40 | 1-21 a1, 21-22 x4, 23-39 a52, 40? a95 | unsure=40 partial=21 padded=22
+    of film, whole | lost=51..55 NTSC f1..40 | 1-19 a1, 20? a49, 21-22 x5, 23-40 a51 | unsure=20 padded=21,22
     another one has what is lost | lost=39..42 NTSC 1..40 ; lost= NTSC 15..30 | 1-14 a1, 15-21 b1, 22-40 a39 | unsure=
     film, cut | CUT ; NTSC f1..120 | 1-120 b1 || a chapter's field | 1..40 41=-/c0/c0 ; 1..3 | 1-40 a1
     film, of which pictures are lost: odd ones have three | NTSC f1..20 f26..40
-        | 1-19 a1, 20 a49, 21-25 x13, 26-39 a51, 40 a86
-    even ones have three | NTSC e1..20 e26..40 | 1-19 a1, 20 a48, 21-25 x12, 26-39 a51, 40 a86
-    none has three | NTSC f1 1..20 26..40 | 1-19 a4, 20 a42, 21-25 x10, 26-39 a44, 40 a72
+        | 1-19 a1, 20? a49, 21-25 x13, 26-39 a51, 40? a86
+    even ones have three | NTSC e1..20 e26..40 | 1-19 a1, 20? a48, 21-25 x12, 26-39 a51, 40? a86
+    none has three | NTSC f1 1..20 26..40 | 1-19 a4, 20? a42, 21-25 x10, 26-39 a44, 40? a72
     only the frames and the colour say how many | lost=51..60 NTSC f1..40
-        | 1-19 a1, 20 a49, 21-24 x10, 25-40 a51 | unsure=20
+        | 1-19 a1, 20? a49, 21-24 x10, 25-40 a51 | unsure=20
     film and its lead-out | NTSC L f1..5 O & ends=1 | 1-5 a2, None a15
     padding of an older output ends what goes on | lost= pad=11,12 1..5 Bx2 7..20
-        | 1-4 a1, 5 a9, 6 x2, 7-20 a13
-    set aside, below all others | 30..60 21=-/#7/#7 | 30-38 a1, 39-40 a19, 41-60 a23
+        | 1-4 a1, 5? a9, 6 x2, 7-20 a13
+    set aside, below all others | 30..60 21=-/#7/#7 | 30-38 a1, 39-40? a19, 41-60 a23
     lead-in and lead-out | SIDE | 1-20 a2 || the first one unread | L 1..20 O 2=B | 1-20 a2
     the clock may leave 20 out: the fields go on | lost= NTSC t0..40!20 | 0:00:00.00-0:00:01.10 a1 | left_out=20 padded=
-    no clock leaves out three | lost=41..46 NTSC t0..40 | 0:00:00.00-0:00:00.18 a1, 0:00:00.19 a39,
+    no clock leaves out three | lost=41..46 NTSC t0..40 | 0:00:00.00-0:00:00.18 a1, 0:00:00.19? a39,
         0:00:00.20-0:00:00.22 x6, 0:00:00.23-0:00:01.10 a41 | padded=20,21,22
     of two times the colour says that one is left out, but not which | lost=41,42 NTSC t0..40!20
-        | 0:00:00.00-0:00:00.18 a1, 0:00:00.19 a39, 0:00:00.20-0:00:00.21 x4, 0:00:00.22-0:00:01.10 a41
-    inside a loss | NTSC t0..4499!7%1000 -1991:2028 | 0:00:00.00-0:00:33.04 a1, 0:00:33.05 a1989,
-        0:00:33.06-0:00:33.25 x38, 0:00:33.26-0:02:29.28 a1991, 0:02:29.29 a8951
+        | 0:00:00.00-0:00:00.18 a1, 0:00:00.19? a39, 0:00:00.20-0:00:00.21 x4, 0:00:00.22-0:00:01.10 a41
+    inside a loss | NTSC t0..4499!7%1000 -1991:2028 | 0:00:00.00-0:00:33.04 a1, 0:00:33.05? a1989,
+        0:00:33.06-0:00:33.25 x38, 0:00:33.26-0:02:29.28 a1991, 0:02:29.29? a8951
         | left_out=7,1007,2007,3007,4007 padding=38
-    numbers on both fields go on: of 9 the second one is lost | lost=18 NTSC b1..20 | 1-8 a1, 9 a17, 9 x1, 10-20 a18
+    numbers on both fields go on: of 9 the second one is lost | lost=18 NTSC b1..20 | 1-8 a1, 9? a17, 9 x1, 10-20 a18
         | fields=40 padding=1 partial=9 unsure=9
     film, from 1 on | NTSC f3..20 & start=1 | 1-2 x5, 3-20 a1
     no picture is sure: each was played at another speed | 1..99/2 & sure=1 | no number is sure enough to be taken
@@ -87,10 +87,10 @@ PLANS = """
     both formats | 1..20 t0..4 | a has codes of CAV and of CLV || two systems | 1..20 ; NTSC 1..20
         | a has pictures of PAL, b has pictures of NTSC: two discs?
     a thousand fields aren't too many | 1..20 521..540 & most_padding=
-        | 1-19 a1, 20 a39, 21-520 x1000, 521-539 a41, 540 a79
+        | 1-19 a1, 20? a39, 21-520 x1000, 521-539 a41, 540? a79
     more are | 1..20 522..541 & most_padding= | 1002 of 1082 fields would be padding; see --most-padding
-    a tenth isn't | 1..4500 5051..5500 & most_padding= | 1-4499 a1, 4500 a8999, 4501-5050 x1100, 5051-5499 a9001,
-        5500 a9899
+    a tenth isn't | 1..4500 5051..5500 & most_padding= | 1-4499 a1, 4500? a8999, 4501-5050 x1100, 5051-5499 a9001,
+        5500? a9899
     more is | 1..4499 5050..5499 ; 1 & most_padding=1099 | 1100 of 10998 fields would be padding; see --most-padding
 """
 OPTION = re.compile(r"(lost|pad|dropouts)=(\S*) ")
@@ -123,13 +123,14 @@ def source(text, name="a"):
 
 
 def stretches_text(found):
-    """A plan as a text."""
+    """A plan as a text, in which a question mark stands after what isn't sure."""
     texts = []
     for one in found.stretches:
         first, last = (number if number is None else found.count_unit().text_of(number)
                        for number in (one.first, one.last))
         where = "x%d" % one.fields if one.source is None else "%s%d" % ("abc"[one.source], one.field)
-        texts.append("%s %s" % (first if first == last else "%s-%s" % (first, last), where))
+        numbers = first if first == last else "%s-%s" % (first, last)
+        texts.append("%s%s %s" % (numbers, "?" * (one.how == UNSURE), where))
     return ", ".join(texts)
 
 
@@ -240,9 +241,9 @@ def test_no_field_is_another_pictures_unsaid(more):
 
 @pytest.mark.parametrize("seed", range(12))
 def test_random_sets(seed):
-    """Two to four captures of one drawn disc with losses, jumps and damage of their own, beside the truth: all fields of
-    the disc that a capture has stand in the disc's order, once, and as far apart as there, but for some that are unsure.
-    What the judge finds in such an output is as planned."""
+    """Two to four captures of one drawn disc with losses, jumps and damage of their own, beside the truth: all fields
+    of the disc that a capture has stand in the disc's order, once, and as far apart as there, but for some that are
+    unsure. What the judge finds in such an output is as planned."""
     ones = captures(seed, 2 + seed % 3)
     if ones[0].kind == "clv-minutes":
         return
