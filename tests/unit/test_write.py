@@ -4,13 +4,13 @@ is refused, and what is left then."""
 import contextlib
 import json
 import os
-import shutil
 import signal
 
 from captured import Disc, draw, entries_of, going_back, losing, places_in, standing, swapping
 from discs import LEAD_IN, LEAD_OUT, pictures, times
+from ldvbi.metadata import Metadata
 from ldvbi_side.command import write as command
-from ldvbi_side.write import copying
+from ldvbi_side.write import copying, told
 from ldvbi_side.write.stretches import Stretch
 import pytest
 from room import IN_PLACE, in_database
@@ -206,15 +206,45 @@ def test_sound_that_one_lacks_is_left_out(room):
     assert "out.pcm" not in room.names() and "out.efm" in room.names()
 
 
-def test_dropouts_of_another_form(room):
-    """They count for none."""
-    words = drawn(room, "worse")
-    document = json.loads(room.text("b.tbc.json"))
-    for field in document["fields"]:
-        field["dropOuts"] = {"endx": 3}
-    room.write("b.tbc.json", json.dumps(document))
-    assert room.run_words(words)[0] == 0
-    assert places_in(room.named("out.tbc"), VIDEO) == inside(VIDEO)
+@pytest.mark.parametrize("form", ["json", "db"])
+def test_a_picture_is_taken_where_it_has_fewer_dropouts(room, form):
+    """Pictures 4 to 8 have ten fields with 98 samples more in a, and those beside them in b."""
+    at = VIDEO.at
+    draw(room.named("a.tbc"), VIDEO, VIDEO.order, form=form, worse=range(at[4], at[9]))
+    draw(room.named("b.tbc"), VIDEO, VIDEO.order, form=form, worse=[*range(at[1], at[4]), *range(at[9], at[14])])
+    for change, wanted in ((489, [["1", "3", "a.tbc"], ["4", "8", "b.tbc"], ["9", "24", "a.tbc"]]),
+                           (490, [["1", "24", "a.tbc"]])):
+        assert room.run_words("write out.tbc a.tbc b.tbc --change %d" % change)[0] == 0
+        assert [row.split(",")[3:6] for row in room.text("out.stretches.csv").split("\n")[1:-1]] == wanted
+
+
+def test_dropouts_and_phases_that_are_known():
+    """Dropouts of another form count for none; they aren't known if no field has any. A phase is 1 to 8, else 0."""
+    def facts(*fields):
+        found = told.Told(False)
+        for field in fields:
+            found.add(0, "", field)
+        return found.facts(Metadata("", None, None, None, []))
+
+    def dropouts(*spans):
+        return {"dropOuts": {"startx": [one for one, _ in spans], "endx": [one for _, one in spans]}}
+
+    some = facts(dropouts((3, 7)), {}, {"dropOuts": {"endx": 3}}, dropouts((1, 1), (8, 9)), dropouts())
+    assert (list(some.damage), some.phase) == ([5, 0, 0, 3, 0], None)
+    assert facts({"dropOuts": []}, {}).damage is None and list(facts(dropouts()).damage) == [0]
+    assert list(facts(*({"fieldPhaseID": one} for one in (1, 8, 9, 0, -1, True, 2.0, None))).phase) == [1, 8] + 6 * [0]
+
+
+def test_numbers_set_aside_are_no_words(room):
+    """And a picture of two fields alone is written as it is, byte for byte, but for what says that it is written."""
+    one = disc(pictures(range(1, 9)))
+    one.words[12][2] = 0xF79999
+    draw(room.named("a.tbc"), one, one.order)
+    assert room.run_words("write out.tbc a.tbc")[0] == 4
+    assert entries_of(room.named("out.tbc"))[6]["vbi"]["vbiData"] == [0, one.words[12][1], 0]
+    draw(room.named("two.tbc"), VIDEO, VIDEO.order[6:8])
+    room.run_words("write new.tbc two.tbc")
+    assert room.text("new.tbc.json") == room.text("two.tbc.json").replace('"isMapped": false', '"isMapped": true')
 
 
 def test_seams(room):
@@ -372,19 +402,18 @@ def changed_after(monkeypatch, change):
     monkeypatch.setattr(command, "copy_sound", copied)
 
 
-def test_a_capture_that_changes(room, monkeypatch):
+@pytest.mark.parametrize("text, change", (
+    ("b.tbc was changed meanwhile", lambda room: os.utime(room.named("b.tbc"))),
+    ("b.efm was changed meanwhile", lambda room: os.unlink(room.named("b.efm"))),
+    ("out.tbc: a.pcm was made shorter meanwhile", lambda room: os.truncate(room.named("a.pcm"), 100))))
+def test_captures_that_change_meanwhile(room, monkeypatch, text, change):
     words = drawn(room, "each lacks others")
-    shutil.copy(room.named("a.tbc"), room.named("out.tbc"))
-    before = room.files()
-    changed_after(monkeypatch, lambda: os.utime(room.named("b.tbc")))
-    room.refused("b.tbc was changed meanwhile", words)
-    assert room.files() == before
-
-
-def test_a_capture_that_gets_shorter(room, monkeypatch):
-    words = drawn(room, "whole")
-    changed_after(monkeypatch, lambda: os.truncate(room.named("a.pcm"), 100))
-    room.refused("out.tbc: %s was made shorter meanwhile" % "a.pcm", words)
+    os.unlink(room.named("a.efm"))
+    room.write("out.tbc", b"old")
+    changed_after(monkeypatch, lambda: change(room))
+    names = {*room.names(), "b.efm"}
+    room.refused(text, words)
+    assert {*room.names(), "b.efm"} == names and room.read("out.tbc") == b"old"
 
 
 def test_a_failing_disk(room, monkeypatch):
