@@ -323,7 +323,7 @@ def test_clock(setting, text, wanted):
 def main():
     rows = [(kind, setting, row) for name in ("judged.txt", "whole.txt") for kind, settings, rows in tables(name)
             for setting in settings for row in rows]
-    expect(len(rows) == 678, "there are more rows, or fewer:", len(rows))
+    expect(len(rows) == 548, "there are more rows, or fewer:", len(rows))
     for kind, setting, row in rows:
         globals()["test_" + kind](setting, *row)
     finish()

@@ -87,7 +87,7 @@ def test_refusals():
 
 def main():
     rows = [(setting, row) for kind, settings, rows in tables("plans.txt") for setting in settings for row in rows]
-    expect(len(rows) == 78, "there are more rows, or fewer:", len(rows))
+    expect(len(rows) == 57, "there are more rows, or fewer:", len(rows))
     for setting, row in rows:
         test_plan(setting, *row)
     test_captures()
