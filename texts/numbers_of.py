@@ -60,6 +60,7 @@ def limits() -> Dict[str, int]:
     numbers = {name: int(number) for path in paths("crates/*/src/*.rt") for name, number in
                re.findall(r"pub const (META_LIMIT|MAX_FIELDS_LIMIT): \w+ = ([\d_]+);", read(path))}
     least, most = of_source("tests/gate.sh", r"^minutes='(\d+) to (\d+)'$")
+    numbers["abi"], = of_source("Makefile", r"^ABI := (\d+)$")
     return {**numbers, "gate.least": least, "gate.most": most}
 
 

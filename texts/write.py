@@ -1,7 +1,7 @@
 #!/usr/bin/env python3
 """Writes the texts that have their source elsewhere: the completions whole; in manual pages, documents, the header for
 C and two more files what stands between a comment `from SOURCE: PART` and `to here`; in a schema the list of kinds; the
-numbers of documents that stand after their name; and those in the header's comments. The sources are the commands and
+numbers of documents that stand after their name; and those of manual pages and of the header's comments. The sources are the commands and
 options, what was measured, the definitions, and the table of the classes of code words (classes.txt)."""
 
 import argparse
@@ -13,13 +13,14 @@ import sys
 import classes_parts
 import completions
 import documents
-import header
 import numbers_of
 import pages
 from program import TOP, ldvbi, ldvbi_side
+import stated
 
 # What stands between these two lines is written here; each is a comment of its file's language.
 PART = re.compile(r"^([^\w\n]+ from ([\w./-]+): (\w+)\b[^\n]*\n)(.*?)(^[^\w\n]+ to here\b)", re.M | re.S)
+HEADER = "include/ldvbi.h"
 
 
 def read(path):
@@ -41,17 +42,18 @@ def with_parts(path, of_program=None):
 
 def written():
     """Yields each path with the text that it has to have."""
+    numbers, named = numbers_of.all_numbers(), set()
     for program in (ldvbi(), ldvbi_side()):
         yield "share/completions/%s.bash" % program.name, completions.bash(program)
         yield "share/completions/_%s" % program.name, completions.zsh(program)
         of_program = {name: (program.source, functools.partial(part, program))
                       for name, part in pages.PARTS[program.name].items()}
-        yield "share/man/%s.1" % program.name, with_parts("share/man/%s.1" % program.name, of_program)
+        path = "share/man/%s.1" % program.name
+        yield path, stated.with_numbers(path, with_parts(path, of_program), numbers)
     for path in ("bench/plain.h", "python/ldvbi/classes.py"):
         yield path, with_parts(path)
     yield classes_parts.SCHEMA, classes_parts.with_kinds(read(classes_parts.SCHEMA))
-    numbers, named = numbers_of.all_numbers(), set()
-    yield header.HEADER, header.with_numbers(with_parts(header.HEADER), numbers)
+    yield HEADER, stated.with_numbers(HEADER, with_parts(HEADER), numbers)
     for path in ["README.md", "CONTRIBUTING.md", *sorted(numbers_of.paths("docs/*.md"))]:
         named |= {one[2] for one in numbers_of.MARK.finditer(read(path))}
         yield path, numbers_of.with_numbers(with_parts(path), numbers)
