@@ -1,6 +1,5 @@
 #!/usr/bin/env python3
-"""Lists what a crate is proved without: answers and lemmas, and with --requires clauses of `requires`. (`rt tidy` drops
-what `use` brings for nothing.)
+"""Lists the answers and lemmas that a crate is proved without. (`rt tidy` drops what `use` brings for nothing.)
 
 Answers (definitions `pub NAME : goal.NAME` of proofs/F/Answers.antt) are all taken out of a copy of the crate at once.
 A check that goes past open goals says which goals then stay open. The answers of those are put back, and so on until
@@ -12,15 +11,11 @@ A lemma (any definition of proofs/, one of Answers.antt beside the answers too) 
 to it from an answer that stays, an invariant, a proof by hand, a source, or a crate above. Names are compared as words,
 whatever module they are of, so a lemma that shares its name with one that is cited is kept. What is left is checked.
 
-A private function's `requires` are taken out one at a time, one of each function in a check. If the function is still
-proved, the clause is a candidate and no more: a reader of the contract may want it, and what a caller proves for it
-then goes too. Clauses of public functions stay.
-
 It doesn't see: a lemma or a hint in a tactic's list that the tactic could do without; an answer that is needed only
 because another one is out, or the other way round, beyond one order of taking out; hints of `#[tactic(..)]`; lemmas
 with an operator's name (they stay); a definition of specs/.
 
-usage: python3 tests/proofs/needless.py [--only WORD] [--requires] [--write] CRATE..
+usage: python3 tests/proofs/needless.py [--only WORD] [--write] CRATE..
 (at the top, `rt` on the PATH)
 --only judges functions with WORD in their paths, and then no lemma. --write takes out of the crate itself what saves no
 more than a second, and needless lemmas; `rt fmt`, `rt tidy` and `rt check` come after it.
@@ -36,7 +31,7 @@ import tempfile
 
 from definitions import blocks_of, texts_of, without, words
 from wrong_bodies import Crate, rows_of, write
-from wrong_edits import items, read
+from wrong_edits import read
 
 DEAR = 1.0  # processor seconds that an answer may save and still be needless
 # Another name for one, and the heads of modules
@@ -47,8 +42,6 @@ WHOLE = ("Invariants.antt", "Proof.antt")
 # What the check says of a function with an open goal, past which it went: its name, and the goals
 OPEN = re.compile(r"^fn (\S+): no proof: expected answers in \S+; `search` did not prove (.*)", re.M)
 WAITS = re.compile(r"^fn (\S+): no proof: it (?:calls|passes|rests|uses)", re.M)
-# A clause of a function's head: its indent, and the text up to the line that ends it
-REQUIRES = re.compile(r"^ +requires\b(?:[^{\n]*)\{(?:[^{}]|\{[^{}]*\})*\}\n", re.M)
 
 
 def removed(folder):
@@ -159,34 +152,6 @@ class Trial(Crate):
         return [it for it in stay if not it.is_answer and it.name not in known and "◌" not in it.name
                 and os.path.basename(it.path) not in WHOLE]
 
-    def needless_requires(self, word):
-        """Returns the clauses of private functions without which those are still proved."""
-        private = [it for path in texts_of(self.folder, "src/**/*.rt") for it in items(path)
-                   if it.is_function and not it.is_public and word in it.name]
-        rows = {it: [(it.start + clause.start(), clause[0]) for clause in REQUIRES.finditer(it.head)] for it in private}
-        found = []
-        for turn in range(max(map(len, rows.values()), default=0)):
-            found += self.still_proved([(it, *rows[it][turn]) for it in rows if turn < len(rows[it])])
-        return found
-
-    def still_proved(self, clauses):
-        """Returns which of these clauses, at most one a function, that function is proved without."""
-        folder, texts = self.copy_without([]), {}
-        for it, at, clause in sorted(clauses, key=lambda row: -row[1]):
-            text = texts.get(it.path) or read(it.path)
-            texts[it.path] = text[:at] + text[at + len(clause):]
-        for path, text in texts.items():
-            write(f"{folder}/src/{path.split('/', 3)[3]}", text)
-        said, _ = run_in(folder, *(f"--only={it.name}" for it, *_ in clauses))
-        removed(folder)
-        proved = set(re.findall(r"^fn (\S+): proved", said, re.M))
-        waits = set(WAITS.findall(said)) if len(clauses) > 1 else set()
-        found = [row for row in clauses if f"{self.name}::{row[0].name}" in proved]
-        for row in clauses:
-            if f"{self.name}::{row[0].name}" in waits:
-                found += self.still_proved([row])
-        return found
-
 
 def judged(trial, given):
     """Prints what one crate is proved without, and returns what --write takes out."""
@@ -205,16 +170,12 @@ def judged(trial, given):
     lemmas = [] if given.only else trial.uncited(gone)
     for it in lemmas:
         print(f"{it.path}:{it.start + 1}: nothing cites {it.name} ({it.end - it.start} lines)")
-    if given.requires:
-        for it, _, clause in trial.needless_requires(given.only):
-            print(f"{it.path}: {it.name} is proved without {' '.join(clause.split())}")
     return gone + lemmas
 
 
 def main():
     given = argparse.ArgumentParser()
     given.add_argument("--only", default="")
-    given.add_argument("--requires", action="store_true")
     given.add_argument("--write", action="store_true")
     given.add_argument("crates", nargs="+")
     given = given.parse_args()
