@@ -1,8 +1,9 @@
 #!/usr/bin/env python3
 """Writes the texts that have their source elsewhere: the completions whole; in manual pages, documents, the header for
 C and two more files what stands between a comment `from SOURCE: PART` and `to here`; in a schema the list of kinds; the
-numbers of documents that stand after their name; and those of manual pages and of the header's comments. The sources are the commands and
-options, what was measured, the definitions, and the table of the classes of code words (classes.txt)."""
+numbers of documents that stand after their name; and all others of documents, manual pages and the header's comments
+(stated.txt). The sources are the commands and options, what was measured, the definitions, and the table of the classes
+of code words (classes.txt)."""
 
 import argparse
 import functools
@@ -13,6 +14,7 @@ import sys
 import classes_parts
 import completions
 import documents
+import measured
 import numbers_of
 import pages
 from program import TOP, ldvbi, ldvbi_side
@@ -56,7 +58,9 @@ def written():
     yield HEADER, stated.with_numbers(HEADER, with_parts(HEADER), numbers)
     for path in ["README.md", "CONTRIBUTING.md", *sorted(numbers_of.paths("docs/*.md"))]:
         named |= {one[2] for one in numbers_of.MARK.finditer(read(path))}
-        yield path, numbers_of.with_numbers(with_parts(path), numbers)
+        text = numbers_of.with_numbers(with_parts(path), numbers)
+        # tests/documents.py compares those of what was measured
+        yield path, text if path == measured.PAGE else stated.with_numbers(path, text, numbers)
     if not {*numbers_of.of_tests(), *numbers_of.package()} <= named:
         raise SystemExit("write: no document has %s" % ({*numbers_of.of_tests(), *numbers_of.package()} - named))
 
