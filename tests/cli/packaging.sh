@@ -250,7 +250,7 @@ check 'the status is that of the toolchain' [ "$(sed -n '22s/.*\(Error [0-9]*\)$
 path=$work/tools
 made -pq ldvbi
 while read -r target crates; do
-    sed -n "s/^$target: //p" out | head -n 1 | tr ' '\n' | sort > found
+    sed -n "s/^$target: //p" out | head -n 1 | tr ' ' '\n' | sort > found
     { echo crates.txt; cd tree && find $crates -name '*.rt' -o -name '*.antt'; } | sort > wanted
     check "$target is built anew after a change of a source alone" cmp found wanted
 done << END
