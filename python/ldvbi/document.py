@@ -154,7 +154,6 @@ class _KnownLines(Dict[Tuple[int, str, int], bytes]):
     """The packed readings of word, cause and pass together. Each is checked once: a side has few that differ."""
 
     def __init__(self, width: int, version: int) -> None:
-        super().__init__()
         self.width, self.version = width, version
 
     def __missing__(self, line: Tuple[int, str, int]) -> bytes:
@@ -287,7 +286,6 @@ class _KnownCauses(Dict[str, _Lines]):
     """The lines of each text of causes and passes, of which few differ."""
 
     def __init__(self, width: int, version: int) -> None:
-        super().__init__()
         self.width, self.version = width, version
 
     def __missing__(self, text: str) -> _Lines:

@@ -72,14 +72,12 @@ def test_what_is_not_written(archive):
     assert places_in(archive.named("out/c.tbc"), OTHER) == inside(OTHER)
     for name in archive.names("before"):
         assert archive.read("before/" + name) == archive.read("sides/" + name) or name == "b.tbc.json"
-
-
-def test_documents_are_left_out(archive):
-    """Of captures that are put together: fields are taken from TBC files."""
+    # a document has no fields to be written
     archive.write("sides/b.vbi.json", archive.extracted("sides/b.tbc"))
-    os.unlink(archive.named("sides/b.tbc"))
-    status, text, _ = archive.run_words("scan -j1 sides --write out")
-    assert "join sides/a.tbc sides/b.vbi.json" in text and (status, archive.names("out")) == (1, [])
+    for name in "bcd":
+        os.unlink(archive.named("sides/%s.tbc" % name))
+    status, text, _ = archive.run_words("scan -j1 sides --write none")
+    assert "join sides/a.tbc sides/b.vbi.json" in text and (status, archive.names("none")) == (1, [])
 
 
 def test_maps_and_chapters(archive):

@@ -132,10 +132,6 @@ def judging_as(state, status=0):
     return other(ldvbi_judge=call)
 
 
-def version(number, **more):
-    return other(ldvbi_version=lambda: number, **more)
-
-
 @pytest.fixture
 def anew(monkeypatch):
     """Has a library loaded anew: this one, or the one of a file."""
@@ -150,12 +146,8 @@ def anew(monkeypatch):
     load("")
 
 
-def cause():
-    return int(read_line(bytes(1820), "NTSC", 1, 2).cause)
-
-
 def causes():
-    return cause(), next(ldvbi.fields(bytearray(478660), "NTSC", 1, 2))[0].cause
+    return read_line(bytes(1820), "NTSC", 1, 2).cause, next(ldvbi.fields(bytearray(478660), "NTSC", 1, 2))[0].cause
 
 
 def state():
@@ -163,17 +155,18 @@ def state():
 
 
 @pytest.mark.parametrize("asked, one, wanted", (
-    (cause, "/absent", "no library to read and judge with (/absent: cannot open shared object file: No such file or "
+    (causes, "/absent", "no library to read and judge with (/absent: cannot open shared object file: No such file or "
      "directory): " + MAKE + " it, " + NAMES),
-    (cause, other(1), "%s has the interface 1, not 2: %s the one that fits, %s" % (
+    (causes, other(1), "%s has the interface 1, not 2: %s the one that fits, %s" % (
         os.environ["LDVBI_LIBRARY"], MAKE, NAMES)),
     # causes and states that a later library adds stay numbers, and its statuses are refusals
     (causes, other(cause=5), (5, 5)), (causes, other(cause=255), (255, 255)), (causes, other(status=99), REFUSED),
     (state, judging_as(4), (5, 4)), (state, judging_as(2 ** 31), (5, 2 ** 31)), (state, judging_as(0, 99), REFUSED),
     # the proved one is known by its version: from then on plain Rust says what it is
-    (LOADED, version(1999), "library 0.1.999 (proved or plain Rust): FILE"),
-    (LOADED, version(2000), "library 0.2.0 (proved): FILE"),
-    (LOADED, version(12034056, ldvbi_plain_rust=None), "library 12.34.56 (plain Rust, not proved): FILE")))
+    (LOADED, other(ldvbi_version=lambda: 1999), "library 0.1.999 (proved or plain Rust): FILE"),
+    (LOADED, other(ldvbi_version=lambda: 2000), "library 0.2.0 (proved): FILE"),
+    (LOADED, other(ldvbi_version=lambda: 12034056, ldvbi_plain_rust=None),
+     "library 12.34.56 (plain Rust, not proved): FILE")))
 def test_what_is_loaded(anew, asked, one, wanted):
     anew(one)
     assert (ldvbi.classify(0xF12345).first, ldvbi.field_bytes("PAL")) == (12345, 710510)  # which need no library
@@ -184,7 +177,7 @@ def test_an_older_one(anew):
     """It reads samples, and says what it is too old for."""
     anew(other(cause=1))
     rows = [(purpose, "ldvbi_" + name) for purpose, names in cells_of(OLD) for name in names.split(", ")]
-    assert (cause(), sorted(name for _, name in rows)) == (1, sorted(library._LATER))
+    assert (causes(), sorted(name for _, name in rows)) == ((1, 1), sorted(library._LATER))
     for purpose, name in rows:
         assert reason(library.later_call, name, kind=OSError) == (
             "FILE is too old to %s, it has no %s: %s a later one, %s" % (purpose, name, MAKE, NAMES))
@@ -198,7 +191,7 @@ def test_what_the_loader_finds(room, anew):
     assert found.startswith("library %s (p" % ldvbi.__version__) and found.endswith("): %s\n" % room.named("other.so"))
     anew("libc.so.6")
     assert re.fullmatch(r"no library to read and judge with \(.*undefined symbol: ldvbi_abi\): %s it, %s" % (
-        MAKE, NAMES), reason(cause, kind=OSError))
+        MAKE, NAMES), reason(causes, kind=OSError))
     with mock.patch("builtins.open", side_effect=OSError):
         assert library._path_of("libldvbi.so.2") == "libldvbi.so.2"
     assert library._path_of("x/../y") == os.path.abspath("y")
