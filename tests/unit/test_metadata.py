@@ -165,7 +165,7 @@ def test_fields_and_what_lies_beside_a_file(room):
 
 def test_fields_of_databases(room):
     """Of one table, whatever its name is. If two have them, it isn't known which."""
-    head = CAPTURE, (INSERT, (*PAL[:5], 640))
+    head = CAPTURE, (INSERT, ("PAL", 1, 2, 1135, 313, 640))
     for columns, values, wanted in cells_of(TABLES):
         table = "CREATE TABLE fields (%s)" % columns, "INSERT INTO fields VALUES " + values
         found = read_metadata(make(room, *head, *table))
@@ -177,7 +177,8 @@ def test_fields_of_databases(room):
         assert read_metadata(make(room, *head, fields, *table)).dropouts == wanted
     assert read_metadata(make(room, *head, fields, *table, fields.replace("fields", "more", 1))).dropouts == []
     one, other = ("CREATE TABLE %s AS SELECT 1 AS field_id, 1 AS is_first_field" % name for name in ("a", '"a "" b"'))
-    known = {"system": "PAL", "black16bIre": 1, "white16bIre": 2, "numberOfSequentialFields": 640}
+    known = {"system": "PAL", "black16bIre": 1, "white16bIre": 2, "fieldWidth": 1135, "fieldHeight": 313,
+             "numberOfSequentialFields": 640}
     assert read_metadata(make(room, *head, other))[1:] == (known, 1, [True], [], None)
     assert read_metadata(make(room, *head, one, other))[1:] == (known, 640, None, [], None)
 
