@@ -48,7 +48,7 @@ def tried_on(stream: Stream) -> Tried:
     rows = list(_rows(stream, own.system))
     read = _read(rows, own)
     trials = [(_read(of_system, setup), setup) for of_system, setup in _trials(stream, own, rows)]
-    count, best = max(trials, key=lambda trial: trial[0], default=(0, own))
+    count, best = max(trials, key=lambda trial: trial[0])
     is_found = count > read and FEW * count >= 2 * len(rows)
     return Tried(2 * len(rows), read, *own.levels, best=_changes(own, best, count) if is_found else None)
 
@@ -64,7 +64,7 @@ def _trials(stream: Stream, own: Setup, rows: List[bytes]) -> Iterator[Tuple[Lis
         if found is None:
             continue
         for levels in (Levels(own.levels.black, found.white), Levels(found.black, own.levels.white), found):
-            if 0 <= levels.black < levels.white <= HIGHEST:
+            if levels.black < levels.white:
                 yield of_system, Setup(system, levels)
 
 

@@ -102,12 +102,13 @@ def why_not(answer: Answer, wanted: Wanted) -> str:
         text = ", ".join(dict.fromkeys(whys))
         return text if "between" in text or "beside" in text else text + _beside(answer, wanted)
     least, greatest = (_part(end, wanted) for end in answer.numbers[1:])
-    if least <= wanted.numbers <= greatest:
+    is_before = wanted.numbers < least
+    if not is_before and wanted.numbers <= greatest:
         return _NOWHERE + _beside(answer, wanted)
-    text = _beyond("numbers", wanted.numbers < least, [(number, field) for number, field, _ in answer.showings],
-                   answer.numbers.least if wanted.numbers < least else answer.numbers.greatest)
-    pad = next((one for one in answer.padding if one.first == 1 and wanted.numbers < least), None)
-    return text + (", after padding in %s" % _fields_of(pad) if pad else "")
+    text = _beyond("numbers", is_before, [one[:2] for one in answer.showings], answer.numbers[1:])
+    if is_before and answer.padding and answer.padding[0].first == 1:
+        text += ", after padding in " + _fields_of(answer.padding[0])
+    return text
 
 
 def _fields_of(one):
@@ -157,8 +158,9 @@ def _part(number, wanted):
     return _parts(number)[:len(wanted.numbers)]
 
 
-def _beyond(what, is_before, places, end):
-    """That something begins or ends with this number, and its first field of these places."""
+def _beyond(what, is_before, places, ends):
+    """That something begins or ends with the one or the other of these numbers, and its first field of these places."""
+    end = ends[0] if is_before else ends[1]
     field = next(field for number, field in places if number == end)
     return "the %s %s at %s, in field %d" % (what, "begin" if is_before else "end", end, field)
 
@@ -167,10 +169,10 @@ def _why_no_chapter(answer, wanted):
     chapters = answer.chapters
     if not chapters:
         return "no chapter of the side is believed"
-    least, greatest = (end(one.chapter for one in chapters) for end in (min, max))
-    if not least <= wanted <= greatest:
-        return _beyond("chapters", wanted < least, [one[:2] for one in chapters],
-                       least if wanted < least else greatest)
+    ends = [end(one.chapter for one in chapters) for end in (min, max)]
+    is_before = wanted < ends[0]
+    if is_before or wanted > ends[1]:
+        return _beyond("chapters", is_before, [one[:2] for one in chapters], ends)
     for one, other in zip(chapters, chapters[1:]):
         if one.chapter < wanted < other.chapter:
             is_loss = any(lost.after < other.field and lost.before > one.last for lost in answer.lost)

@@ -143,9 +143,7 @@ def side_of_stream(stream: Stream, over: Optional[Callable[[Iterable[Any], int],
     """The side that a stream holds. `over` yields the blocks that it gets, each with this many fields, and may report
     how far they are. A stream that recovers words has to stay open as long as the side is asked for its answer."""
     blocks = stream.packed(0, len(stream))
-    readings = PackedFields(b"".join(over(blocks, BLOCK) if over else blocks))
-    if stream.recover:
-        readings = _with_causes(readings, stream)
+    readings = _with_causes(PackedFields(b"".join(over(blocks, BLOCK) if over else blocks)), stream)
     return Side(stream.system, readings, cut_of(stream), Levels(stream.black, stream.white), first,
                 stream if stream.recover else None)
 

@@ -2,12 +2,16 @@
 
 import gc
 import re
+import struct
 
 from compact import cells_of, made
 from discs import side, typed
+from ldvbi import field_bytes, System
 from ldvbi.readings import Cut, Levels
+from ldvbi_side import levels
 from ldvbi_side.answer.entries import FewWords, Numbered
 from ldvbi_side.answer.lines import SIZES
+from ldvbi_side.as_json import as_json
 from ldvbi_side.command.chapters import chapter_spans
 from ldvbi_side.command.map import head_rows, map_rows
 from ldvbi_side.command.summary import MOST_LINES, summary
@@ -51,6 +55,23 @@ SOUGHT = """
     Bx10 | 3: no number of the side is believed | chapter 1: no chapter of the side is believed
 """
 
+# The same of sides with fields of padding, from one to another
+PADDED = """
+    7:8 | 1..3 Bx2 5..8 Bx2 10..12 | 4: padding in fields 7 to 8, between 3 in field 5 and 5 in field 9
+        | 9: 17 9, by the numbers around it: no number was read there
+    7:8 | 1..3 Bx4 6..8 | 4: padding in fields 7 to 8, between 3 in field 5 and 6 in field 11
+        | 5: 9 5, by the numbers around it: no number was read there
+    9:10 | 1..3 Bx4 6..8 | 4: 7 4, by the numbers around it: no number was read there
+        | 5: padding in fields 9 to 10, between 3 in field 5 and 6 in field 11
+    7:7 | 1..3 B 5..8 | 4: padding in field 7, between 3 in field 5 and 5 in field 8
+    8:8 | 1..3 B 5..8 | 4: lost or unread after field 5; picture 3 is in field 5, picture 5 in field 8
+    1:4 | Bx4 3..8 | 2: the numbers begin at 3, in field 5, after padding in fields 1 to 4 | 9: the numbers end at 8, in
+        field 15
+    2:4 | Bx4 3..8 | 2: the numbers begin at 3, in field 5
+    1:1 | B 3..8 | 2: padding in field 1, beside 3 in field 2
+    1:1 | B t103450..103549 | 0:01:09.00: padding in field 1, beside 1:08:58.00 in field 2
+"""
+
 
 def test_texts():
     for text, wanted in (("00123", ("picture", (123,))), ("1:09", ("time", (1, 9))), ("chapter 3", ("chapter", (3,))),
@@ -61,10 +82,15 @@ def test_texts():
         assert reason(wanted_of, text) is not None
 
 
-@pytest.mark.parametrize("text, asked", [(text, asked) for text, *asked in cells_of(SOUGHT)])
-def test_what_is_found(text, asked):
+@pytest.mark.parametrize("pads, text, asked", [(pads, text, asked) for pads, text, *asked in (
+    *(("0:0", *cells) for cells in cells_of(SOUGHT)), *cells_of(PADDED))])
+def test_what_is_found(pads, text, asked):
+    first, last = map(int, pads.split(":"))
+    given = made(text, side)
+    given.pad = [first <= field <= last for field in range(1, len(given.readings) + 1)] if last else None
+    known = given.analysis.answer
     for number, _, wanted in (one.partition(": ") for one in asked):
-        known, asked_for = made(text, typed), wanted_of(number)
+        asked_for = wanted_of(number)
         found = seek(known, asked_for)
         said = text_of(found) if found else why_not(known, asked_for)
         assert re.sub(r"^field (\d+), frame ", r"\1 ", said) == wanted
@@ -87,8 +113,8 @@ def test_maps():
     """Of pictures it says what seeking says."""
     for text, wanted in MAPS:
         assert ", ".join(" ".join(map(str, row)) for row in map_rows(made(text, typed))) == wanted
-    for text, levels, wanted in HEADS:
-        assert ", ".join(" ".join(map(str, row)) for row in head_rows(made(text, typed), levels)) == wanted
+    for text, known_levels, wanted in HEADS:
+        assert ", ".join(" ".join(map(str, row)) for row in head_rows(made(text, typed), known_levels)) == wanted
     known = made("1..40 21..60 60x4 70..90 1:210/14=?", typed)
     mapped = {number: row for kind, number, *row in map_rows(known) if kind == "picture"}
     for number in range(100):
@@ -166,6 +192,8 @@ SUMMARIES = """
         | stills: 1 (picture 10 in fields 19 to 25) | shown again: 2 (picture 10 in field 21, pictures 21 to 30 in field
         67)
     n0..3x3000 -3501:4500 | lost fields: at least 1000 (at least 1000, between fields 3001 and 5000)
+    n0..3x3000 -3002:6000 | lost fields: at least 2999 (at least 2999, between fields 3001 and 3001)
+    n0..3x3000 -3001:6000 | lost fields: at least 3000 (at least 3000 after field 3000)
     m9..11x3000 | lost: 9 (minutes 0:00 to 0:08 before field 1) | lost fields: at least 27000 (at least 27000
         before field 1)
     NTSC f1..60 f66..120 | lost fields: at least 12 (at least 12 after field 149)
@@ -179,6 +207,7 @@ SUMMARIES = """
         | programme status: 29 (CX off 0A1 in 1 field, CX on 0A1 in 28 fields), users' codes: 1 (3 00F in 1 field)
     1..9 3=S/#2/#2 5=S^/#3/#3 | picture stops: 1 (picture 2 in field 3), unsure: 1 (picture 3 in field 5)
         | codes out of place: none
+    Bx9 | system: PAL, no code of CAV or CLV
     NTSC f1..30 | whole: yes | system: NTSC, CAV, film (2 and 3 fields a picture)
     NTSC t0..1 t3..4 | system: NTSC, CLV | unread: none, undecided: 1 (time 0:00:00.02 after field 3)
     NTSC t0..5999!400%1001 | skipped by the disc itself: 6
@@ -209,16 +238,82 @@ def test_levels():
             ("Bx4", None, blank, "lower black and white, if the side has codes at all"),
             ("-/?/!x30", None, "0 words, 60 are bad, 0 blank", noise),
             ("Bx4", (None, None, 30000, 98), blank, "--white 30000 (98 lines read, now 10 of 200)"),
+            ("Bx4", (None, 2000, 9000, 98), blank, "--black 2000 --white 9000 (98 lines read, now 10 of 200)"),
             ("Bx4", ("PAL", None, None, 200), blank, system)):
-        answer = made(text, typed)
-        tried = Tried(200, 10, 16384, 51200, Best(*best)) if best else None
-        found = list(summary(answer._replace(levels=answer.levels._replace(tried=tried))))[6:8]
+        known = made(text, typed)
+        tried = Tried(200, 10, 16384, 51200, best and Best(*best))
+        known = known._replace(levels=known.levels._replace(tried=tried))
+        found = list(summary(known))[6:8]
         assert found == ["levels: lines 17 and 18 have " + shown, "try: " + advice]
         assert max(map(len, found)) <= 100
+        assert as_json(known)["levels"]["tried"] == {
+            "lines": 200, "read": 10, "black": 16384, "white": 51200,
+            "best": best and dict(zip(("system", "black", "white", "read"), best))}
     for expected, cut, is_other in ((4, None, False), (None, None, False), (3, None, True), (None, Cut(5, 7), True)):
         one = made("Bx4", side, cut=cut)
         one.expected = expected
         assert (list(summary(one.analysis.answer))[7] == "try: another system, or this file's own metadata") == is_other
+
+
+class Trial:
+    """A stream of so many fields, of which each one's number stands for its lines."""
+    system, black, white = System.NTSC, 16000, 40000
+
+    def __init__(self, fields):
+        self.size = fields * field_bytes(System.NTSC)
+
+    def rows_as(self, system, field):
+        return field
+
+
+def test_which_fields_are_tried():
+    """All of 100; of more 50 pairs, from the first one to the last."""
+    assert list(levels._rows(Trial(100), System.NTSC)) == [*range(100)]
+    for count, begin, end in ((101, [0, 1, 2, 3, 4, 5], [96, 97, 99, 100]), (1001, [0, 1, 20, 21, 40, 41, 61, 62],
+                                                                        [978, 979, 999, 1000])):
+        found = list(levels._rows(Trial(count), System.NTSC))
+        assert (len(found), found[:len(begin)], found[-4:]) == (100, begin, end)
+
+
+def test_which_levels_are_tried(monkeypatch):
+    """A fifth of a word's columns is below its low level, and a fifth above the high one. Levels are those of the lines
+    with half as wide a span as the widest one, or more."""
+    for system, width, wanted in ((System.NTSC, 910, (287, 699)), (System.PAL, 1135, (360, 871))):
+        samples = [2000 * line + column for line in range(3) for column in range(width)]
+        field = struct.pack("<%dH" % len(samples), *samples)
+        assert [levels._span(field, system, line) for line in (1, 2)] == [
+            (2000 * line + wanted[0], 2000 * line + wanted[1]) for line in (1, 2)]
+    for spans, wanted in (((0, 999, 0, 0), None), ((0, 1000, 0, 0), (0, 1000)), ((499, 4501, 1501, 3500), (0, 5000)),
+                          ((0, 4000, 2000, 4000), (1000, 4000)), ((0, 4000, 2001, 4000), (0, 4000)),
+                          ((30000, 65535, 30000, 65535), (30000, 65535))):
+        monkeypatch.setattr(levels, "_span", lambda field, _, line, spans=spans: spans[2 * line - 2:2 * line])
+        assert levels._levels_in([0], System.NTSC) == wanted
+
+
+def test_which_trial_is_named(monkeypatch):
+    """Of those that read as many lines the first: each level alone, then both, then the other system's. Black is below
+    white. More lines have to be read than by the side's own, and one of twenty."""
+    own, other = (16000, 40000), System.PAL
+    for fields, found, own_read, reads, wanted in (
+            (50, (2000, 30000), 0, {}, (None, None, None, 0)),
+            (50, (2000, 30000), 0, {(16000, 30000): 60, (2000, 40000): 60}, (None, None, 30000, 60)),
+            (50, (2000, 30000), 0, {(2000, 40000): 60, (2000, 30000): 60}, (None, 2000, None, 60)),
+            (50, (2000, 30000), 0, {(2000, 30000): 60, (other, *own): 60}, (None, 2000, 30000, 60)),
+            (50, (2000, 30000), 0, {(2000, 30000): 59, (other, *own): 60}, ("PAL", None, None, 60)),
+            (50, (2000, 9000), 0, {(16000, 9000): 60}, (None, None, None, 0)),
+            (50, (2000, 16000), 0, {(16000, 16000): 60}, (None, None, None, 0)),
+            (50, None, 0, {(other, *own): 60}, ("PAL", None, None, 60)),
+            (50, (2000, 30000), 60, {(2000, 30000): 60}, (None, None, None, 0)),
+            (50, (2000, 30000), 0, {(2000, 30000): 5}, (None, 2000, 30000, 5)),
+            (51, (2000, 30000), 0, {(2000, 30000): 5}, (None, None, None, 0))):
+        counts = {(System.NTSC, *own): own_read, **{
+            one if len(one) == 3 else (System.NTSC, *one): count for one, count in reads.items()}}
+        monkeypatch.setattr(levels, "_levels_in", lambda rows, system, found=found: found and Levels(*found))
+        monkeypatch.setattr(levels, "_read", lambda rows, setup, counts=counts: counts.get(
+            (setup.system, *setup.levels), 0))
+        tried = levels.tried_on(Trial(fields))
+        assert tried[:4] == (2 * fields, own_read, *own)
+        assert tried.best == (Best(*wanted) if wanted[-1] else None)
 
 
 def test_what_metadata_counts():
@@ -240,6 +335,38 @@ def test_at_most_27_lines():
     assert [line for line in lines if line.startswith("a second row of numbers, not taken: 2:20:")]
 
 
+# What the JSON has of a side with two worn words, a bad line, and some codes
+JSON = {
+    "cutField": {"seqNo": 18, "bytes": 7}, "numbers": {"count": 8, "least": 1, "greatest": 8},
+    "showings": [[1, 2, 2], [2, 4, 4], [3, 5, 6], [4, 7, 8], [5, 10, 10], [6, 11, 12], [7, 14, 14], [8, 15, 15]],
+    "doubtful": [{"field": 7, "line": 17, "word": "F70000", "kind": "picture", "pass": 2, "why": "lines",
+                  "number": 70000, "before": {"field": 6, "number": 3}, "after": {"field": 8, "number": 4}}],
+    "conflicts": [{"field": 7, "line17": 70000, "line18": 4, "taken": 4}],
+    "chapters": [{"chapter": 0, "field": 3, "last": 16, "after": None, "number": 1, "frame": 2}],
+    "stops": [{"field": 5, "frame": 3, "number": 3, "lines": [16]}],
+    "unsureStops": [{"field": 7, "frame": 4, "number": 4, "lines": [16]}],
+    "leadIn": [{"first": 1, "last": 1, "count": 1}],
+    "stray": [{"field": 13, "line": 17, "word": "8DC000", "kind": "cx on", "pass": 1, "why": "line"}],
+    "unknown": [{"field": 9, "line": 17, "word": "88FFFB", "pass": 1}],
+    "programmeStatus": [{"cx": True, "digits": "0A1", "count": 1, "first": 9, "last": 9}],
+    "users": [{"digit": 3, "digits": "00F", "count": 1, "first": 14, "last": 14}],
+    "badLines": [{"field": field, "line": line, "cause": "change 170", "column": 170, "bytes": 2270,
+                  "offset": ((field - 1) * 313 + line - 1) * 2270} for field, line in ((7, 16), (11, 17))],
+    "lines": {line: dict(zip(("pass1", "pass2", "near", "blank", "unfinished", "change", "hold"), counts))
+              for line, counts in (("16", (3, 0, 1, 12, 0, 0, 0)), ("17", (13, 1, 0, 1, 0, 1, 0)),
+                                   ("18", (14, 0, 0, 2, 0, 0, 0)))},
+    "reasons": [{"why": "cut", "whole": "no", "text": "field 18 is cut"}]}
+
+
+def test_json():
+    """Each member under its name; those of lists without items are empty."""
+    found = made("L 1..8 5=S/-/#3 7=S^/#70000*/#4 9=8DC0A1/88FFFB/- 11=-/?/#6 13=-/8DC000/- 14=83D00F/#7/#7 -15", side,
+                 cut=Cut(18, 7)).answer
+    assert {name: found[name] for name in JSON} == JSON
+    assert [name for name, value in found.items() if value not in ([], None) and name not in JSON] == [
+        "version", "system", "format", "unit", "fields", "frameBegin", "pace", "openEnd", "whole"]
+
+
 def test_sides():
     """What their methods answer. Codes are judged by nothing. The collector runs after an analysis as before it."""
     cav, clv = made("5..24 11..40 5=S/-/#7", side), made("t0..19", side)
@@ -255,10 +382,6 @@ def test_sides():
     assert made("1", side, cut=Cut(3, 99)).answer["cutField"] == {"seqNo": 3, "bytes": 99}
     assert cav.answer is cav.answer
     assert SIZES == {"NTSC": (910 * 2, 263), "PAL": (1135 * 2, 313)}
-    found = made("1..30 2:60/2.16=8DC0A1 4=8BA0A1/88FFFB/800DDD 6=83D00F/800DDD/F00E81*")
-    assert [[tuple(one.values()) for one in found[name]] for name in ("unknown", "programmeStatus", "users")] == [
-        [(4, 17, "88FFFB", 1), (6, 18, "F00E81", 2)], [(True, "0A1", 28, 2, 60), (False, "0A1", 1, 4, 4)],
-        [(3, "00F", 1, 6, 6)]]
     for is_enabled, set_so in ((False, gc.disable), (True, gc.enable)):
         set_so()
         made("1 2")
