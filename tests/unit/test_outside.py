@@ -19,16 +19,25 @@ from unittest import mock
 import discs
 from ldvbi_side import outside
 from ldvbi_side.command import outputs
-from ldvbi_side.command.outputs import whole_file, whole_path
+from ldvbi_side.command.outputs import whole_file, whole_files, whole_path
 from ldvbi_side.draw.index import head_of, index_of, PART
 from ldvbi_side.draw.page import MARK
 from ldvbi_side.join.heads import said_of
-from ldvbi_side.outside import bytes_of_document, legible, printable, shown
+from ldvbi_side.outside import bytes_of_document, legible, printable, shown, uncontrolled
 import pytest
 from room import IN_PLACE, reason
 
 # A name with Escape, a line's end, bytes that aren't UTF-8 and characters that are set aside; letters of any kind stay.
 NAME = os.fsdecode(b"\x1b[31m\n\xff\x7f\xc2\x9f") + "\ufffe\uffff\U0001ffff ü\u0416\u65e5\U0001f4bf<&>"
+
+
+@contextlib.contextmanager
+def whole_one(path):
+    """One of several paths."""
+    with whole_files([path]) as parts:
+        yield parts[0]
+
+
 WRITERS = whole_file, functools.partial(whole_path, ends=[])
 LETTERS, SIGN = " ü\u0416\u65e5\U0001f4bf<&>", "\ufffd"
 
@@ -40,6 +49,16 @@ LETTERS, SIGN = " ü\u0416\u65e5\U0001f4bf<&>", "\ufffd"
     (shown, "a\u200db\ue000\ufffd\n", "a\u200db\ue000\ufffd" + SIGN)))  # marks without a width belong to writing
 def test_texts(call, text, wanted):
     assert call(text) == wanted
+
+
+def test_which_characters():
+    """A page has all but those that are set aside; a row of CSV has all but control characters."""
+    codes = (0, 0x1F, 0x20, 0x7E, 0x7F, 0x80, 0x9F, 0xA0, 0xD7FF, 0xD800, 0xDFFF, 0xE000, 0xFFFC, 0xFFFE, 0xFFFF,
+             0x10000, 0x1FFFD, 0x1FFFE, 0x20000, 0x10FFFF)
+    assert [code for code in codes if shown("\n" + chr(code)) == SIGN + chr(code)] == [
+        0x20, 0x7E, 0xA0, 0xD7FF, 0xE000, 0xFFFC, 0x10000, 0x1FFFD, 0x20000]
+    assert [code for code in codes if uncontrolled("\n" + chr(code)) != r"\n" + chr(code)] == [
+        0, 0x1F, 0x7F, 0x80, 0x9F]
 
 
 def read_document(data):
@@ -113,17 +132,20 @@ def test_one_that_is_ignored(signals):
 
 
 def test_a_second_one(signals):
-    """It ends the process at once where the first was dropped, or came more than a second ago."""
+    """It ends the process at once where the first was dropped, which is sent again after a quarter of a second, or came
+    more than a second ago."""
     signals()
-    with mock.patch("os._exit") as end:
+    with mock.patch("os._exit") as end, mock.patch("time.monotonic", return_value=100.0) as clock:
         with pytest.raises(outside.Stopped):
             signal.raise_signal(signal.SIGINT)
+        clock.return_value = 101.0
         signal.raise_signal(signal.SIGINT)
         end.assert_not_called()
-        with mock.patch("time.monotonic", return_value=time.monotonic() + 2):
-            signal.raise_signal(signal.SIGTERM)
+        clock.return_value = 101.5
+        signal.raise_signal(signal.SIGTERM)
         signals()
         dropped(signal.SIGTERM)
+        assert 0 < signal.getitimer(signal.ITIMER_REAL)[0] <= 0.25
         signal.raise_signal(signal.SIGHUP)
     assert end.mock_calls == [mock.call(143), mock.call(129)]
 
@@ -221,8 +243,9 @@ def test_what_processes_left_that_are_gone(room):
     assert room.names() == sorted(kept)
 
 
+@pytest.mark.parametrize("write", (*WRITERS, whole_one))
 @pytest.mark.parametrize("older, mode", ((None, None), ("old", 0o640)))
-def test_it_appears_at_the_end(room, older, mode):
+def test_it_appears_at_the_end(room, write, older, mode):
     """Where there was none, and where one is replaced, whose mode it has. It has its name when it is on the disk."""
     synced, mask = [], os.umask(0)
     os.umask(mask)
@@ -233,19 +256,20 @@ def test_it_appears_at_the_end(room, older, mode):
         synced.append(pathlib.Path("/proc/self/fd/%d" % descriptor).read_text(encoding="utf-8"))
         assert room.files().get("side.tbc") == (older and older.encode())
 
-    with mock.patch("os.fsync", sync), whole_file(room.path) as file:
-        file.write("new ü\n")
+    with mock.patch("os.fsync", sync), write(room.path) as part:
+        if write is whole_file:
+            part.write("new ü\n")
+        else:
+            pathlib.Path(part).write_text("new ü\n", encoding="utf-8")
     assert (synced, room.files()) == (["new ü\n"], {"side.tbc": "new ü\n".encode()})
     assert stat.S_IMODE(os.stat(room.path).st_mode) == (mode or 0o666 & ~mask)
 
 
-def test_a_fault_is_of_the_file_that_was_asked_for(room):
+def test_faults_and_links(room):
+    """A fault is of the file that was asked for. A link stays one."""
     with pytest.raises(OSError, match=r"No space.*side\.tbc"), whole_file(room.path):
         raise OSError(28, "No space left on device")
     assert room.names() == []
-
-
-def test_a_link_stays_one(room):
     os.symlink("target", room.named("link"))
     with whole_file(room.named("link")) as file:
         file.write("new")
