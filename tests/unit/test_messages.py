@@ -2,30 +2,60 @@
 command lines that are refused, the exit statuses of all options and commands, and the texts of the parsers."""
 
 import bz2
+import errno
+import functools
 import gzip
+import importlib
 import lzma
 import os
 import re
 
 from compact import cells_of
 import ldvbi
-from ldvbi_side.command.faults import naming
+from ldvbi_side.command.faults import fault_text, naming
 from ldvbi_side.command.parsers import parser_of_side, parsers
 from ldvbi_side.command.statuses import MEANINGS, statuses_of
 import pytest
 from room import in_database, IN_PLACE, NO_METADATA
+from streams import TOP
 
 NOT_JSON = "not JSON: line 1 is wrong from column 1 on"
-# Command lines that are refused, by how they begin, and those in which a name is empty
-USAGE = {
-    "side.tbc LEVELS": "--document --csv | --document --json | --document --summary | --document --bad-lines | --seek x"
-                       "| --csv --seek 1 | --seek -1 | --system SECAM | --black 1.0 | --recovered | --recovered --json"
-                       "| --recovered --document --no-recover | --as-read | --last x | --last=-1 | --last 'chapter 3'",
-    "join side.vbi.json": "| side.vbi.json --csv --ranges",
-    "scan": "| -j 0 side.tbc | -j x side.tbc | --csv --json side.tbc | --again side.tbc | --as-read side.tbc"}
-UNNAMED = ("side.vbi.json --html", "side.vbi.json --svg", "side.vbi.json -o", "side.vbi.json --map", "side.tbc --into",
-           "side.vbi.json --chapters", "side.tbc --meta", "scan side.vbi.json --html", "scan side.vbi.json --into",
-           "scan side.tbc --meta", "join side.vbi.json side.vbi.json --html", "join side.vbi.json side.vbi.json --meta")
+NO_NAME = "a file has to have a name"
+# Command lines that are refused, with what is said after `error: `
+USAGE = """
+    side.tbc --document --csv | argument --csv: not allowed with argument --document
+    side.tbc --json --plot-line 1 17 | argument --plot-line: not allowed with argument --json
+    side.tbc --bad-lines --summary | argument --summary: not allowed with argument --bad-lines
+    side.tbc --csv --seek 1 | argument --seek: not allowed with argument --csv
+    side.tbc --seek x
+        | argument --seek: neither a picture number, nor a time h:mm, h:mm:ss or h:mm:ss.pp, nor chapter n: 'x'
+    side.tbc --plot-line 0 17 | argument --plot-line: no number from 1 on: '0'
+    side.tbc --system SECAM | argument --system: invalid choice: 'SECAM' (choose from 'NTSC', 'PAL')
+    side.tbc --black 1.0 | argument --black: invalid int value: '1.0'
+    side.tbc --recovered --json | --recovered goes with --document or --into, not with --no-recover
+    side.tbc --recovered --document --no-recover | --recovered goes with --document or --into, not with --no-recover
+    side.tbc --as-read | --as-read is of --into || join side.vbi.json | two captures or more are joined
+    side.tbc --last x
+        | argument --last: neither a picture number nor a time h:mm, h:mm:ss or h:mm:ss.pp: 'x'
+    side.tbc --last 'chapter 3'
+        | argument --last: neither a picture number nor a time h:mm, h:mm:ss or h:mm:ss.pp: 'chapter 3'
+    join side.vbi.json side.vbi.json --csv --ranges | argument --ranges: not allowed with argument --csv
+    join side.vbi.json side.vbi.json --csv --html - | standard output takes one thing
+    scan -j 0 side.tbc | argument -j/--jobs: no number from 1 on: '0'
+    scan -j x side.tbc | argument -j/--jobs: no number from 1 on: 'x'
+    scan --csv --json side.tbc | argument --json: not allowed with argument --csv
+    scan --again side.tbc | --again is of --html || scan --as-read side.tbc | --as-read is of --into
+    write out side.tbc | the name of what is written has to end with .tbc
+    write out.tbc side.tbc --change -1 | argument --change: no number: '-1'
+    write out.tbc side.tbc --change x | argument --change: no number: 'x'
+    write out.tbc side.tbc --from x | argument --from: no picture and no time: 'x'
+    write out.tbc side.tbc side.tbc --meta a.json | --meta names the metadata of one capture
+    write out.tbc side.tbc --meta '' | --meta names the metadata of one capture
+"""
+# Those in which a name is empty
+UNNAMED = (*("side.vbi.json " + one for one in "--html --svg -o --map --into --chapters --meta".split()),
+           *("scan side.tbc " + one for one in "--html --into --map --chapters --write --meta --sides".split()),
+           *("join side.vbi.json side.vbi.json " + one for one in "--html --map --chapters --meta".split()))
 # Command lines, and what is said: after = the name of an output in the place of an input, or of another output
 REFUSED = """
     absent.tbc | absent.tbc: No such file or directory || join side.vbi.json other.tbc --html other.tbc | =other.tbc
@@ -38,6 +68,7 @@ REFUSED = """
     side.tbc --white 65536 HALF | side.tbc: white is not from 0 to 65535
     compare side.vbi.json side.vbi.json -j 1 | compare NO COMMAND || side.vbi.json --svg folder | folder: Is a directory
     side.vbi.json --document | side.vbi.json is a document, and --document is for a TBC file
+    side.vbi.json --plot-line 1 17 | side.vbi.json is a document, and --plot-line is for a TBC file
     side.tbc --meta meta.json | meta.json: No such file or directory || side.vbi.json --map absent/out | ABSENT
     side.vbi.json -o absent/out | ABSENT || join side.vbi.json side.tbc | NONE || join other.tbc side.tbc HALF | NONE
     side.vbi.json --html absent/out | ABSENT || join side.vbi.json side.vbi.json --white 51200 | side.vbi.json: OPTIONS
@@ -78,11 +109,13 @@ def test_refused(drawn):
 
 
 def test_usage(drawn):
-    rows = [("%s %s" % (begin, words), "error: ") for begin, several in USAGE.items() for words in several.split("|")]
-    for words, end in rows + [(words + " ''", "error: a (file|folder) has to have a name\n$") for words in UNNAMED]:
+    names = [(words + " ''", "a folder has to have a name" if "scan" in words and words[-6:] not in ("--meta", "-sides")
+              else NO_NAME) for words in UNNAMED]
+    for words, why in cells_of(USAGE) + names:
         status, text, said = drawn.run_command(words)
-        assert (status, text, said[:17]) == (2, b"", "usage: ldvbi-side")
-        assert re.search(end, said)
+        command = (" " + words.split()[0]) * (not words.startswith("side"))
+        assert (status, text, said[:18 + len(command)]) == (2, b"", "usage: ldvbi-side%s " % command)
+        assert said.endswith("\nldvbi-side%s: error: %s\n" % (command, why))
 
 
 # What begins as each form, and files of that, with command lines and what is said, in which ! is a pipe. A database is
@@ -148,6 +181,12 @@ def test_a_name_stands_once():
         with pytest.raises((ValueError, OSError)) as caught, naming("a.json"):
             raise error
         assert str(caught.value) == text
+    for error, text in ((OSError(errno.ENFILE, "Too many"), "Too many; `ulimit -n` says how many a process may open"),
+                        (OSError(5, "Failed"), "standard output: Failed"), (OSError("no library"), "no library"),
+                        (OSError(5, "Failed", 0), "standard input: Failed"), (ValueError("wrong"), "wrong"),
+                        (OSError(5, "Failed", ""), "a file without a name: Failed"),
+                        (OSError(5, "Failed", b"a"), "a: Failed")):
+        assert fault_text(error) == text
 
 
 SIDES = ("whole.tbc", "lost.tbc", "dark.tbc", "cut.tbc")
@@ -186,6 +225,7 @@ def test_each_option_and_command(statuses):
         is_said = "scan" not in words and (status in (2, 3) or status == 1 and "--seek" in words) or (
             words == "dark.tbc --chapters side.txt")  # it has none
         assert (status, said.count("\n")) == (wanted, int(is_said)), words
+        assert status != 3 or said == "ldvbi-side: cut.tbc: the last field is cut: field 62 has 12345 of 478660 bytes\n"
 
 
 def test_what_is_printed_alone(statuses):
@@ -211,13 +251,12 @@ def test_the_table():
 
 
 # The statuses of each command, and of none, but for those of signals: yes or done, no, a fault, a cut field, can't tell
-STATUSES = {"": [0, 1, 2, 3, 4], "join": [0, 1, 2, 3, 4], "scan": [0, 1, 2, 4],
-            "write": [0, 1, 2, 4]}
+STATUSES = {"": [0, 1, 2, 3, 4], "join": [0, 1, 2, 3, 4], "scan": [0, 1, 2, 4], "write": [0, 1, 2, 4]}
 
 
-def test_texts_of_commands():
-    """Each says its statuses, and texts of options are parts of sentences: so the manual page makes sentences of them,
-    and zsh shows their first clause."""
+def test_texts_of_commands(monkeypatch):
+    """Each says its statuses, and texts of options are parts of sentences. All of them stand in the manual page and in
+    the completions, which texts/write.py makes."""
     found = parsers("ldvbi-side")
     assert {*found} == {*STATUSES}
     for command, parser in found.items():
@@ -226,3 +265,10 @@ def test_texts_of_commands():
         sentence = "Statuses: %s." % "; ".join("%d %s" % (one, ", or ".join(texts)) for one, texts in said.items())
         assert " ".join(parser.description.split()).endswith(" " + sentence)
         assert all(re.search("^[a-z-].*[^.]$", action.help) for action in parser._actions if action.dest != "help")
+    monkeypatch.syspath_prepend(os.path.join(TOP, "texts"))
+    completions, pages, program, write = map(importlib.import_module, ("completions", "pages", "program", "write"))
+    side, page = program.ldvbi_side(), "share/man/ldvbi-side.1"
+    of_side = {name: (side.source, functools.partial(part, side)) for name, part in pages.PARTS[side.name].items()}
+    assert write.with_parts(page, of_side) == write.read(page)
+    assert completions.bash(side) == write.read("share/completions/ldvbi-side.bash")
+    assert completions.zsh(side) == write.read("share/completions/_ldvbi-side")

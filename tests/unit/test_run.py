@@ -3,6 +3,7 @@ are closed or a terminal's, signals at any time, no reader, names and files of o
 
 import contextlib
 import fcntl
+import importlib
 import json
 import os
 import pathlib
@@ -16,6 +17,7 @@ import time
 from unittest import mock
 
 from compact import cells_of, words_of
+from ldvbi_side.__main__ import main
 from ldvbi_side.command.parsers import parser_of_scan
 import pytest
 from room import buffered, DEADLINE, IN_PLACE, in_database, SIZE
@@ -78,9 +80,16 @@ def test_metadata_is_taken(drawn):
     assert drawn.printed("side.tbc --document") == drawn.document
 
 
-def test_fields(drawn):
+def test_fields(drawn, monkeypatch):
+    """The documents say what the columns of tables hold, as texts/write.py writes it."""
     write_stream(drawn.path, NTSC, words_of("-/#1/#1 -/c1/c1 B S/#2/#79999"))
-    assert drawn.run_words("side.tbc LEVELS --csv") == (0, FIELDS, "")
+    assert drawn.run_words("side.tbc LEVELS --csv --map map") == (0, FIELDS, "")
+    monkeypatch.syspath_prepend(os.path.join(TOP, "texts"))
+    written = importlib.import_module("write")
+    for path, words in (("docs/ANSWER.md", "side.tbc LEVELS --bad-lines"),
+                        ("docs/FORMATS.md", "scan --csv LEVELS side.tbc")):
+        assert drawn.run_command(words)[0] < 2
+        assert written.with_parts(path) == written.read(path)
 
 
 def test_bad_lines(drawn):
@@ -143,12 +152,28 @@ def test_the_pictures_of_the_documents(drawn):
         assert drawn.read(name) == (docs / "pictures" / name).read_bytes()
 
 
-@pytest.mark.parametrize("words", ("side.vbi.json", "join side.vbi.json side.vbi.json", "scan side.vbi.json"))
+@pytest.mark.parametrize("words", ("side.vbi.json", "join side.vbi.json side.vbi.json", "scan side.vbi.json",
+                                   "write out.tbc side.tbc"))
 def test_standard_output_in_the_place_of_an_input(drawn, words):
-    with open(drawn.named("side.vbi.json"), "ab") as file:
+    drawn.metadata("side.tbc.json", count=12)
+    name = words.split()[-1]
+    before = drawn.read(name)
+    with open(drawn.named(name), "ab") as file:
         said = "ldvbi-side: %s\n" % IN_PLACE % "standard output"
         assert drawn.run_command(words, stdout=file) == (2, None, said)
-    assert drawn.read("side.vbi.json") == drawn.document
+    assert (drawn.read(name), drawn.names()) == (before, ["side.tbc", "side.tbc.json", "side.vbi.json"])
+
+
+@pytest.mark.parametrize("count, taken", ((61, "b.tbc"), (60, "a.tbc"), (62, "a.tbc")))
+def test_dropouts_of_captures(room, count, taken):
+    """Those of metadata with another count of fields say nothing of a capture."""
+    for name, last, fields in (("a.tbc", 200, 61), ("b.tbc", 110, count)):
+        room.add(name)
+        drops = {"startx": [100], "endx": [last], "fieldLine": [50]}
+        room.metadata(name + ".json", count=fields, field={"dropOuts": drops})
+    rows = room.run_words("join a.tbc b.tbc --csv")[1].splitlines()
+    assert rows[1:3] == ["1,%s,1,0,read" % taken, "2,%s,3,1,read" % taken]
+    assert "\nnothing but their numbers shows that these are one disc\n" in room.run_words("join a.tbc b.tbc")[1]
 
 
 ENDLESS = ("CREATE TABLE capture (system, black_16b_ire, white_16b_ire)",
@@ -190,11 +215,19 @@ def test_a_full_device_takes_no_messages(drawn, words, more):
         assert drawn.run_command(words, env={**buffered(), **more}, stderr=full) == (2, b"", "")
 
 
-@pytest.mark.parametrize("number", (signal.SIGINT, signal.SIGTERM, signal.SIGHUP))
-def test_while_python_ends(drawn, number):
+@pytest.mark.parametrize("number, is_stopped, wanted", (
+    (signal.SIGINT, False, (-signal.SIGINT, "field 4, frame 2\n", "")),
+    (signal.SIGTERM, True, (130, "", "")), (signal.SIGHUP, False, (-signal.SIGHUP, "field 4, frame 2\n", ""))))
+def test_while_python_ends(drawn, number, is_stopped, wanted):
     """All has been written then, or the command was stopped, and the status is that of the first signal."""
-    for is_stopped, wanted in ((False, (-number, "field 4, frame 2\n", "")), (True, (130, "", ""))):
-        assert drawn.run_words("-c", ENDING % (is_stopped, number), command=[sys.executable]) == wanted
+    assert drawn.run_words("-c", ENDING % (is_stopped, number), command=[sys.executable]) == wanted
+
+
+def test_ctrl_c_in_a_call():
+    """A program that calls the command may heed signals as Python does."""
+    with mock.patch("ldvbi_side.command.main.main", side_effect=KeyboardInterrupt), \
+            mock.patch("ldvbi_side.__main__.drop_standard_output") as drop:
+        assert (main([]), drop.call_count) == (130, 1)
 
 
 @pytest.mark.parametrize("name, number, status, more", (
@@ -211,13 +244,6 @@ def test_while_it_is_loaded(drawn, name, number, status, more):
         drawn.stopped(process, number, status)
 
 
-def test_while_python_itself_is_loaded(drawn):
-    """The script has Python leave out the modules by which it knows of others, and in which Ctrl-C would be told."""
-    drawn.write("sitecustomize.py", "import os, signal\nos.kill(os.getpid(), signal.SIGINT)\n")
-    assert drawn.run_words("side.vbi.json --seek 3", command=[os.path.join(TOP, "python", "ldvbi-side")],
-                           env={**os.environ, "PYTHONPATH": drawn.folder}) == (0, "field 4, frame 2\n", "")
-
-
 # Ends the process as Ctrl-C does, as soon as a module is looked for.
 STOPS_AT = """import os, signal, sys
 
@@ -228,20 +254,24 @@ class Finder:
 
 sys.meta_path.insert(0, Finder)
 """
+SCRIPT = os.path.join(TOP, "python", "ldvbi-side")
 
 
-@pytest.mark.parametrize("module, words, wanted", (
-    ("ldvbi_side.__main__", ["-m", "ldvbi_side", "side.vbi.json", "--seek", "3"], (130, "", "")),
-    ("ldvbi_side.outside", ["-m", "ldvbi_side"], (130, "", "")),
+@pytest.mark.parametrize("begin, words, wanted", (
+    # the script has Python leave out the modules by which it knows of others, and in which Ctrl-C would be told
+    ("import os, signal\nos.kill(os.getpid(), signal.SIGINT)\n", [SCRIPT, "--help"], 0),
+    (STOPS_AT % "ldvbi_side.__main__", [sys.executable, "-m", "ldvbi_side", "side.vbi.json", "--seek", "3"], 130),
+    (STOPS_AT % "ldvbi_side.outside", [sys.executable, "-m", "ldvbi_side"], 130),
     # as a part of another program the package leaves signals as they are
-    ("ldvbi_side.near", ["-m", "other", "ldvbi_side"], (0, "KeyboardInterrupt\n", "")),
-    ("ldvbi_side.near", ["-c", "import other", "ldvbi_side"], (0, "KeyboardInterrupt\n", ""))))
-def test_while_its_first_modules_are_loaded(room, module, words, wanted):
-    room.write("sitecustomize.py", STOPS_AT % module)
+    (STOPS_AT % "ldvbi_side.near", [sys.executable, "-m", "other", "ldvbi_side"], 7),
+    (STOPS_AT % "ldvbi_side.near", [sys.executable, "-c", "import other", "ldvbi_side"], 7)))
+def test_while_first_modules_are_loaded(room, begin, words, wanted):
+    """Python's own, or those of the package."""
+    room.write("sitecustomize.py", begin)
     room.write("other.py", "try:\n    import ldvbi_side.near\nexcept KeyboardInterrupt as stop:\n"
-                           "    print(type(stop).__name__)\n")
+                           "    raise SystemExit(7 if type(stop) is KeyboardInterrupt else 8)\n")
     paths = os.pathsep.join([room.folder, os.environ["PYTHONPATH"]])
-    assert room.run_words(*words, command=[sys.executable], env={**os.environ, "PYTHONPATH": paths}) == wanted
+    assert room.run_words(*words, command=[], env={**os.environ, "PYTHONPATH": paths})[::2] == (wanted, "")
 
 
 def test_in_a_function_whose_exceptions_are_dropped(drawn):
@@ -301,13 +331,14 @@ def test_no_reader(drawn, printing):
     assert (printing.stderr.read(), printing.wait(DEADLINE)) == (b"", 2)
 
 
-@pytest.mark.parametrize("encoding, shown", (("ascii", b"\\xfc\\udcff"), ("utf-8", b"\xc3\xbc\xff")))
+@pytest.mark.parametrize("encoding, shown", (("ascii", b"\\xfc\\udcff"), ("utf-8", b"\xc3\xbc\xff"),
+                                             ("UTF8", b"\xc3\xbc\xff")))
 def test_names(drawn, encoding, shown):
     """A letter that a locale lacks is escaped; a name that is no text is printed as it is, but not in messages."""
     name = os.fsdecode(b"\xc3\xbc\xff.vbi.json")
     drawn.write(name, drawn.document)
-    status, text, said = drawn.run_command("scan", "--csv", name, env=dict(os.environ, PYTHONIOENCODING=encoding))
-    assert (status, text.split(b"\n")[1].partition(b".vbi.json,no,")[0], said) == (1, shown, "")
+    status, text, _ = drawn.run_command("join", "--csv", name, name, env=dict(os.environ, PYTHONIOENCODING=encoding))
+    assert (status, text.split(b"\n")[1]) == (0, b"0,%s.vbi.json,1,1,read" % shown)
     drawn.refused("\\x1b[31m\\n\\udcff: No such file or directory", os.fsdecode(b"\x1b[31m\n\xff"))
     drawn.refused("a file without a name: No such file or directory", "")
     drawn.write("-x", drawn.document)

@@ -2,7 +2,9 @@
 
 import contextlib
 import csv
+import fcntl
 import gzip
+import io
 import json
 import os
 import re
@@ -18,9 +20,10 @@ from ldvbi_side.command.folders import files_of, Found, name_below, page_names, 
 from ldvbi_side.command.into import copies_in
 from ldvbi_side.command.main import scanned
 from ldvbi_side.command.outputs import locked
+from ldvbi_side.command.rows import Csv, fault_row, Json, row_of, Text
 from ldvbi_side.command.scan import _Folder, scan
 import pytest
-from room import buffered, COMMAND, DEADLINE, in_database, IN_PLACE
+from room import buffered, COMMAND, in_database, IN_PLACE
 from streams import TOP
 
 HEAD = "side whole lost unread format from to last lead-in lead-out fields try why system with".split()
@@ -41,6 +44,8 @@ SIDES = """
     b/times.tbc | t0..20 O | yes | 0 | 0 | NTSC | clv | 0:00:00.00 | 0:00:00.20 | 0:00:00.20 | 0 | 1 | 43 | - | -
     b/unread.tbc | 1..30 23=B O | yes | 0 | 1 | NTSC | cav | 1 | 30 | 30 | 0 | 1 | 61 | - | -
 """
+# The members that say nothing of a side that wasn't read
+MEMBERS = "whole lost unread format from to last leadIn leadOut fields try reasons system".split()
 DARK = ("NTSC", 16384, 30000)  # white is less than the middle of the metadata's levels
 YES = "side.tbc,yes,0,0,cav,1,30,30,0,1,61,,,NTSC,"
 NO = "side.tbc,no,2,0,cav,1,8,8,0,1,13,,4 fields lost; 2 pictures lost,NTSC,"
@@ -56,7 +61,8 @@ def test_each_kind(room):
                 "CREATE TABLE capture (system TEXT, black_16b_ire INTEGER, white_16b_ire INTEGER)",
                 "INSERT INTO capture VALUES ('NTSC', 16384, 51200)")
     os.unlink(room.named("a/database.tbc.json"))
-    found = list(map(room.scan, ("--csv -j 1 --html one a b", "--json -j 4 --html four b a", "--html four a b")))
+    found = [room.scan("--csv --html one a b"),
+             room.run_words("scan --json -j 4 --html four b a", env=buffered()), room.scan("--html four a b")]
     assert [(status, said) for status, _, said in found] == [(2, "")] * 3
     head, *rows = csv.reader(found[0][1].splitlines())
     assert (head, len(rows)) == (HEAD, len(cells_of(SIDES)))
@@ -68,15 +74,50 @@ def test_each_kind(room):
     known = json.loads(found[1][1])["sides"]
     assert [(one["side"], one["fields"] or "", "; ".join(one["reasons"]) or one["fault"] or "") for one in known] == [
         (row[0], row[10] and int(row[10]), row[12]) for row in rows]
-    form = "%-14s  %-10s  %6s  %6s  %6s  %7s  %10s  %10s  %10s  %7s  %8s  %7s  %13s  "
-    assert found[2][1].splitlines() == [
-        (form % ("side" if row is HEAD else row[0], *(dict(zip(HEAD, row))[column] or "-" for column in TEXT[:-1]))
-         + row[12]).rstrip() for row in [HEAD, *rows]]
+    assert [row.split()[0] for row in found[2][1].splitlines()] == ["side", *(row[0] for row in rows)]
     names = [os.path.basename(one["page"]) for one in known if one["page"]] + ["index.html"]
     assert len(names) == len(rows)  # one has a fault; and the index
     assert room.names("one") == room.names("four") == sorted(names)
     for name in names:
         assert room.read("one/" + name) == room.read("four/" + name)
+
+
+# A row of the text, of the width that the longest name has
+FORM = "%-11s  %-10s  %6s  %6s  %6s  %7s  %10s  %10s  %10s  %7s  %8s  %7s  %13s  %s\n"
+
+
+def test_rows():
+    """Of a side, and of one that wasn't read, as text, as CSV and as JSON; each is printed at once."""
+    said = {"numbers": {"least": 1, "greatest": 30}, "counts": {"lost": 2, "unread": 0}, "whole": "no", "system": "PAL",
+            "format": "cav", "last": 29, "leadIn": 3, "leadOut": 4, "fields": 57, "try": None,
+            "reasons": [{"text": "one"}, {"text": "other"}]}
+    read, failed = row_of("a\x1b.tbc", said, "a.html"), fault_row("b.tbc", "it \n broke")
+    read["with"] = ["b", "c"]
+    for make, *wanted in (
+            (lambda: Text(["longest.tbc", "b.tbc"]),
+             FORM % ("side", *TEXT),
+             FORM % ("a?.tbc", "no", 2, 0, "PAL", "cav", 1, 30, 29, 3, 4, 57, "-", "one; other"),
+             FORM % ("b.tbc", "fault", *"-" * 11, "it broke"), "x: join\n"),
+            (Csv, ",".join(HEAD) + "\n", "a\\x1b.tbc,no,2,0,cav,1,30,29,3,4,57,,one; other,PAL,b; c\n",
+             "b.tbc,fault,,,,,,,,,,,it broke,,\n", ""),
+            (Json, "", "", "", json.dumps({"version": 2, "sides": [{
+                "side": "a\x1b.tbc", "whole": "no", "lost": 2, "unread": 0, "system": "PAL", "format": "cav", "from": 1,
+                "to": 30, "last": 29, "leadIn": 3, "leadOut": 4, "fields": 57, "with": ["b", "c"], "try": None,
+                "reasons": ["one", "other"], "fault": None, "page": "a.html"}, {
+                "side": "b.tbc", **dict.fromkeys(MEMBERS), "with": [], "reasons": [], "fault": "it broke",
+                "page": None}], "discs": ["plain"]}) + "\n")):
+        data = io.BytesIO()
+        with contextlib.redirect_stdout(io.TextIOWrapper(data)) as out:
+            table = make()
+            out.flush()
+            table.add(read)
+            assert data.getvalue().decode() == "".join(wanted[:2])
+            table.add(failed)
+            assert data.getvalue().decode() == "".join(wanted[:3])
+            table.end([mock.Mock(**{"text.return_value": "x", "command.return_value": "join",
+                                    "as_json.return_value": "plain"})])
+            out.flush()
+        assert data.getvalue().decode() == "".join(wanted)
 
 
 def listed(room):
@@ -294,17 +335,18 @@ def test_two_scans_at_once(room):
     write = _Folder.write_index
 
     def later(folder, *rows):
-        assert room.run_command("scan --html pages b", env=buffered())[::2] == (0, "")
-        with locked(folder.path):
-            waiting = room.started("scan --html pages b --again")
-            with pytest.raises(subprocess.TimeoutExpired):
-                waiting.wait(2)
-        waiting.communicate(timeout=DEADLINE)
+        with mock.patch.object(_Folder, "write_index", write):
+            assert room.scan("--html pages b")[::2] == (0, "")
         write(folder, *rows)
 
-    with contextlib.chdir(room.folder), mock.patch.object(_Folder, "write_index", later):
-        scan(["--html", "pages", "a"], scanned)
+    with mock.patch.object(_Folder, "write_index", later):
+        room.scan("--html pages a")
     assert re.findall(r'href="([^"]*)"', room.text("pages/index.html")) == ["1.html", "2.html"]
+    other = os.open(room.named("pages"), os.O_RDONLY)
+    room.cleanup.callback(os.close, other)
+    with locked(room.named("pages")), pytest.raises(BlockingIOError):
+        fcntl.flock(other, fcntl.LOCK_EX | fcntl.LOCK_NB)
+    fcntl.flock(other, fcntl.LOCK_EX | fcntl.LOCK_NB)
 
 
 def test_few_open_files(room):
@@ -313,13 +355,6 @@ def test_few_open_files(room):
     limited = ["sh", "-c", 'ulimit -n 8; exec "$@"', "sh", *COMMAND]
     assert room.run_words("scan --csv .", command=limited)[::2] == (
         2, "ldvbi-side: Too many open files; `ulimit -n` says how many a process may open\n")
-
-
-def test_control_characters(room):
-    """Of a name they are escaped, so that none acts on a terminal; JSON has the name as it is."""
-    room.add("a\x1b[31m\x85\n.tbc")
-    assert room.run_words("scan --csv .")[1].splitlines()[1].startswith("./a\\x1b[31m\\x85\\n.tbc,")
-    assert json.loads(room.run_words("scan --json .")[1])["sides"][0]["side"] == "./a\x1b[31m\x85\n.tbc"
 
 
 def test_names_and_notes(room):

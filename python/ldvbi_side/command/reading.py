@@ -52,7 +52,7 @@ def source_of(options: argparse.Namespace, on_field: Optional[OnField] = None,
     with naming(name_of(options)), \
             open(0 if is_standard_input else options.side, "rb", closefd=not is_standard_input,
                  opener=None if options.waits else regular) as file:
-        begin = file.peek(64)
+        begin = file.peek()
         _refuse_begin(options, begin)
         side = None
         if is_standard_input or is_document(options.side, begin):
