@@ -70,6 +70,13 @@ PLANS = """
         | left_out=7,1007,2007,3007,4007 padding=38
     numbers on both fields go on: of 9 the second one is lost | lost=18 NTSC b1..20 | 1-8 a1, 9? a17, 9 x1, 10-20 a18
         | fields=40 padding=1 partial=9 unsure=9
+    and one field isn't read | b1..5 5=B | 1-5 a1 | 3@5 4@7
+    film that goes on to have three on even ones, of which a field is lost | lost=52 NTSC f1..20 e21..40
+        | 1-21 a1, 21 x1, 22-39 a52, 40? a97 | partial=21
+    the whole first one and a field | lost=51..53 NTSC f1..20 e21..40
+        | 1-19 a1, 20? a49, 21-22 x3, 22? a51, 23-39 a53, 40? a95 | padded=21 partial=22
+    two fields of one, and one of the next | lost=52..54 NTSC f1..40 | 1-21 a1, 21-22 x3, 22? a52, 23-39 a53, 40? a96
+        | padded= partial=21,22
     film, from 1 on | NTSC f3..20 & start=1 | 1-2 x5, 3-20 a1
     no picture is sure: each was played at another speed | 1..99/2 & sure=1 | no number is sure enough to be taken
     numbers at another speed are padding; so is the last field, of which nothing says whose it is
@@ -91,7 +98,8 @@ PLANS = """
     more are | 1..20 522..541 & most_padding= | 1002 of 1082 fields would be padding; see --most-padding
     a tenth isn't | 1..4500 5051..5500 & most_padding= | 1-4499 a1, 4500? a8999, 4501-5050 x1100, 5051-5499 a9001,
         5500? a9899
-    more is | 1..4499 5050..5499 ; 1 & most_padding=1099 | 1100 of 10998 fields would be padding; see --most-padding
+    more is | 1..4499 5050..5499 & most_padding= | 1100 of 10998 fields would be padding; see --most-padding
+    more than is asked | 1..20 22 & most_padding=1 | 2 of 44 fields would be padding; see --most-padding
 """
 OPTION = re.compile(r"(lost|pad|dropouts)=(\S*) ")
 

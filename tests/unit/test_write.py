@@ -58,6 +58,7 @@ CASES = {
     "second fields": (SECOND, [(SECOND.order, {})], []),
     "PAL, eight fields": (PAL, [(lost(PAL, (9, 0, 8)), {})], range(PAL.at[9], PAL.at[9] + 8)),
     "film": (FILM, [(lost(FILM, (9, 0, 7)), {})], range(FILM.at[9], FILM.at[9] + 7)),
+    "film, a still without a number": (FILM, [(standing(FILM.order, FILM.at[11] + 1, 4), {})], []),
     "film, a third field": (FILM, [(lost(FILM, (9, 2, 1)), {})], [FILM.at[9] + 2]),
     "film, filled": (FILM, [(lost(FILM, (9, 1, 7)), {}), (lost(FILM, (15, 0, 4)), {"jitter": 1})], []),
     "times": (TIMES, [(losing(TIMES.order, (16, 6)), {})], range(16, 22))}
@@ -70,7 +71,7 @@ def drawn(room, name, form="json", **known):
         draw(room.named(letter + ".tbc"), one, order, form=form, **more, **known)
     return "write out.tbc " + " ".join(letter + ".tbc" for letter in "abc"[:len(captures)])
 
-AMID = ("a field twice", "unread at the ends")
+AMID = ("a field twice", "unread at the ends", "film, a still without a number")
 
 
 @pytest.mark.parametrize("name, form", [*((name, "json") for name in CASES), *((name, "db") for name in (
@@ -141,18 +142,6 @@ def test_an_output_is_written_again(room, form):
     assert None in places_in(room.named("p.tbc"), one)
 
 
-def test_all_else_of_an_entry_comes_along(room):
-    words = drawn(room, "each lacks others")
-    room.run_words(words)
-    olds = {name: json.loads(room.text(name + ".json"))["fields"] for name in ("a.tbc", "b.tbc")}
-    new = json.loads(room.text("out.tbc.json"))["fields"]
-    for row in room.text("out.stretches.csv").split("\n")[1:-1]:
-        out, fields, _, _, _, name, field, _ = row.split(",")
-        for step in range(int(fields)):
-            old = olds[name][int(field) - 1 + step]
-            assert new[int(out) - 1 + step] == {**old, "seqNo": int(out) + step}
-
-
 def test_options(room):
     drawn(room, "whole")
     assert room.run_words("write out.tbc a.tbc --ends")[0] == 0
@@ -189,14 +178,6 @@ def test_two_worn_captures_make_one_whole_side(room):
     rows = [row.split(",") for row in room.text("out.stretches.csv").split("\n")[1:-1]]
     assert [[row.split(",")[place] for place in (0, 1, 2, 3, 5)] for row in joined] == [
         [row[3], row[4], row[5], row[6], row[7]] for row in rows if row[3]]
-
-
-def test_it_cant_be_told(room):
-    """A player stood still in a frame of film that shows no number."""
-    draw(room.named("a.tbc"), FILM, standing(FILM.order, FILM.at[11] + 1, 4))
-    status, text, _ = room.run_words("write out.tbc a.tbc")
-    assert (status, text.split("\n")[0]) == (4, "whole: can't tell: 1 picture may have another's field (11)")
-    assert places_in(room.named("out.tbc"), FILM) == inside(FILM)
 
 
 def test_sound_that_one_lacks_is_left_out(room):
@@ -434,21 +415,14 @@ def test_it_ends_in_order(room, monkeypatch):
     assert room.files() == before
 
 
-def test_without_the_systems_own_copy(room, monkeypatch):
+def test_without_the_systems_own_copy_and_of_a_text_beyond_ascii(room, monkeypatch):
+    """Letters of more than a byte stand before the fields, and in them."""
     words = drawn(room, "whole")
+    room.write("a.tbc.json", room.text("a.tbc.json").replace('"diskLoc"', '"\u00fc":"\u20ac","diskLoc"'))
 
     def none(*_):
         raise OSError("not here")
     monkeypatch.setattr(os, "copy_file_range", none)
     assert room.run_words(words)[0] == 0
-    assert places_in(room.named("out.tbc"), VIDEO) == inside(VIDEO)
-
-
-def test_a_text_that_stands_in_more_bytes_than_characters(room):
-    """Before its fields, and in them."""
-    draw(room.named("a.tbc"), VIDEO, VIDEO.order)
-    text = room.text("a.tbc.json")
-    room.write("a.tbc.json", text.replace('"diskLoc"', '"\u00fc":"\u20ac","diskLoc"'))
-    assert room.run_words("write out.tbc a.tbc")[0] == 0
     assert places_in(room.named("out.tbc"), VIDEO) == inside(VIDEO)
     assert all(one["\u00fc"] == "\u20ac" for one in entries_of(room.named("out.tbc")))

@@ -40,6 +40,8 @@ def runs_of(place: int, capture: Followed, known: Known, disputed: Set[int], is_
     answer, parts = capture.source.answer, capture.parts
     runs: List[Run] = []
     for at, anchors in enumerate(parts):
+        if any(one.field in disputed for one in anchors):
+            continue
         before = parts[at - 1][-1] if at else None
         after = parts[at + 1][0] if at + 1 < len(parts) else None
         if answer.pace == "minute":
@@ -47,8 +49,6 @@ def runs_of(place: int, capture: Followed, known: Known, disputed: Set[int], is_
         else:
             blocks = _with_end(blocks_of(anchors), anchors[-1], after, capture, known, is_sure)
             blocks = _with_begin(blocks, anchors[0], before, capture, known, is_sure)
-        if any(one.field in disputed for one in anchors):
-            continue
         blocks = [one if _is_sure(one, capture, known) else one._replace(doubt=OPEN) for one in blocks
                   if one.doubt == KNOWN or one.field not in disputed]
         runs += _sure_runs(place, blocks) if is_sure else [Run(place, blocks)]
@@ -184,7 +184,7 @@ def _with_end(blocks: List[Block], last: Anchor, after: Optional[Anchor], captur
         room = after.rank - last.rank if after.rank > last.rank else known.extent.stop - last.rank
     sure = 1 + shared.sure_after
     left, field, found = sure if is_taken_surely else 1 + shared.after, last.field, blocks[:-1]
-    for rank in range(last.rank, last.rank + max(room, 1)):
+    for rank in range(last.rank, last.rank + room):
         if not left:
             break
         want = lengths.of(rank)
@@ -211,7 +211,7 @@ def _with_begin(blocks: List[Block], first: Anchor, before: Optional[Anchor], ca
         shared = _shared(before, first, capture, lengths)
         room = first.rank - (before.rank + 1 if before.rank < first.rank else known.extent.start)
     left, field, found = shared.sure_before if is_taken_surely else shared.before, first.field, blocks
-    for rank in range(first.rank - 1, first.rank - 1 - max(room, 0), -1):
+    for rank in range(first.rank - 1, first.rank - 1 - room, -1):
         if not left:
             break
         want = lengths.of(rank, 1)
