@@ -48,6 +48,15 @@ PLANS = """
     of film, in part | lost=52..55 NTSC f1..40 | 1-21 a1, 21-22 x4, 23-39 a52, 40? a95 | unsure=40 partial=21 padded=22
     of film, whole | lost=51..55 NTSC f1..40 | 1-19 a1, 20? a49, 21-22 x5, 23-40 a51 | unsure=20 padded=21,22
     another one has what is lost | lost=39..42 NTSC 1..40 ; lost= NTSC 15..30 | 1-14 a1, 15-21 b1, 22-40 a39 | unsure=
+    of film a third field is lost | lost=53 NTSC f1..40 | 1-20 a1, 21? a51, 21 x1, 22-39 a53, 40? a98 | partial=21
+    a jump ahead to what is lost | 1..10 30 11..29 31..40 | 1-9 a1, 10? a19, 11-28 a23, 29? a59, 30? a21, 31-39 a61,
+        40? a79 | unsure=10,29,30,40 || it cut no frame | lost= 1..10 30 11..29 31..40
+        | 1-9 a1, 10? a19, 11-28 a23, 29? a59, 30? a21, 31-40 a61
+    unread beside lead-in, and before lead-out, which may be its | L Bx5 3..20 Bx4 O | 1-20 a3, 21-22? a43
+    unread without either | lost= Bx4 3..20 Bx4 | 1-20 a1 || another one has them | L Bx4 3..20 Bx3 O ; 1..22 | 1-22 b1
+    unread on both fields | b1..10 Bx2 b12..20 | 1-20 a1 | 11@21
+    a minute that ends unread | m57x3000 m58x2900 Bx100 O | 0:57-0:58 a1 | unsure=
+    another one has more of it | m57x3000 m58x2900 ; m58x3000 | 0:57 a1, 0:58 b1
     film, cut | CUT ; NTSC f1..120 | 1-120 b1 || a chapter's field | 1..40 41=-/c0/c0 ; 1..3 | 1-40 a1
     film, of which pictures are lost: odd ones have three | NTSC f1..20 f26..40
         | 1-19 a1, 20? a49, 21-25 x13, 26-39 a51, 40? a86
@@ -169,6 +178,8 @@ def test_plans(why, sides, wanted, members):
         return
     assert stretches_text(found) == wanted, why
     refuse_wrong(found, sources)
+    numbers = {number for one in found.stretches for number in one.numbers()} - {*found.left_out}
+    assert numbers - {*found.padded} <= {*found.first_field} <= numbers, why
     for one in members.split():
         name, value = re.fullmatch(r"(\w+@|\w+)=?(\S*)", one).groups()
         assert member(found, name) == value, (why, name)
