@@ -14,7 +14,6 @@ import sys
 import classes_parts
 import completions
 import documents
-import measured
 import numbers_of
 import pages
 from program import TOP, ldvbi, ldvbi_side
@@ -58,9 +57,7 @@ def written():
     yield HEADER, stated.with_numbers(HEADER, with_parts(HEADER), numbers)
     for path in ["README.md", "CONTRIBUTING.md", *sorted(numbers_of.paths("docs/*.md"))]:
         named |= {one[2] for one in numbers_of.MARK.finditer(read(path))}
-        text = numbers_of.with_numbers(with_parts(path), numbers)
-        # tests/documents.py compares those of what was measured
-        yield path, text if path == measured.PAGE else stated.with_numbers(path, text, numbers)
+        yield path, stated.with_numbers(path, numbers_of.with_numbers(with_parts(path), numbers), numbers)
     if not {*numbers_of.of_tests(), *numbers_of.package()} <= named:
         raise SystemExit("write: no document has %s" % ({*numbers_of.of_tests(), *numbers_of.package()} - named))
 
