@@ -76,7 +76,8 @@ def paths():
 SOURCES = ("crates/*/src/*.rt", "crates/*/specs/*.antt", "include/*.h", "python/**/*.py", "rust/hand/src/*.rs",
            "share/schema/*.json", "[rt]*/*.sh", "tests/unit/*.py", "simulated/*.py", "examples/*.c")
 # Words of other programs, and of the machine
-NOT_OURS = {"chdman", "console", "manylinux_2_17", "memcpy", "memmove", "memset", "pipefail", "pv", "siglongjmp", "WILLNEED"}
+NOT_OURS = {"chdman", "console", "manylinux_2_17", "memcpy", "memmove", "memset", "pipefail", "pv", "siglongjmp",
+            "WILLNEED"}
 
 
 def words_of(path):
@@ -136,8 +137,8 @@ def faults():
 
 
 SIDE, PILED = "crates/vbi_side/specs/", "crates/vbi_near/specs/Piled.antt"
-# Where numbers stand in the source, and sentences of Python and schemas with the same ones, in which # stands for each
-# in turn, or for one; of the order of bytes it stands for a word. texts/write.py writes those of documents and header.
+# Where numbers stand in the source, and sentences of Python with the same ones, in which # stands for each in turn, or
+# for one; of the order of bytes it stands for a word, in documents, too. texts/write.py writes all others.
 NUMBERS = (
     (SIDE + "Beliefs.antt", r"^enough = (\d+)$", "weighs? # or more", "and # or more after it",
      "(?:weigh|it) less than #"),
@@ -150,7 +151,6 @@ NUMBERS = (
     ("python/ldvbi/near.py", r"^MOST_LINES = (\d+) ", "of 1 to # lines", "that 1 to # lines"),
     (PILED, r"columns = if known then (\d+) else (\d+); share",
      "ahead of any other(?: code)? by # columns[,;] else by #"),
-    (SIDE + "Lines.antt", r"nat_lt minutes (\d+) ", "shows it, as minute #"),
     ("crates/vbi_words/specs/Levels.antt", r"^samples_of \((\w+) ∷ \w+ ∷ bytes\) = \(\1 [+] 256 ",
      "(?:the|samples,|samples of 16 bits,) # byte first"),
 )
@@ -211,7 +211,7 @@ def promises():
 
 # Each check, with the least that it has to look at
 CHECKS = {"promises": (promises, 17), "links": (links, 70), "paths": (paths, 120), "names": (names, 800),
-          "faults": (faults, 28), "numbers": (numbers, 40), "measured": (measured, 20)}
+          "faults": (faults, 28), "numbers": (numbers, 35), "measured": (measured, 20)}
 
 
 def main():

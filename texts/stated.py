@@ -1,6 +1,7 @@
-"""The numbers in the comments of the header for C, in the manual pages and in the sentences of documents that stand
-after no name. stated.txt has all of each comment or section, in their order: one that the source has elsewhere by its
-name (numbers_of.py), and as itself what the format or the interface means, or what was counted once.
+"""The numbers in the comments of the header for C, in manual pages and the descriptions of schemas, and in documents
+outside of blocks, where they stand after no name. stated.txt has all of each comment or section, in their order: one
+that the source has elsewhere by its name (numbers_of.py), and as itself what the format or the interface means, or what
+was counted once.
 
 usage: python3 texts/stated.py      prints the rows that differ from those of stated.txt, as the files have them"""
 
@@ -19,7 +20,8 @@ NUMBER = re.compile(FIGURES + r"|\b(?:two|three|four|five|six|seven|eight|nine|t
 PART = re.compile(r"^[^\w\n]+ from [\w./-]+: \w+\b.*?^[^\w\n]+ to here\b", re.M | re.S)
 APART = re.compile(r"^```.*?^```|<!--.*?-->(?:`?[\d,]+)?|\]\([^)]*\)", re.M | re.S)
 # The pieces of a file by the end of its name
-PIECES = {".h": r"/\*.*?\*/", ".1": r"^\.Sh .*?(?=\n\.Sh|\Z)", ".md": r"(?:^#+ |\A).*?(?=\n#|\Z)"}
+PIECES = {".h": r"/\*.*?\*/", ".1": r"^\.Sh .*?(?=\n\.Sh|\Z)", ".md": r"(?:^#+ |\A).*?(?=\n#|\Z)",
+          ".json": r'"(?:description|title|\$comment)": "(?:\\.|[^"])*"'}
 # What a comment is about: the name before it on its line, or the first one after it that is declared
 BEFORE = re.compile(r"(\w+)(?:\[\d+\])?(?: = \d+)?[,;{} ]*$")
 AFTER = re.compile(r"\b(ldvbi_\w+(?=\()|Ldvbi\w+|LDVBI_(?!RESULT|POINTER)\w+)")
@@ -46,7 +48,7 @@ def rows() -> Dict[str, List[Tuple[str, List[str]]]]:
 
 
 def numbers_in(path: str, piece: str) -> List["re.Match[str]"]:
-    return list(re.finditer(FIGURES, piece) if path.endswith(".md") else NUMBER.finditer(piece))
+    return list(re.finditer(FIGURES, piece) if path.endswith((".md", ".json")) else NUMBER.finditer(piece))
 
 
 def pieces(path: str, text: str) -> Iterator[Tuple[int, str, str]]:
@@ -59,6 +61,8 @@ def pieces(path: str, text: str) -> Iterator[Tuple[int, str, str]]:
         about = BEFORE.search(line) if line.strip() else AFTER.search(text, one.end())
         if numbers_in(path, one[0]):
             head = one[0].split("\n")[0].removeprefix(".Sh ").lstrip("# ")
+            if end == ".json":
+                head = (re.findall(r'"([\w$]+)": \{', text[:one.start()]) or ["title"])[-1]
             yield one.start(), one[0], head if end != ".h" else about[1] if about else ""
 
 

@@ -1,9 +1,9 @@
 #!/usr/bin/env python3
 """Writes the texts that have their source elsewhere: the completions whole; in manual pages, documents, the header for
 C and two more files what stands between a comment `from SOURCE: PART` and `to here`; in a schema the list of kinds; the
-numbers of documents that stand after their name; and all others of documents, manual pages and the header's comments
-(stated.txt). The sources are the commands and options, what was measured, the definitions, and the table of the classes
-of code words (classes.txt)."""
+numbers of documents that stand after their name; and all others of documents, manual pages, schemas' descriptions and
+the header's comments (stated.txt). The sources are the commands and options, what was measured, the definitions, and
+the table of the classes of code words (classes.txt)."""
 
 import argparse
 import functools
@@ -53,7 +53,9 @@ def written():
         yield path, stated.with_numbers(path, with_parts(path, of_program), numbers)
     for path in ("bench/plain.h", "python/ldvbi/classes.py"):
         yield path, with_parts(path)
-    yield classes_parts.SCHEMA, classes_parts.with_kinds(read(classes_parts.SCHEMA))
+    for path in sorted(numbers_of.paths("share/schema/*.json")):
+        text = classes_parts.with_kinds(read(path)) if path == classes_parts.SCHEMA else read(path)
+        yield path, stated.with_numbers(path, text, numbers)
     yield HEADER, stated.with_numbers(HEADER, with_parts(HEADER), numbers)
     for path in ["README.md", "CONTRIBUTING.md", *sorted(numbers_of.paths("docs/*.md"))]:
         named |= {one[2] for one in numbers_of.MARK.finditer(read(path))}

@@ -114,7 +114,7 @@ while read -r count said; do
     in_folder copy python3 $said
     check "$said sees other texts" [ "$status $(grep -vc 'looked at$' out)" = "1 $count" ]
 done << 'END'
-3 texts/write.py --check
+4 texts/write.py --check
 12 tests/documents.py
 END
 
