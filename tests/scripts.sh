@@ -23,11 +23,11 @@ fault() {
 }
 
 # tagged WORD..: the scripts with one of these words in their line, if any has one. Those that take longest come first:
-# the answers and Python's, and the one that waits for downloads.
+# packages, documents, the crate and Python's, and the one that waits for downloads.
 tagged() {
     for word; do
         (cd "$here" && grep -rlw --include='*.sh' "^# runs: .*$word" .) || [ $? = 1 ]
-    done | sed 's,^./cli/\(answers\|rust_answers\|bare\),./~&,' | LC_ALL=C sort -ru | sed 's|~./||'
+    done | sed 's,^./cli/\(packaging\|docs\|rust_crate\|bare\),./~&,' | LC_ALL=C sort -ru | sed 's|~./||'
 }
 
 # named NAME..: the scripts with these names
