@@ -13,6 +13,7 @@ from planted import other_values, Plant, TOP
 
 STRING, LINE, BLOCK, HASH = r'b?"(?:\\.|[^"\\])*"', r"//[^\n]*", r"/\*.*?\*/", r"(?:^|(?<=\s))#[^\n]*"
 LITERAL = r"b?'(?:\\[^'\n]+|[^'\\\n])'"
+TESTS = r"^#\[cfg\(test\)\]\nmod .*"
 SHELL_STRING = STRING + r"|'[^']*'|\$\(\(.*?\)\)"
 NUMBER = re.compile(r"(?<![\w$])(?<!(?<!\.)\.)(?<!\$[{(])(?:0x[0-9A-Fa-f]+|\d+)"
                     r"(?=(?:[iu](?:8|16|32|64|size))?(?!\w|\.\d|[<>]))")
@@ -46,8 +47,8 @@ IN_C = Language("|".join((BLOCK, LINE, STRING, LITERAL)), r"^\w.*?\b(\w+)\(|^(?:
                 "operators numbers conditions statements arguments strings")
 IN_SH = Language(SHELL_STRING + "|" + HASH, r"^(\w+)\(\)", "shell numbers commands words strings")
 LANGUAGES = {
-    ".rs": Language("|".join((BLOCK, LINE, STRING, LITERAL)), r"\b(?:fn|struct|enum|const|static|macro_rules!) (\w+)|"
-                    r"\bimpl(?:<.*?>)? (.*?) \{", IN_C.kinds),
+    ".rs": Language("|".join((TESTS, BLOCK, LINE, STRING, LITERAL)),
+                    r"\b(?:fn|struct|enum|const|static|macro_rules!) (\w+)|\bimpl(?:<.*?>)? (.*?) \{", IN_C.kinds),
     ".c": IN_C, ".cpp": IN_C, ".h": Language(IN_C.apart, r"\b(ldvbi_\w+)\(|(?:struct|enum) (\w+)|#define (\w+)",
                                              IN_C.kinds + " members prose"),
     ".sh": IN_SH, ".bash": IN_SH, "_ldvbi": IN_SH, "_ldvbi-side": IN_SH,

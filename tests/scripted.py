@@ -29,7 +29,7 @@ PROJECT = CRATE + """rm -rf built && mkdir built && cp -r examples/rust built/pr
 TESTS = "cd rust/crate && cargo test --quiet --features cli --tests"
 LIBRARY = """for part in refusals judged plans lines worn; do
 LDVBI_LIBRARY=built/libldvbi.so.2 PYTHONPATH=python:tests/unit python3 tests/library/$part.py || exit; done"""
-BITS = "rustc --edition 2021 --test -A dead_code -O -o built/bits rust/hand/src/bits_above.rs && built/bits"
+BITS = "mkdir -p built && sh tests/cli/bits_above.sh built"
 WRITTEN, NAMED = "python3 texts/write.py --check", "python3 tests/documents.py"
 SCHEMA = "cd tests/unit && /usr/bin/python3 -m pytest -q -x test_schema.py"
 
@@ -41,7 +41,7 @@ def script(name, program="$PROGRAM"):
 ON_BUILT = [script("cli/" + name, "built/ldvbi") for name in ("program", "words", "device_faults", "want_of_memory")]
 # How a file's name begins, what builds it (or fails, as there is no plant then), and the commands, the quickest first
 ROWS = (
-    ("rust/hand/src/bits_above.rs", HAND, (BITS, TESTS)),
+    ("rust/hand/src/bits_above.rs", BITS, ("built/x86-64 && built/arm-64",)),
     ("rust/hand/src/exports.rs", HAND, (LIBRARY,)),
     ("rust/hand/src/main.rs", HAND, ON_BUILT), ("rust/hand/src/system.rs", HAND, ON_BUILT),
     ("rust/hand/src/clap.rs", HAND, ON_BUILT[:2]),

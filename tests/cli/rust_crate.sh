@@ -51,26 +51,13 @@ none of those of the program either|cargo clippy --quiet --all-targets --feature
 nor of what opens sides|cargo clippy --quiet --all-targets --features metadata
 none of its documents|cargo doc --quiet --no-deps
 it is laid out by rustfmt|cargo fmt --check
-bits_above is the plain loop|rustc --edition 2021 --test -A dead_code -O -o $work/bits_above src/bits_above.rs
-at every position and of every value|$work/bits_above
+bits_above is compiled in each of its ways|sh $here/bits_above.sh $work
+that of x86-64 is the plain loop|$work/x86-64
+so is that of 64-bit ARM|$work/arm-64
 the example in its documents|cargo test --doc --quiet
 its interface on drawn sides|cargo test --quiet --test facade --test whole
 sides that it opens|cargo test --quiet --features metadata --test opened
 END
-# The way of 64-bit ARM, with functions that do what its five instructions do
-sed 's/"x86_64"/"none"/; s/"aarch64"/"x86_64"/; s/std::arch::aarch64/crate::neon/' src/bits_above.rs > "$work/neon.rs"
-cat >> "$work/neon.rs" << 'END'
-mod neon {
-    type Lanes = [u16; 8];
-    pub unsafe fn vdupq_n_u16(one: u16) -> Lanes { [one; 8] }
-    pub unsafe fn vld1q_u16(from: *const u16) -> Lanes { *(from as *const Lanes) }
-    pub unsafe fn vcgtq_u16(a: Lanes, b: Lanes) -> Lanes { std::array::from_fn(|i| u16::from(a[i] > b[i]) * 65535) }
-    pub unsafe fn vandq_u16(a: Lanes, b: Lanes) -> Lanes { std::array::from_fn(|i| a[i] & b[i]) }
-    pub unsafe fn vaddvq_u16(a: Lanes) -> u16 { a.iter().sum() }
-}
-END
-quiet rustc --edition 2021 --test -A dead_code -O -o "$work/neon" "$work/neon.rs"
-check 'that of 64-bit ARM is the plain loop, too' quiet "$work/neon"
 check 'a panic ends the process' sh -c "cargo rustc --quiet --release --lib -- --print cfg | grep -qx 'panic=\"abort\"'"
 # Who takes the library takes none of what the program alone needs.
 bounded cargo tree --quiet --edges normal --prefix none > "$work/out" 2> "$work/err"

@@ -33,7 +33,7 @@ pub(crate) fn bits_above(samples: [u16; 16], low: u16) -> u64 {
 }
 
 /// One bit for each sample, the lowest for the first. It is set if the sample is above `low`.
-#[cfg(any(test, not(any(target_arch = "x86_64", target_arch = "aarch64"))))]
+#[allow(dead_code)] // Other processors have it, and tests.
 mod plain {
     pub(crate) fn bits_above(samples: [u16; 16], low: u16) -> u64 {
         let above = samples.iter().enumerate().filter(|(_, sample)| **sample > low);

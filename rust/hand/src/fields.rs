@@ -1,8 +1,9 @@
 //! Fields one by one: an iterator that reads what it yields alone, and what the fields around one say of it.
 
 use crate::c::{self, LdvbiFieldReadings};
-use crate::judged::{rooms, FIND_PACE};
+use crate::judged::FIND_PACE;
 use crate::lines::{done, number_of};
+use crate::room::rooms;
 use crate::side::{self, Counted, BELIEVED};
 use crate::sides::{Field, Number, Side};
 
@@ -59,7 +60,7 @@ impl Side<'_> {
     /// the field and as many after it, and the pace is found by these. `None` if there is no such field.
     pub fn number(&self, counted: Counted, index: usize) -> Option<Number> {
         let (first, readings) = self.around(index, 2 * REACH)?;
-        let (mut seen, mut numbers) = rooms(readings.len());
+        let (mut seen, mut numbers) = (rooms(readings.len()), rooms(readings.len()));
         let (system, counted) = (number_of(self.system()), counted as u32 + 1);
         done(c::ldvbi_judge(system, counted, FIND_PACE, &readings, &mut seen, &mut numbers));
         Some(Number::of(&numbers[index - first]))
@@ -90,7 +91,8 @@ impl Side<'_> {
     /// What the fields up to this one tell of its chapter.
     fn told(&self, index: usize) -> Option<i64> {
         let (first, readings) = self.around(index, REACH)?;
-        let ((mut seen, mut chapters), mut ends) = (rooms(readings.len()), vec![0; readings.len()]);
+        let count = readings.len();
+        let (mut seen, mut chapters, mut ends) = (rooms(count), rooms(count), rooms(count));
         done(c::ldvbi_judge_chapters(&readings, &mut seen, &mut chapters));
         done(c::ldvbi_judge_ends(&readings, &mut ends));
         let told = |(chapter, end): (&side::Number, &u32)| match (*end, chapter.state) {

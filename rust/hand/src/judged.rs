@@ -2,7 +2,8 @@
 
 use crate::c::{self, LdvbiFieldReadings};
 use crate::lines::{done, number_of, reading};
-use crate::side::{self, Counted, Sighting, Sightings};
+use crate::room::rooms;
+use crate::side::{self, Counted};
 use crate::sides::{Field, Number, Place};
 use crate::words::{Reading, System};
 
@@ -26,8 +27,8 @@ impl std::fmt::Debug for Judged {
 impl Judged {
     /// Judges the pictures, the times and the chapters of these fields.
     pub(crate) fn of(system: System, readings: Vec<LdvbiFieldReadings>) -> Judged {
-        let (mut seen, blank) = rooms(readings.len());
-        let [mut pictures, mut times, mut chapters] = [blank.clone(), blank.clone(), blank];
+        let mut seen = rooms(readings.len());
+        let [mut pictures, mut times, mut chapters] = [(); 3].map(|()| rooms(readings.len()));
         for (counted, numbers) in [(Counted::Pictures, &mut pictures), (Counted::Times, &mut times)] {
             let counted = counted as u32 + 1;
             done(c::ldvbi_judge(number_of(system), counted, FIND_PACE, &readings, &mut seen, numbers));
@@ -75,13 +76,3 @@ impl Judged {
 
 /// The pace that has the calls that judge find it.
 pub(crate) const FIND_PACE: u32 = 3;
-
-/// The value of a number's room before a call writes there.
-pub(crate) const NO_NUMBER: side::Number = side::Number { number: 0, state: 0 };
-
-/// Room for what this many fields show, and for their numbers.
-pub(crate) fn rooms(fields: usize) -> (Vec<Sightings>, Vec<side::Number>) {
-    let none = Sighting { number: 0, weight: 0 };
-    let seen = Sightings { line_17: none, line_18: none, instead: 0 };
-    (vec![seen; fields], vec![NO_NUMBER; fields])
-}

@@ -106,6 +106,8 @@ mod near;
 #[allow(unsafe_code)]
 mod opened;
 mod plans;
+#[allow(unsafe_code)]
+mod room;
 #[cfg(not(one_file))]
 #[allow(dead_code, unused_imports)]
 mod side;

@@ -1,6 +1,7 @@
 //! What lines show, and fields that come in pieces.
 
 use crate::c::{self, LdvbiFieldReadings, LdvbiReading};
+use crate::room::room;
 use crate::words::{Levels, Outcome, Reading, System, Word24};
 
 /// Why what was given can't be right. Nothing was read.
@@ -44,7 +45,7 @@ pub(crate) fn rows_of(system: System) -> std::ops::Range<usize> {
 /// Reads these three lines, and recovers the words of worn ones.
 pub(crate) fn recover(system: System, levels: Levels, rows: &[u8]) -> LdvbiFieldReadings {
     let (black, white) = (levels.black().into(), levels.white().into());
-    let mut field = LdvbiFieldReadings { lines: [LdvbiReading { cause: 1, pass: 0, column: 0, word: 0 }; 3] };
+    let mut field = room();
     done(c::ldvbi_recover_rows(number_of(system), black, white, rows, &mut field));
     field
 }

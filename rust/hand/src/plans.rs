@@ -2,6 +2,7 @@
 
 use crate::c;
 use crate::lines::{done, Error};
+use crate::room::room;
 use crate::side;
 use crate::sides::Number;
 use crate::whole::Clock;
@@ -78,7 +79,7 @@ pub fn check_plan(captures: &[&[Number]], plan: &[Stretch], layout: Layout) -> R
         numbers.extend(capture.iter().map(|number| number.judged()));
     }
     let stretches: Vec<_> = plan.iter().map(|one| one.for_c(&spans)).collect();
-    let mut found = side::Checked { stretch: 0, rule: 0 };
+    let mut found: side::Checked = room();
     let spacing = layout.spacing as u32;
     done(c::ldvbi_check_plan(spacing, layout.begin, layout.end, &clock, &numbers, &spans, &stretches, &mut found));
     let rule = match found.rule {
@@ -93,16 +94,16 @@ pub fn check_plan(captures: &[&[Number]], plan: &[Stretch], layout: Layout) -> R
 }
 
 impl Stretch {
-    /// As the library's call takes it, whose fields are counted through all captures. A field that no capture has
-    /// becomes the greatest, which is none either.
+    /// As the library's call takes it, whose fields are counted through all captures. One of no capture becomes the
+    /// greatest, which is none either.
     fn for_c(&self, spans: &[side::Capture]) -> side::Stretch {
         let Stretch { from, fields, number } = *self;
         match from {
             Some((capture, field)) => {
-                let first = spans.get(capture).map_or(0, |span| span.first);
-                side::Stretch { field: first.saturating_add(field), fields, capture, number, padding: 0 }
+                let first = spans.get(capture).map_or(usize::MAX, |span| span.first);
+                side::Stretch { field: first.saturating_add(field), fields, capture, number, ..room() }
             }
-            None => side::Stretch { field: 0, fields, capture: 0, number, padding: 1 },
+            None => side::Stretch { fields, number, padding: 1, ..room() },
         }
     }
 }

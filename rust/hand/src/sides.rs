@@ -2,9 +2,10 @@
 
 use crate::c::{self, LdvbiFieldReadings, LdvbiNeighbour, LdvbiPlace, LdvbiSought};
 use crate::fields::Each;
-use crate::judged::{Judged, FIND_PACE, NO_NUMBER};
+use crate::judged::{Judged, FIND_PACE};
 use crate::lines::{check_lines, done, number_of, reading, recover, rows_of, Error};
 use crate::near::{nearest_of_lines, Near};
+use crate::room::room;
 use crate::side::{self, Counted, BELIEVED};
 use crate::words::{Levels, Reading, System};
 use std::sync::{Arc, Mutex, PoisonError};
@@ -213,7 +214,7 @@ impl<'a> Side<'a> {
     /// The fields, from this one on, at which a player stops: line 16 or 17 shows a stop in pass 1, or both do.
     pub fn stops(&self, from: usize) -> impl Iterator<Item = Field> + 'a {
         self.read(from).enumerate().filter_map(move |(i, field)| {
-            let mut stop = [0];
+            let mut stop = [room()];
             done(c::ldvbi_judge_stops(&[field], &mut stop));
             (stop == [BELIEVED]).then(|| Field { index: from + i, readings: field.lines.map(reading) })
         })
@@ -222,7 +223,7 @@ impl<'a> Side<'a> {
     /// The first of these stops, among so many fields at most. None after it is read.
     pub fn next_stop(&self, from: usize, most: usize) -> Option<Field> {
         let (system, black, white) = self.setup();
-        let mut stop = LdvbiPlace { field: 0, looked: 0 };
+        let mut stop: LdvbiPlace = room();
         done(c::ldvbi_next_stop(system, black, white, self.bytes, from, most, &mut stop));
         self.field(stop.field)
     }
@@ -257,17 +258,12 @@ impl<'a> Side<'a> {
     /// doubled until one is found, and halved then.
     fn halved_on(&self, counted: Counted, number: u32, most: u32) -> Option<(usize, u32)> {
         let found = |passed: u32| Some((self.halved(counted, number.checked_add(passed)?)?, passed));
-        let (mut lacked, mut step) = (0, 1);
-        let mut had = found(0);
-        if had.is_some() {
-            return had;
-        }
+        let (mut had, mut lacked) = (found(0), 0);
         while had.is_none() && lacked < most {
-            step = step.min(most - lacked);
-            had = found(lacked + step);
+            let further = (2 * u64::from(lacked) + 1).min(most.into()) as u32;
+            had = found(further);
             if had.is_none() {
-                lacked += step;
-                step = lacked + 1;
+                lacked = further;
             }
         }
         let mut had = had?;
@@ -301,8 +297,7 @@ impl<'a> Side<'a> {
     /// What the library's call answers.
     fn sought(&self, counted: Counted, number: u32) -> LdvbiSought {
         let (system, black, white) = self.setup();
-        let none = LdvbiNeighbour { field: 0, number: NO_NUMBER };
-        let mut sought = LdvbiSought { field: 0, number: NO_NUMBER, pace: 0, looked: 0, before: none, after: none };
+        let mut sought = room();
         done(c::ldvbi_seek(system, black, white, counted as u32 + 1, FIND_PACE, self.bytes, number, &mut sought));
         sought
     }
@@ -315,7 +310,7 @@ impl<'a> Side<'a> {
     /// The field in which this chapter begins, if halving finds it.
     pub(crate) fn begin_of(&self, chapter: u32) -> Option<usize> {
         let (system, black, white) = self.setup();
-        let mut place = LdvbiPlace { field: 0, looked: 0 };
+        let mut place: LdvbiPlace = room();
         done(c::ldvbi_seek_chapter(system, black, white, self.bytes, chapter, &mut place));
         Some(place.field).filter(|field| *field < self.len())
     }

@@ -1,8 +1,8 @@
 //! Whole sides: whether a capture is whole, and where its numbers and fields don't go on together.
 
 use crate::c::{self, LdvbiClock};
-use crate::judged::{rooms, NO_NUMBER};
 use crate::lines::{done, number_of, Error};
+use crate::room::{room, rooms};
 use crate::side::{self, Counted, Finding, Sightings, Tally};
 use crate::sides::{Number, Side};
 
@@ -293,8 +293,8 @@ impl Side<'_> {
         let judged = self.judged();
         let readings = judged.readings();
         let (system, counted) = (number_of(self.system()), counted as u32 + 1);
-        let (mut pace, mut ends) = (0, vec![0; readings.len()]);
-        let (mut seen, mut numbers) = rooms(readings.len());
+        let (mut pace, mut ends) = (room(), rooms(readings.len()));
+        let (mut seen, mut numbers) = (rooms(readings.len()), rooms(readings.len()));
         done(c::ldvbi_find_pace(system, counted, readings, &mut seen, &mut pace));
         done(c::ldvbi_judge(system, counted, pace, readings, &mut seen, &mut numbers));
         done(c::ldvbi_judge_ends(readings, &mut ends));
@@ -307,7 +307,7 @@ impl Side<'_> {
         let fields = self.judge_fields(options.counted);
         let Fields { pace, seen, numbers, ends } = &fields;
         // Each gap ends at a field of its own, so there is room for all.
-        let (mut gaps, mut found) = (vec![NO_GAP; numbers.len()], NOT_FOUND);
+        let (mut gaps, mut found): (Vec<side::Gap>, Finding) = (rooms(numbers.len()), room());
         let ((system, counted, both), may_end) = (asked(self, options), u32::from(options.may_end));
         done(c::ldvbi_judge_side_by_clock(
             system, counted, *pace, both, may_end, clock, seen, numbers, ends, &mut gaps, &mut found,
@@ -320,7 +320,7 @@ impl Side<'_> {
     fn set_aside(&self, options: SideOptions, clock: &LdvbiClock) -> Vec<Number> {
         let JudgedFields { fields: Fields { pace, numbers, .. }, gaps, .. } = self.judge_side(options, clock);
         let (system, counted, both) = asked(self, options);
-        let (mut left, mut count) = (vec![NO_NUMBER; numbers.len()], 0);
+        let (mut left, mut count) = (rooms(numbers.len()), room());
         done(c::ldvbi_set_aside(system, counted, pace, both, clock, &gaps, &numbers, &mut left, &mut count));
         left.iter().map(Number::of).collect()
     }
@@ -333,23 +333,3 @@ fn asked(side: &Side, options: SideOptions) -> (u32, u32, u32) {
 
 const PLAIN: LdvbiClock = LdvbiClock { kind: 0, period: 0, phase: 0 };
 const FIND_BOTH: u32 = 3;
-
-// What is in a room before a call writes there
-const NO_GAP: side::Gap = side::Gap { after: 0, before: 0, fields: 0, shown: 0, from: 0, to: 0, kind: 0 };
-const NO_TALLY: Tally = Tally {
-    gaps: 0,
-    lost: 0,
-    held: 0,
-    stood: 0,
-    stills: 0,
-    still_end: 0,
-    back: 0,
-    joined: 0,
-    open_gaps: 0,
-    lost_numbers: 0,
-    undecided: 0,
-    unread: 0,
-    inserted: 0,
-};
-const NOT_FOUND: Finding =
-    Finding { tally: NO_TALLY, first: 0, last: 0, swap: 0, padded: 0, blank: 0, verdict: 0, reasons: 0 };
