@@ -2,13 +2,11 @@
 side isn't whole, or why that can't be told, in order of weight. And how many calls the analysis of noise takes."""
 
 import cProfile
-import math
 import os
 import random
-import time
 
 from compact import cells_of, check_row, made, rows, table_in
-from discs import LEAD_OUT, answer, minutes, picture, plain, second, side, times, typed
+from discs import answer, minutes, picture, plain, second, side, times, typed
 import ldvbi
 from ldvbi import Kind, Reason
 from ldvbi.readings import Cut
@@ -27,8 +25,6 @@ import pytest
 from streams import TOP
 
 MOST = 16  # fields whose calls a field of noise may take
-LENGTHS = 5000, 20000  # fields of sides of which one may take longer than the other as this power of their lengths
-EXPONENT = 1.15
 ROWS = list(table_in(os.path.join(os.path.dirname(__file__), "sides.txt")))
 
 
@@ -214,42 +210,6 @@ def test_the_worst_sides():
 def chance(dice, *most):
     """A field with a number on both lines, or with one on either."""
     return "- %s %s" % (tuple(picture(dice.randrange(one)) for one in most) * 2)[:2]
-
-
-# Patterns of sides, of any length: clean; lead-in in each twelfth field; noise that leaves a third of the numbers;
-# numbers below 60 by chance; each 150 fields a stretch at three times the speed; each 22 fields a picture lost; of NTSC
-# CLV likewise, with lead-out after each 500.
-PATTERNS = {
-    "clean": lambda count, dice: rows("1..%d" % (count // 2)),
-    "lead-in": lambda count, dice: rows("1..%d 12:%d/12=L" % (count // 2, count)),
-    "noise": lambda count, dice: [
-        row if dice.random() < 0.35 else chance(dice, 80000) if dice.random() < 0.5 else "- ? ?"
-        for row in rows("1..%d" % (count // 2))],
-    "small": lambda count, dice: [chance(dice, 60) if place % 2 else "- - -" for place in range(count)],
-    "fast": lambda count, dice: rows(" ".join("%d..%d/3 %d..%d" % (begin, begin + 72, begin + 73, begin + 122)
-                                              for begin in range(0, count * 123 // 150, 123))),
-    "lost": lambda count, dice: rows("1..%d!3%%11" % (count * 11 // 20)),
-    "lost times": lambda count, dice: [LEAD_OUT if place % 500 == 0 else row for place, row in enumerate(
-        rows("t0..%d!2%%11" % (count * 11 // 20), 30))]}
-
-
-@pytest.mark.unrecorded
-@pytest.mark.parametrize("name", PATTERNS)
-def test_time_grows_with_the_length(name):
-    """The least times of some runs of a short and of a long side, until they are near enough: a busy machine makes
-    single ones longer."""
-    system = "NTSC" if name == "lost times" else "PAL"
-    sides = [plain(PATTERNS[name](count, random.Random(7)), system) for count in LENGTHS]
-    least = [math.inf, math.inf]
-    for _ in range(12):
-        for place, fields in enumerate(sides):
-            begin = time.process_time()
-            analyse(fields)
-            least[place] = min(least[place], time.process_time() - begin)
-        exponent = math.log(least[1] / least[0], LENGTHS[1] / LENGTHS[0])
-        if exponent <= EXPONENT:
-            return
-    assert exponent <= EXPONENT
 
 
 def test_counts_of_lines():

@@ -6,6 +6,7 @@ from typing import Any, Dict, Iterable, Iterator, List, NamedTuple, Optional, Se
 
 from ldvbi import Clock, Kind, Stream
 from ldvbi.codes import LINES, code_of
+from ldvbi.collector import paused
 from ldvbi.readings import Levels
 from ..answer.ends import Begin, fields_after, fields_there, ordinal_of
 from ..answer.entries import Answer
@@ -88,6 +89,7 @@ class Capture(NamedTuple):
         yield from range(last.number + 1, last.number + 1 + (after + each - 1) // each)
 
 
+@paused()
 def capture_of(side: Side, name: str) -> Capture:
     """The capture that a side is."""
     places = list(_places(side))

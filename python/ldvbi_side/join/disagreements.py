@@ -6,7 +6,9 @@ So two of them can only disagree if one of them says something else of the same 
 - `clock`: one says that the disc's clock leaves out a number, and the other one has it;
 - `distance`: numbers are farther from those before them in one capture than in the other, and neither says why."""
 
+import bisect
 import itertools
+import operator
 from typing import Iterator, List, NamedTuple, Set, Tuple
 
 from .captures import NEIGHBOURS, Capture, Place
@@ -60,13 +62,15 @@ def _part(capture, places):
 def _detours(one: Capture, other: Capture) -> Iterator[Disagreement]:
     """Numbers of a capture in the place of others, if the other capture has those. A copy of the capture has the same
     detour."""
-    for detour in one.answer.detours:
-        if detour.kind != "replaced" or detour in other.answer.detours:
-            continue
-        before = max((place for place in one.places if place.field < detour.first), key=lambda place: place.field)
-        after = min((place for place in one.places if place.field > detour.last), key=lambda place: place.field)
-        read = [place for place in other.places if before.number < place.number < after.number and
-                place.how != NEIGHBOURS]
+    known = set(other.answer.detours)
+    detours = [detour for detour in one.answer.detours if detour.kind == "replaced" and detour not in known]
+    by_number = sorted(place for place in other.places if place.how != NEIGHBOURS) if detours else []
+    fields, numbers_read = [place.field for place in one.places], [place.number for place in by_number]
+    for detour in detours:
+        before = one.places[bisect.bisect_left(fields, detour.first) - 1]
+        after = one.places[bisect.bisect(fields, detour.last)]
+        read = sorted(by_number[bisect.bisect(numbers_read, before.number):
+                                bisect.bisect_left(numbers_read, after.number)], key=operator.attrgetter("field"))
         if read:
             numbers = one.ordinal(detour.from_), one.ordinal(detour.to)
             yield Disagreement(DETOUR, Part(one.name, *numbers, detour.first, detour.last), _part(other, read))

@@ -1,6 +1,7 @@
 """The numbers that a capture shows, in runs: as long as numbers and fields go on together, the fields between two
 numbers that are read are taken with the first of these, whatever they show. What is taken together is a block."""
 
+import bisect
 from typing import Dict, List, NamedTuple, Optional, Sequence, Set, Tuple
 
 from ldvbi import Kind
@@ -148,6 +149,7 @@ class Aside:
                 self.sure.setdefault(one.field, set()).add(rank)
             if one.pass_ == 1:
                 seen.add((one.field, rank))
+        self._sure_fields = sorted(self.sure)
 
     def fits(self, anchor: Anchor, field: int) -> bool:
         """Whether a field shows nothing else than it would if it went on to this number, or from it."""
@@ -159,8 +161,9 @@ class Aside:
 
     def unlike(self, block: Block) -> bool:
         """Whether a field of a block surely shows another number than it would as the block's."""
-        return any(block.field < field < block.field + block.fields
-                   and not self._fits(block.rank, block.field, field, told) for field, told in self.sure.items())
+        fields = self._sure_fields
+        inside = slice(bisect.bisect(fields, block.field), bisect.bisect_left(fields, block.field + block.fields))
+        return any(not self._fits(block.rank, block.field, field, self.sure[field]) for field in fields[inside])
 
     def _fits(self, rank, first, field, told):
         return any(_is_apart(self._pace, rank, one - rank, field - first) for one in told)

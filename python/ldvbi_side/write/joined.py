@@ -2,6 +2,7 @@
 
 from typing import Any, Callable, Dict, List, Set
 
+from ldvbi.collector import paused
 from ..answer.entries import Extent, frame_of
 from ..answer.whole import whole_of
 from ..join import entries
@@ -23,6 +24,7 @@ from .whole import grounds_of, lasts_of
 VERSION = 1  # of the answer's form
 
 
+@paused()
 def join(captures: List[Capture]) -> Joined:
     """What these captures have together, and what `write` makes of them. A ValueError if two of them can't be of one
     disc."""

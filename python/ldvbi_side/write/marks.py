@@ -1,5 +1,6 @@
 """Chapters and picture stops of captures together: each by its number, in the capture from which that is taken."""
 
+import bisect
 from collections import defaultdict
 from typing import Any, Iterator, List, NamedTuple, Sequence, Tuple
 
@@ -66,4 +67,6 @@ class _Beside:
         """What stands in a field beside this number; nothing if none is near."""
         if number is not None:
             count = self._capture.ordinal(number)
-            yield _Said(count, chapter, min((field - one for one in self._fields[count]), key=abs))
+            fields = self._fields[count]
+            place = bisect.bisect_left(fields, field)  # beside which is the nearest one
+            yield _Said(count, chapter, min((field - one for one in fields[max(place - 1, 0):place + 1]), key=abs))

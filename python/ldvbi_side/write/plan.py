@@ -1,6 +1,7 @@
 """The plan by which a side is written: which fields of which capture stand where in the output, and what is padding.
 It is pure: no file is read. docs/ANSWER.md has its rules."""
 
+import bisect
 from typing import Dict, List, NamedTuple, Optional, Sequence, Set, Tuple
 
 from ldvbi.collector import paused
@@ -216,7 +217,8 @@ class _Making:
         if node.run is None:
             return []
         source, blocks = self._runs[node.run]
-        return [(source, block) for block in blocks if node.begin <= block.rank and (stop is None or block.rank < stop)]
+        end = len(blocks) if stop is None else bisect.bisect_left(blocks, (stop,))
+        return [(source, block) for block in blocks[bisect.bisect_left(blocks, (node.begin,)):end]]
 
     def _share(self, taken: List[Tuple[int, Block]]) -> None:
         """Gives each field that may be of several numbers to the one that begins first: a player jumps from the end of
@@ -255,8 +257,8 @@ class _Making:
     def _first_of(self, node: Node) -> Tuple[int, Block]:
         """The capture, and the block there, with which a node begins."""
         assert node.run is not None
-        run = self._runs[node.run]
-        return run.source, next(block for block in run.blocks if block.rank == node.begin)
+        source, blocks = self._runs[node.run]
+        return source, blocks[bisect.bisect_left(blocks, (node.begin,))]
 
     def _begins_within_a_frame(self) -> bool:
         """Whether the output's fields of odd numbers are second fields: frames begin with first ones."""

@@ -1,9 +1,12 @@
 """The runs of a capture with all their fields: those between two numbers that are read, and those at the ends of a run,
 as far as these are seen to be the disc's next ones, or may be."""
 
+import bisect
+import math
 from typing import Iterator, List, NamedTuple, Optional, Sequence, Set, Tuple
 
 from ..answer.ends import LONGEST
+from ..answer.entries import Speed
 from ..judge.paces import MINUTE_FIELDS
 from .blocks import KNOWN, OPEN, SEEN, Anchor, Block, Run, blocks_of
 from .following import End, Followed
@@ -60,19 +63,25 @@ def set_aside(place: int, capture: Followed, known: Known, runs: Sequence[Run], 
     its place doesn't say that it is right. It may be wrong, and so isn't sure; `having` has the ranks of the others."""
     wanted = [(field, rank) for field, ranks in sorted(capture.aside.sure.items()) for rank in ranks
               if rank in known.extent and rank not in having]
+    taken = [block for run in runs for block in run.blocks if block.is_sure] if wanted else []
+    begins, ends = sorted(one.field for one in taken), sorted(one.field + one.fields for one in taken)
     for field, rank in wanted:
         anchor, lengths = Anchor(rank, field, field), known.lengths
         fields = 1 + capture.reach(anchor, 1, lengths.of(rank) - 1)[0]
-        if not any(block.is_sure and block.field < field + fields and field < block.field + block.fields
-                   for run in runs for block in run.blocks):
+        if bisect.bisect_left(begins, field + fields) == bisect.bisect(ends, field):  # in none of these fields
             yield Run(place, [Block(rank, 1, field, fields, 0, lengths.of(rank) - fields, OPEN)])
 
 
 def _is_sure(block: Block, capture: Followed, known: Known) -> bool:
     """Whether nothing speaks against it that a block has the fields of its numbers."""
     return (capture.going.takes_turns(block.field, block.fields) and not known.lengths.is_short(block)
-            and not capture.aside.unlike(block)
-            and not any(speed.first <= block.field <= speed.last for speed in capture.source.answer.speeds))
+            and not capture.aside.unlike(block) and not _is_at_speed(capture.source.answer.speeds, block.field))
+
+
+def _is_at_speed(speeds: Sequence[Speed], field: int) -> bool:
+    """Whether a field is in one of these stretches at another speed, which ascend."""
+    place = bisect.bisect(speeds, (field, math.inf)) - 1
+    return place >= 0 and field <= speeds[place].last
 
 
 def _sure_runs(place: int, blocks: List[Block]) -> List[Run]:
