@@ -24,6 +24,7 @@ MOST_LENGTH = 1048576  # bytes of a value, so that no step takes long
 _LIMIT_LENGTH = 0  # SQLite's number of that limit
 _FUNCTION = 31  # and of what calls a function
 _OWN = ("count", "min", "max", "sum")  # which our own statements call, and none of which takes long for a row
+BESIDE = ("-journal", "-wal", "-shm")  # the ends of the names of what SQLite reads and writes beside a database
 WAIT = 5  # seconds for a database that another process writes to
 _OPTIONAL = {"field_width": "fieldWidth", "field_height": "fieldHeight",
              "number_of_sequential_fields": "numberOfSequentialFields"}
@@ -72,6 +73,7 @@ def dropouts_of_database(path: str) -> List[Dropout]:
 def opened(path: str) -> Iterator[sqlite3.Connection]:
     """The database in this file, to read it as it is now. If something is wrong with it, a ValueError names the
     file."""
+    _refuse_no_files(path)
     address = pathlib.Path(path).absolute().as_uri() + "?mode=ro"
     try:
         with contextlib.closing(sqlite3.connect(address, uri=True, timeout=0, isolation_level=None)) as database:
@@ -83,6 +85,15 @@ def opened(path: str) -> Iterator[sqlite3.Connection]:
         raise ValueError("%s: SQLite can't read it: %s%s" % (path, error, _advice(path))) from None
     except ValueError as error:
         raise ValueError("%s: %s" % (path, error)) from None
+
+
+def _refuse_no_files(path):
+    """Raises a ValueError if a pipe or a device stands where SQLite looks for what belongs to a database: it might wait
+    for that for ever, and no signal would end it."""
+    for end in BESIDE:
+        name = os.path.realpath(path) + end
+        if os.path.exists(name) and not os.path.isfile(name):
+            raise ValueError("%s is no file" % (path + end))
 
 
 def _advice(path):

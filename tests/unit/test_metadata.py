@@ -225,6 +225,17 @@ def test_an_unfinished_change_is_left_alone(room):
     assert {end: room.read("copy" + end) for end in copies} == copies
 
 
+def test_pipes_where_sqlite_looks(room):
+    """It would wait for what nobody writes there, and heed no signal."""
+    path = make(room, CAPTURE, (INSERT, PAL))
+    for end in database.BESIDE:
+        os.mkfifo(path + end)
+        pipe = os.open(path + end, os.O_RDWR)  # so that nothing waits in any case
+        refused("FILE%s is no file" % end, path)
+        os.close(pipe)
+        os.unlink(path + end)
+
+
 def test_what_another_process_writes_is_waited_for(room):
     path = make(room, CAPTURE, (INSERT, PAL))
     with contextlib.closing(sqlite3.connect(path)) as other:

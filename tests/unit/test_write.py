@@ -324,6 +324,9 @@ def test_refused(room):
     os.unlink(room.named("out.tbc"))
     os.mkdir(room.named("out.tbc"))
     room.refused("out.tbc is no file", words)
+    os.unlink(room.named("b.pcm"))
+    os.mkdir(room.named("b.pcm"))
+    room.refused("b.pcm is no file", words)
     assert room.names("out.tbc") == [] and not [name for name in room.names() if "part" in name]
 
 

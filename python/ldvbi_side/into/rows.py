@@ -6,11 +6,10 @@ import contextlib
 import sqlite3
 from typing import Dict, Iterable, Iterator
 
-from ldvbi.database import column_of_fields, columns_with, limit_steps, opened, quoted, refuse_code, tables_of
+from ldvbi.database import (BESIDE, column_of_fields, columns_with, limit_steps, opened, quoted, refuse_code,
+                            tables_of)
 from .field import Words
 
-# What SQLite writes beside a database, each with the database's name before it
-BESIDE = ("-journal", "-wal", "-shm")
 _WORDS = "CREATE TEMP TABLE words (field_id INTEGER PRIMARY KEY, vbi0 INTEGER, vbi1 INTEGER, vbi2 INTEGER)"
 _UPDATE = """UPDATE main.vbi SET (vbi0, vbi1, vbi2) = (
     SELECT vbi0, vbi1, vbi2 FROM temp.words WHERE words.field_id = main.vbi.field_id)

@@ -119,6 +119,8 @@ class Told:
             name, counts = base_of(path) + sound.end, self._counts[sound.end]
             if not os.path.exists(name):
                 continue
+            if not os.path.isfile(name):
+                raise ValueError("%s is no file" % name)
             size, is_known = os.path.getsize(name), NONE not in counts
             if not is_known or sound.size * sum(counts) != size:
                 raise ValueError("%s has %d bytes, and its fields' %s come to %s" % (
