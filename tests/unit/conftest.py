@@ -24,9 +24,10 @@ hypothesis.settings.register_profile("same", derandomize=True, database=None, de
 hypothesis.settings.load_profile("same")
 pytest.register_assert_rewrite("room", "compact")
 
-# A shell has what it starts behind its back ignore Ctrl-C, and the processes of tests would ignore it, too.
-if signal.getsignal(signal.SIGINT) == signal.SIG_IGN:
-    signal.signal(signal.SIGINT, signal.default_int_handler)
+# A shell has what it starts behind its back ignore Ctrl-C, and nohup SIGHUP: the processes of tests would do so, too.
+for number, handler in ((signal.SIGINT, signal.default_int_handler), (signal.SIGHUP, signal.SIG_DFL)):
+    if signal.getsignal(number) == signal.SIG_IGN:
+        signal.signal(number, handler)
 
 import room as rooms  # noqa: E402
 

@@ -11,6 +11,7 @@ import pathlib
 import re
 import signal
 import stat
+import subprocess
 import sys
 import time
 import weakref
@@ -129,6 +130,14 @@ def test_one_that_is_ignored(signals):
     signal.signal(signal.SIGHUP, signal.SIG_IGN)
     signals()
     signal.raise_signal(signal.SIGHUP)
+
+
+def test_none_that_is_ignored_reaches_the_tests():
+    """A shell has them ignored by what it starts behind its back, and nohup."""
+    text = "import conftest, signal; print(*map(signal.getsignal, (signal.SIGINT, signal.SIGHUP)))"
+    ignored = ["sh", "-c", 'trap "" INT HUP; exec "$@"', "sh", sys.executable, "-c", text]
+    assert subprocess.check_output(ignored, cwd=os.path.dirname(__file__), text=True) == "%s %s\n" % (
+        signal.default_int_handler, signal.SIG_DFL)
 
 
 def test_a_second_one(signals):

@@ -17,6 +17,9 @@ from ldvbi_side.draw.index import index_of
 from ldvbi_side.draw.page import page_of
 from ldvbi_side.draw.plotting import plot_line
 from ldvbi_side.draw.svg import breakable
+from ldvbi_side.draw.together import page_of_joined
+from ldvbi_side.join.captures import capture_of
+from ldvbi_side.write.joined import join
 import pytest
 from room import reason
 from streams import line_with, NTSC, worn_line, write_stream
@@ -196,7 +199,8 @@ def digest(script):
 
 @pytest.mark.parametrize("text, title, more", (
     (page(DAMAGED, lambda one: "<svg></svg>"), "side.tbc", {"script"}),
-    (index_of("index.html", []), "LaserDisc sides", {"script"})))
+    (index_of("index.html", []), "LaserDisc sides", {"script"}),
+    (page_of_joined(join([capture_of(made("1..9", side), name) for name in ("a", "b")]), []), "a, b", set())))
 def test_it_says_how_it_is_read_and_needs_nothing_else(text, title, more):
     tags = Page(text).tags
     assert text.startswith('<!DOCTYPE html>\n<html lang="en"><head><meta charset="utf-8"><title>%s</title>' % title)

@@ -11,6 +11,7 @@ import re
 import shutil
 import subprocess
 import sys
+import threading
 from pathlib import Path
 from unittest import mock
 
@@ -337,7 +338,13 @@ def test_two_scans_at_once(room):
     def later(folder, *rows):
         with mock.patch.object(_Folder, "write_index", write):
             assert room.scan("--html pages b")[::2] == (0, "")
-        write(folder, *rows)
+        before = room.text("pages/index.html")
+        with locked(folder.path):
+            waiting = threading.Thread(target=write, args=(folder, *rows))
+            waiting.start()
+            waiting.join(1)
+            assert waiting.is_alive() and room.text("pages/index.html") == before
+        waiting.join(DEADLINE)
 
     with mock.patch.object(_Folder, "write_index", later):
         room.scan("--html pages a")
