@@ -17,7 +17,7 @@ from ldvbi_side.write.choice import CHANGE
 from ldvbi_side.write.joined import join
 import pytest
 
-EXPONENT, RUNS = 1.15, 12
+EXPONENT, RUNS = 1.15, 8
 FIELDS, OF_TWO = (20000, 80000), (4000, 16000)  # of a side alone, and of captures that are joined
 COUNT = FIELDS[1]
 

@@ -24,7 +24,7 @@ from ldvbi_side.command.outputs import locked
 from ldvbi_side.command.rows import Csv, fault_row, Json, row_of, Text
 from ldvbi_side.command.scan import _Folder, scan
 import pytest
-from room import buffered, COMMAND, in_database, IN_PLACE
+from room import buffered, COMMAND, DEADLINE, in_database, IN_PLACE
 from streams import TOP
 
 HEAD = "side whole lost unread format from to last lead-in lead-out fields try why system with".split()
@@ -362,6 +362,15 @@ def test_few_open_files(room):
     limited = ["sh", "-c", 'ulimit -n 8; exec "$@"', "sh", *COMMAND]
     assert room.run_words("scan --csv .", command=limited)[::2] == (
         2, "ldvbi-side: Too many open files; `ulimit -n` says how many a process may open\n")
+
+
+def test_control_characters(room):
+    """Of a name they are escaped, so that none acts on a terminal."""
+    room.add("a\x1b[31m\x85\n.tbc")
+    room.metadata("a\x1b[31m\x85\n.tbc.json", count=61)
+    for words in ("scan --csv", "join --csv", "join --ranges", "join --map -", "write --plan out.tbc"):
+        status, text, _ = room.run_words(*words.split(), "a\x1b[31m\x85\n.tbc", "a\x1b[31m\x85\n.tbc")
+        assert (status, "a\\x1b[31m\\x85\\n.tbc" in text, "\x1b" in text) == (0, True, False)
 
 
 def test_names_and_notes(room):

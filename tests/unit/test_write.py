@@ -344,6 +344,7 @@ def test_refused_databases_and_words(room):
             (["ALTER TABLE vbi RENAME COLUMN vbi0 TO other"], "no table vbi with field_id, vbi0, vbi1 and vbi2")):
         in_database(room.named("b.tbc.db"), *statements)
         room.refused("b.tbc.db: " + text, "write out.tbc b.tbc")
+    room.refused("/dev/null is no file that can be copied", "write out.tbc b.tbc --meta /dev/null")
     for words, text in (("out.raw a.tbc", "the name of what is written has to end with .tbc"),
                         ("out.tbc a.tbc b.tbc --meta a.tbc.json", "--meta names the metadata of one capture"),
                         ("out.tbc a.tbc --from x", "argument --from: no picture and no time: 'x'"),

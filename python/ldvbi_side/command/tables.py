@@ -9,6 +9,7 @@ from ldvbi.codes import LINES, code_of, name_of, value_of
 from ..answer.entries import Answer, frame_of
 from ..judge.paces import minute_text
 from ..near import measured
+from ..outside import uncontrolled
 from ..side import Side
 
 # The columns with what they hold, which docs/ANSWER.md has from here
@@ -30,10 +31,10 @@ NONE = "-"  # of a line to which the row of no word is as near as any
 
 
 def print_rows(columns: Iterable[str], rows: Iterable[Sequence[Any]], file: Optional[IO[str]] = None) -> None:
-    """Prints a table as CSV, to standard output if no file is given."""
+    """Prints a table as CSV, to standard output if no file is given. Control characters of names are escaped."""
     table = csv.writer(file or sys.stdout, lineterminator="\n")
     table.writerow(columns)
-    table.writerows(rows)
+    table.writerows([uncontrolled(cell) if isinstance(cell, str) else cell for cell in row] for row in rows)
 
 
 def field_rows(side: Side) -> Iterator[List[Any]]:

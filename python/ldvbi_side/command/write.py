@@ -1,11 +1,9 @@
 """The command `write`: one TBC file of a side, in the order of the disc, from one or more captures."""
 
 import argparse
-import csv
 import os
 import re
-import sys
-from typing import IO, Callable, Dict, List, NamedTuple, Optional, Sequence, Tuple, Union
+from typing import Callable, Dict, List, NamedTuple, Optional, Sequence, Tuple, Union
 
 from ldvbi import System, field_bytes
 from ldvbi.document import is_document
@@ -31,6 +29,7 @@ from .parser import Parser, add_settings, settings_in
 from .progress import Progress
 from .reading import loaded, options_of, source_of
 from .statuses import OF_SIDE, statuses_text
+from .tables import print_rows
 
 DESCRIPTION = """Writes one TBC file of a side in the order of the disc: each picture once, with all its fields, from
 the capture that has it best, byte for byte. What no capture has is padding. Its metadata, its sound (.pcm) and its EFM
@@ -108,7 +107,7 @@ def write_captures(options: argparse.Namespace, settings: Sequence[argparse.Name
                                 options.one_side, options.most_padding))
     refuse_wrong(made, sources)
     if options.plan:
-        _print_rows(sys.stdout, made, options.sides)
+        print_rows(COLUMNS, rows_of(made, options.sides))
         return Written([], OF_SIDE[outcome_of(made).whole])
     targets = _targets(options.out, inputs)
     refuse_inputs([1, *targets.values()], [*(name for one in inputs for name in one.states), *others])
@@ -151,6 +150,8 @@ def _opened(path: str, settings: argparse.Namespace, has_recovered: bool) -> _Op
     given = options_of(path, settings)
     if not given.meta:
         raise ValueError("%s: %s" % (path, no_metadata(path)))
+    if os.path.exists(given.meta) and not os.path.isfile(given.meta):
+        raise ValueError("%s is no file that can be copied" % given.meta)
     states, told = states_of(path, given.meta), Told()
     source, metadata = source_of(given, told.add)
     assert metadata is not None and not isinstance(source, Side)
@@ -230,13 +231,7 @@ def _write(parts: Dict[str, str], made: Plan, opened: List[_Opened], options: ar
         from ..write.rows import write_rows
         write_rows(parts[".db"], made, sources, inputs, sizes)
     with open(parts[STRETCHES], "x", encoding="utf-8", errors="surrogateescape", newline="") as table:
-        _print_rows(table, made, options.sides)
-
-
-def _print_rows(file: IO[str], made: Plan, names: Sequence[str]) -> None:
-    table = csv.writer(file, lineterminator="\n")
-    table.writerow(COLUMNS)
-    table.writerows(rows_of(made, names))
+        print_rows(COLUMNS, rows_of(made, options.sides), table)
 
 
 def _read_again(parts: Dict[str, str], first: _Opened, options: argparse.Namespace) -> Tuple[Capture, Answer]:

@@ -135,7 +135,9 @@ def base_of(path: str) -> str:
 
 
 def is_database_at(path: str) -> bool:
-    """Whether the file of this name is a database."""
+    """Whether the file of this name is a database. A pipe, which may have been read, is none."""
+    if not os.path.isfile(path):
+        return False
     with open(path, "rb") as file:
         return is_database(file.read(16))
 
