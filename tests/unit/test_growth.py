@@ -18,6 +18,7 @@ from ldvbi_side.write.joined import join
 import pytest
 
 EXPONENT, RUNS = 1.15, 8
+BEYOND = 1.4  # which no busy machine makes of less
 FIELDS, OF_TWO = (20000, 80000), (4000, 16000)  # of a side alone, and of captures that are joined
 COUNT = FIELDS[1]
 
@@ -28,8 +29,8 @@ def linear(length):
 
 
 def exponent(call, short, long, lengths):
-    """With which power of the length `call` takes longer, as soon as that is little enough: more than other work does,
-    if a first run says that it's too much."""
+    """With which power of the length `call` takes longer, less what a busy machine adds to other work if a first run says
+    too much. It runs until that is little enough, or far too much."""
     works, least = [(call, short), (call, long), *((linear, length) for length in lengths)], 4 * [math.inf]
     for turn in range(RUNS):
         for place, (work, one) in enumerate(works if turn else works[:2]):
@@ -39,7 +40,7 @@ def exponent(call, short, long, lengths):
         found, other = (math.log(least[place + 1] / least[place], lengths[1] / lengths[0]) if turn or not place else 1
                         for place in (0, 2))
         found -= max(other - 1, 0)
-        if found <= EXPONENT:
+        if found <= EXPONENT or turn and found > BEYOND:
             break
     return found
 
