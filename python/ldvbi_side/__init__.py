@@ -11,8 +11,10 @@ import _signal  # type: ignore[import]
 import os
 import sys
 
-# As `python3 -m ldvbi_side` this is the first of the command that Python reads in. Until the command heeds Ctrl-C
-# itself, it ends this without a word of what was being loaded. From Python 3.10 on it is known what was asked for.
-if (sys.argv[:1] == ["-m"] and getattr(sys, "orig_argv", ())[-len(sys.argv):][:1] == [__name__]
+# As `python3 -m ldvbi_side`, and in the script ldvbi-side that pip makes, this is the first of the command that Python
+# reads in. Until the command heeds Ctrl-C itself, it ends this without a word of what was being loaded. From Python 3.10
+# on it is known what was asked for by -m.
+if ((sys.argv[:1] == ["-m"] and getattr(sys, "orig_argv", ())[-len(sys.argv):][:1] == [__name__]
+     or os.path.basename("".join(sys.argv[:1])) == "ldvbi-side")
         and _signal.getsignal(_signal.SIGINT) == _signal.default_int_handler):
     _signal.signal(_signal.SIGINT, lambda *_: os._exit(130))

@@ -262,12 +262,14 @@ SCRIPT = os.path.join(TOP, "python", "ldvbi-side")
     ("import os, signal\nos.kill(os.getpid(), signal.SIGINT)\n", [SCRIPT, "--help"], 0),
     (STOPS_AT % "ldvbi_side.__main__", [sys.executable, "-m", "ldvbi_side", "side.vbi.json", "--seek", "3"], 130),
     (STOPS_AT % "ldvbi_side.outside", [sys.executable, "-m", "ldvbi_side"], 130),
+    (STOPS_AT % "ldvbi_side.outside", [sys.executable, "./ldvbi-side"], 130),  # the script that pip makes
     # as a part of another program the package leaves signals as they are
     (STOPS_AT % "ldvbi_side.near", [sys.executable, "-m", "other", "ldvbi_side"], 7),
     (STOPS_AT % "ldvbi_side.near", [sys.executable, "-c", "import other", "ldvbi_side"], 7)))
 def test_while_first_modules_are_loaded(room, begin, words, wanted):
     """Python's own, or those of the package."""
     room.write("sitecustomize.py", begin)
+    room.write("ldvbi-side", "from ldvbi_side.__main__ import main\nmain()\n")
     room.write("other.py", "try:\n    import ldvbi_side.near\nexcept KeyboardInterrupt as stop:\n"
                            "    raise SystemExit(7 if type(stop) is KeyboardInterrupt else 8)\n")
     paths = os.pathsep.join([room.folder, os.environ["PYTHONPATH"]])
