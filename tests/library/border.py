@@ -27,25 +27,28 @@ def named(*names):
     return [getattr(NUMBERS, name.upper()) for name in names]
 
 
-# The members of each struct, in the order in which the tests give and take them
+# The types of each struct's members, those of structs in it with them, and its members, in the order in which the tests
+# give and take them
 _MEMBERS = {
-    "Reading": "cause pass column word", "FieldReadings": "lines", "Near": "word start distance rival longer",
-    "Erased": "field line first last", "Record": "length text", "Code": "kind first second",
-    "Clock": "kind period phase", "Capture": "first fields", "Stretch": "field fields capture number padding",
-    "Checked": "stretch rule",
-    "Sighting": "number weight", "Sightings": "line_17 line_18 instead", "Number": "number state",
-    "Place": "field looked", "Neighbour": "field number", "Sought": "field number pace looked before after",
-    "Gap": "after before fields shown from to kind",
-    "Tally": "gaps lost held stood stills still_end back joined open_gaps lost_numbers undecided unread "
+    "Reading": "BBHI cause pass column word", "FieldReadings": "BBHIBBHIBBHI lines",
+    "Near": "IIQQQ word start distance rival longer", "Erased": "IIII field line first last",
+    "Record": "I448s length text", "Code": "III kind first second", "Clock": "III kind period phase",
+    "Capture": "NN first fields", "Stretch": "NNNII field fields capture number padding", "Checked": "NI stretch rule",
+    "Sighting": "II number weight", "Sightings": "IIIII line_17 line_18 instead", "Number": "II number state",
+    "Place": "NN field looked", "Neighbour": "NII field number",
+    "Sought": "NIIIINIINII field number pace looked before after",
+    "Gap": "NNQQIII after before fields shown from to kind",
+    "Tally": "NQQQQNQQQQQQQ gaps lost held stood stills still_end back joined open_gaps lost_numbers undecided unread "
              "inserted",
-    "Side": "tally first last swap padded blank verdict reasons"}
-_LETTERS = {"uint8_t": "B", "uint16_t": "H", "uint32_t": "I", "uint64_t": "Q", "size_t": "Q"}
+    "Side": "NQQQQNQQQQQQQNNNNNII tally first last swap padded blank verdict reasons"}
+_LETTERS = {"uint8_t": "B", "uint16_t": "H", "uint32_t": "I", "uint64_t": "Q", "size_t": "N"}
 
 
 @functools.cache
 def layout(name):
     """The struct Ldvbi.. of this name, in which the members of structs stand in their place."""
-    return struct.Struct(_types(name) + "0Q" * ("Q" in _types(name)))
+    types_of = _types(name)
+    return struct.Struct(types_of + "0Q" * bool({*"NQ"} & {*types_of}))
 
 
 def _types(name):
@@ -55,7 +58,7 @@ def _types(name):
             one = _LETTERS.get(kind) or _types(kind[5:])
             types_of += count + "s" if count and one == "B" else one * int(count or 1)
             members.append(member)
-    expect(members == _MEMBERS[name].split(), "the members of", name, "are", members)
+    expect([types_of, *members] == _MEMBERS[name].split(), "the members of", name, "are", types_of, *members)
     return types_of
 
 
@@ -84,7 +87,9 @@ def expect(is_right, *what):
 
 
 def finish():
-    """Prints how much was wrong, and ends with the status that says so."""
+    """Looks at each struct, prints how much was wrong, and ends with the status that says so."""
+    for name in re.findall(r"struct Ldvbi(\w+) {", HEADER):
+        layout(name)
     print(len(_wrong), "wrong")
     sys.exit(bool(_wrong))
 
