@@ -30,15 +30,12 @@ impl Number {
         [Number::Nothing, Number::Believed(n), Number::Doubtful(n), Number::Due(n)][judged.state as usize]
     }
 
-    /// As the library's calls take it.
+    /// As the check of plans takes it, which asks for believed ones alone.
     pub(crate) fn judged(self) -> side::Number {
-        let (number, state) = match self {
-            Number::Nothing => (0, 0),
-            Number::Believed(number) => (number, 1),
-            Number::Doubtful(number) => (number, 2),
-            Number::Due(number) => (number, 3),
-        };
-        side::Number { number, state }
+        match self {
+            Number::Believed(number) => side::Number { number, state: BELIEVED },
+            _ => room(),
+        }
     }
 
     /// The number, if it is believed or due.

@@ -38,12 +38,12 @@ fn cav() -> Vec<[u32; 3]> {
     rows
 }
 
-/// The pictures of a CLV disc from 0:59:59 on, for two seconds.
+/// The pictures of a CLV disc from 8:59:58 on, for three seconds.
 fn clv(rate: u32) -> Vec<[u32; 3]> {
-    let fields = (0..2 * rate).flat_map(|number| {
+    let fields = (0..3 * rate).flat_map(|number| {
         let [second, minutes] = match number / rate {
-            0 => time(0, 59, 59, number % rate),
-            _ => time(1, 0, 0, number % rate),
+            2 => time(9, 0, 0, number % rate),
+            second => time(8, 59, 58 + second, number % rate),
         };
         [[second, CLV_MARK, minutes], [0, CLV_MARK, chapter(7)]]
     });
@@ -61,6 +61,7 @@ fn reads_what_was_drawn() {
         let drawn = rows.map(|row| row.map(shown));
         assert_eq!(side.fields().collect::<Vec<_>>(), drawn);
         assert_eq!((side.fields().len(), side.fields().next_back(), side.cut_bytes()), (3, Some(drawn[2]), 7));
+        assert!(!side.is_empty() && !Side::new(&bytes[..field], system, levels()).unwrap().is_empty());
         assert_eq!(side.line(&bytes[16 * line..17 * line]), Ok(drawn[0][1]));
         let codes = drawn.map(|field| field[1].outcome.word().map(classify));
         assert_eq!(codes, [Some(Code::Picture(12345)), Some(Code::Chapter(42)), None]);
@@ -93,7 +94,7 @@ fn refuses_what_is_no_side_and_no_line() {
     for (system, line, field, ..) in SYSTEMS {
         let bytes = vec![0; 29 * line];
         let side = |count: usize| Side::new(&bytes[..count], system, levels());
-        assert_eq!(side(0).map(|side| (side.fields().len(), side.cut_bytes())), Ok((0, 0)));
+        assert_eq!(side(0).map(|side| (side.len(), side.is_empty(), side.cut_bytes())), Ok((0, true, 0)));
         for count in [1, 28 * line] {
             assert_eq!(side(count).err(), Some(Error::NoField { bytes: count, field }));
         }
@@ -114,6 +115,7 @@ fn refuses_what_is_no_side_and_no_line() {
     let fault: Box<dyn std::error::Error> = Error::NoField { bytes: 3, field: 478660 }.into();
     assert_eq!(fault.to_string(), "a field has 478660 bytes, and these are 3");
     assert_eq!(Error::NoLine { bytes: 3, line: 1820 }.to_string(), "a line has 1820 bytes, and these are 3");
+    assert_eq!(Error::NoClock { period: 5, phase: 6 }.to_string(), "the phase 6 is not below the period 5");
 }
 
 #[test]
@@ -180,20 +182,20 @@ fn counts_times_from_the_beginning() {
         let bytes = draw(system, &clv(rate));
         let side = Side::new(&bytes, system, levels()).unwrap();
         let numbers = side.numbers(Counted::Times);
-        for number in 0..2 * rate {
-            let (field, count) = (2 * number as usize, 3599 * rate + number);
+        for number in 0..3 * rate {
+            let (field, count) = (2 * number as usize, (9 * 3600 - 2) * rate + number);
             assert_eq!((numbers[field], numbers[field + 1]), (Number::Believed(count), Number::Nothing));
         }
         let index = |place| side.seek(place).map(|field| field.index);
-        assert_eq!(index(Place::Time(0, 59, 59, 0)), Some(0));
-        assert_eq!(index(Place::Time(0, 59, 59, rate - 1)), Some(2 * rate as usize - 2));
-        assert_eq!(index(Place::Time(1, 0, 0, 3)), Some(2 * rate as usize + 6));
+        assert_eq!(index(Place::Time(8, 59, 58, 0)), Some(0));
+        assert_eq!(index(Place::Time(8, 59, 59, rate - 1)), Some(4 * rate as usize - 2));
+        assert_eq!(index(Place::Time(9, 0, 0, 3)), Some(4 * rate as usize + 6));
         // What no clock shows counts to none of these, though the sum would.
-        for place in [Place::Time(0, 60, 0, 3), Place::Time(0, 59, 60, 3), Place::Time(0, 59, 59, rate)] {
+        for place in [Place::Time(8, 60, 0, 3), Place::Time(8, 59, 60, 3), Place::Time(8, 59, 59, rate)] {
             assert_eq!(index(place), None);
         }
         assert_eq!(index(Place::Time(u32::MAX, 0, 0, 3)), None);
-        assert_eq!(index(Place::Picture(3599 * rate)), None);
+        assert_eq!(index(Place::Picture((9 * 3600 - 1) * rate)), None);
     }
 }
 
@@ -215,6 +217,18 @@ fn stops_from_a_field_on() {
         assert_eq!((from(10), from(11), from(67)), (vec![10, 66, 67], vec![66, 67], vec![67]));
         assert_eq!((from(68), from(80), from(usize::MAX)), (vec![], vec![], vec![]));
         assert_eq!(side.stops(0).next().map(|stop| stop.readings), Some([STOP, picture(5), picture(5)].map(shown)));
+        for (from, most, stop) in [
+            (0, 10, None),
+            (0, 11, Some(10)),
+            (10, 1, Some(10)),
+            (11, 55, None),
+            (11, 56, Some(66)),
+            (67, 0, None),
+            (67, 1, Some(67)),
+            (68, 99, None),
+        ] {
+            assert_eq!(side.next_stop(from, most), stop.and_then(|stop| side.field(stop)), "{from} {most}");
+        }
     }
 }
 
@@ -256,8 +270,8 @@ fn seeks_without_judging_the_whole_side() {
             (&pictures, Place::Chapter(0), Some(1)),
             (&pictures, Place::Chapter(1), Some(41)),
             (&pictures, Place::Chapter(2), None),
-            (&times, Place::Time(1, 0, 0, 3), Some(2 * rate as usize + 6)),
-            (&times, Place::Time(1, 0, 1, 0), None),
+            (&times, Place::Time(9, 0, 0, 3), Some(4 * rate as usize + 6)),
+            (&times, Place::Time(9, 0, 1, 0), None),
             (&times, Place::Chapter(7), Some(1)),
         ] {
             assert_eq!(side.seek(place).map(|field| field.index), found, "{place:?}");
@@ -267,41 +281,66 @@ fn seeks_without_judging_the_whole_side() {
     }
 }
 
-#[test]
-fn goes_on_to_what_a_capture_has() {
-    // Pictures 0 to 29 and 33 to 59, of chapters 0 and 2, with eight fields of lead-in before and of lead-out after them
-    let disc = (0..30).chain(33..60).flat_map(|number| {
-        let chapter = chapter(if number < 30 { 0 } else { 2 });
+/// Pictures 0 to 29 and 41 to 67, of chapters 0 and 78, with eight fields of lead-in before and of lead-out after them.
+fn lacking() -> Vec<[u32; 3]> {
+    let disc = (0..30).chain(41..68).flat_map(|number| {
+        let chapter = chapter(if number < 30 { 0 } else { 78 });
         [[0, picture(number), picture(number)], [0, chapter, chapter]]
     });
-    let rows = [[0, 0x88FFFF, 0x88FFFF]; 8].into_iter().chain(disc).chain([[0, 0x80EEEE, 0x80EEEE]; 8]);
-    let rows: Vec<_> = rows.collect();
+    [[0, 0x88FFFF, 0x88FFFF]; 8].into_iter().chain(disc).chain([[0, 0x80EEEE, 0x80EEEE]; 8]).collect()
+}
+
+#[test]
+fn goes_on_to_what_a_capture_has() {
     for (system, ..) in SYSTEMS {
-        let bytes = draw(system, &rows);
+        let bytes = draw(system, &lacking());
         let side = Side::new(&bytes, system, levels()).unwrap();
         let on = |place, most| side.seek_on(place, most).map(|(field, passed)| (field.index, passed));
-        assert_eq!((on(Place::Picture(30), 3), on(Place::Picture(32), 1)), (Some((68, 3)), Some((68, 1))));
-        assert_eq!((on(Place::Picture(30), 2), on(Place::Picture(60), 9)), (None, None));
-        assert_eq!((on(Place::Chapter(1), 80), on(Place::Chapter(3), 80)), (Some((69, 1)), None));
+        for (number, most) in (28..43).flat_map(|number| [0, 1, 2, 3, 10, 11, u32::MAX].map(|most| (number, most))) {
+            let (passed, before) = if number < 30 { (0, 0) } else { (41_u32.saturating_sub(number), 11) };
+            let found = (8 + 2 * (number + passed - before) as usize, passed);
+            assert_eq!(on(Place::Picture(number), most), (passed <= most).then_some(found), "{number} {most}");
+        }
+        assert_eq!((on(Place::Picture(68), 9), on(Place::Picture(u32::MAX), u32::MAX)), (None, None));
+        assert_eq!((on(Place::Chapter(1), 76), on(Place::Chapter(1), 77)), (None, Some((69, 77))));
+        assert_eq!((on(Place::Chapter(78), 0), on(Place::Chapter(79), 80)), (Some((69, 0)), None));
         let beside = |place| {
             let beside = side.beside(place)?;
             Some([beside.before, beside.after].map(|one| one.map(|one| (one.number, one.field))))
         };
-        assert_eq!(beside(Place::Picture(31)), Some([Some((29, 66)), Some((33, 68))]));
-        assert_eq!(beside(Place::Picture(60)), Some([Some((59, 120)), None]));
+        assert_eq!(beside(Place::Picture(31)), Some([Some((29, 66)), Some((41, 68))]));
+        assert_eq!(beside(Place::Picture(68)), Some([Some((67, 120)), None]));
         assert_eq!((beside(Place::Chapter(1)), beside(Place::Time(0, 60, 0, 0))), (None, None));
-        let chapters = [0, 8, 9, 67, 68, 69, 121, 122, 129].map(|index| side.chapter(index));
-        let [first, last] = [Some(0), Some(2)];
-        assert_eq!(chapters, [None, None, first, first, first, last, last, None, None]);
         let index = |field: Option<ldvbi::Field>| field.map(|field| field.index);
-        assert_eq!((index(side.next_chapter(0)), index(side.next_chapter(9))), (Some(9), Some(69)));
-        assert_eq!((index(side.next_chapter(69)), index(side.next_chapter(129))), (None, None));
-        assert_eq!((index(side.previous_chapter(121)), index(side.previous_chapter(67))), (Some(9), None));
-        let numbers = side.numbers(Counted::Pictures);
-        for index in [0, 8, 9, 40, 67, 68, 121, 129] {
-            assert_eq!(side.number(Counted::Pictures, index), Some(numbers[index]));
+        for (at, next, previous) in [(0, Some(9), None), (9, Some(69), None), (69, None, Some(9)), (129, None, None)] {
+            assert_eq!((index(side.next_chapter(at)), index(side.previous_chapter(at))), (next, previous), "{at}");
         }
-        assert_eq!(side.number(Counted::Pictures, side.len()), None);
+    }
+}
+
+#[test]
+fn a_field_is_told_by_those_around_it() {
+    // Among others, 60 fields without a number or a chapter, and the last chapter of all
+    let mut rows = lacking();
+    rows.splice(30..30, [[0; 3]; 60]);
+    rows.extend((0..40).map(|field| [0, if field < 10 { chapter(79) } else { 0 }, 0]));
+    for (system, _, size, ..) in SYSTEMS {
+        let bytes = draw(system, &rows);
+        let cut = |from: usize, to: usize| Side::new(&bytes[from * size..to * size], system, levels()).unwrap();
+        let (side, ends) = (cut(0, rows.len()), |field: usize| rows[field][1] == 0x80EEEE);
+        for index in 0..rows.len() {
+            let around = |reach: usize| (index.saturating_sub(reach), rows.len().min(index + reach + 1));
+            let (from, to) = around(48);
+            let numbers = cut(from, to).numbers(Counted::Pictures);
+            assert_eq!(side.number(Counted::Pictures, index), Some(numbers[index - from]), "{index}");
+            let (from, to) = around(24);
+            let chapters = cut(from, to).chapters();
+            let last = (from..=index).rev().find(|field| ends(*field) || chapters[field - from].known().is_some());
+            let chapter = last.filter(|field| !ends(*field)).and_then(|field| chapters[field - from].known());
+            assert_eq!(side.chapter(index), chapter, "{index}");
+        }
+        assert_eq!((side.number(Counted::Pictures, rows.len()), side.chapter(rows.len())), (None, None));
+        assert_eq!(side.chapter(rows.len() - 20), Some(79));
     }
 }
 

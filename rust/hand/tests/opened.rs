@@ -36,6 +36,13 @@ fn takes_the_settings_beside_the_file() {
     assert_eq!((side.system(), side.len(), side.cut_bytes()), (System::Pal, 40, 0));
     assert_eq!(side.number(Counted::Pictures, 24), Some(Number::Believed(12)));
     assert_eq!(side.whole(SideOptions::new(Counted::Pictures)).padded, 0);
+    #[cfg(target_os = "linux")]
+    {
+        // The kernel says of the mapping that it reads nothing ahead.
+        let maps = fs::read_to_string("/proc/self/smaps").unwrap();
+        let flags = maps.split("side.tbc\n").skip(1).map(|one| one.lines().find(|line| line.starts_with("VmFlags")));
+        assert!(flags.into_iter().all(|one| one.unwrap().contains(" rr")) && maps.contains("right/side.tbc\n"));
+    }
     fs::remove_dir_all(folder).unwrap();
 }
 
@@ -61,12 +68,24 @@ fn names_the_file_that_has_a_fault() {
         fs::remove_dir_all(folder).unwrap();
     }
     let folder = folder("short", Some(PARAMETERS));
-    fs::write(folder.join("side.tbc"), [0; 7]).unwrap();
-    assert_eq!(said(&folder), "side.tbc: a field has 710510 bytes, and these are 7");
+    fs::write(folder.join("side.tbc"), [0; 1]).unwrap();
+    assert_eq!(said(&folder), "side.tbc: a field has 710510 bytes, and these are 1");
     assert!(matches!(Side::open(folder.join("side.tbc")), Err(OpenError::Side { .. })));
     fs::remove_file(folder.join("side.tbc")).unwrap();
     assert_eq!(said(&folder), "side.tbc: No such file or directory (os error 2)");
     fs::create_dir(folder.join("side.tbc")).unwrap();
     assert_eq!(said(&folder), "side.tbc: it is no file");
+    fs::remove_dir(folder.join("side.tbc")).unwrap();
+    fs::write(folder.join("side.tbc"), []).unwrap();
+    assert!(Side::open(folder.join("side.tbc")).unwrap().is_empty());
+    #[cfg(target_os = "linux")]
+    {
+        fs::remove_file(folder.join("side.tbc")).unwrap();
+        std::os::unix::fs::symlink("/sys/kernel/uevent_seqnum", folder.join("side.tbc")).unwrap();
+        assert_eq!(said(&folder), "side.tbc: No such device (os error 19)"); // it isn't mapped
+    }
+    // One byte more than is allowed
+    fs::File::create(folder.join("side.tbc.json")).unwrap().set_len((256 << 20) + 1).unwrap();
+    assert_eq!(said(&folder), "side.tbc.json: metadata too large");
     fs::remove_dir_all(folder).unwrap();
 }

@@ -180,6 +180,34 @@ fn numbers_in_the_place_of_others() {
 }
 
 #[test]
+fn numbers_in_the_place_of_others_on_film_and_by_a_clock() {
+    // On film pictures with an odd number last three fields, the others two.
+    let film = |first: u32, last: u32| {
+        let rows = (first..=last).flat_map(|number| {
+            let shown = [0, picture(number), picture(number)];
+            [shown].into_iter().chain(vec![BLANK; 1 + number as usize % 2])
+        });
+        rows.collect::<Rows>()
+    };
+    for (counted, parts, clock) in [
+        (Counted::Pictures, [film(1, 30), film(201, 210), film(41, 60)], Clock::Plain),
+        (Counted::Times, [times(0, 30), times(201, 210), times(41, 60)], Clock::Plain),
+        (Counted::Times, [times(1780, 1799), times(601, 610), times(1812, 1840)], Clock::DropFrame),
+    ] {
+        let (bytes, begin) = (draw(System::Ntsc, &parts.concat()), parts[0].len());
+        let (side, options) = (Side::new(&bytes, System::Ntsc, levels()).unwrap(), cut_off(counted));
+        let mut numbers = side.numbers(counted);
+        for number in &mut numbers[begin..begin + parts[1].len()] {
+            *number = number.known().map_or(*number, Number::Doubtful);
+        }
+        assert_eq!(side.numbers_left_by_clock(options, clock), Ok(numbers.clone()), "{counted:?}");
+        if clock == Clock::Plain {
+            assert_eq!(side.numbers_left(options), numbers, "{counted:?}");
+        }
+    }
+}
+
+#[test]
 fn over_a_hundred_fields_without_a_number() {
     let rows = [pictures(1, 20), vec![BLANK; 102], pictures(72, 90)].concat();
     for system in SYSTEMS {
