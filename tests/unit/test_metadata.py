@@ -206,6 +206,10 @@ def test_how_a_database_is_opened(room):
         assert [known.execute("PRAGMA " + name).fetchone() for name in (
             "trusted_schema", "cell_size_check", "busy_timeout")] == [(0,), (1,), (0,)]
         assert (known.in_transaction, known.getlimit(0)) == (True, 1 << 20)
+    path = make(room, CAPTURE, (INSERT, PAL))
+    for most, wanted in ((10000, None), (40, path + ": SQLite can't read it: interrupted")):
+        with mock.patch.multiple(database, STEPS=20, MOST_STEPS=most):
+            assert reason(read_metadata, path) == wanted
 
 
 def test_an_unfinished_change_is_left_alone(room):

@@ -345,3 +345,5 @@ def test_each_call(monkeypatch):
         for module in (judging, near, seeking, sides, stream):
             monkeypatch.setattr(module, "later_call", functools.partial(later_call, name))
         assert reason(call, *words) == REFUSED
+    monkeypatch.setattr(sides, "later_call", functools.partial(later_call, "set_aside"))
+    assert reason(judge_side, packed, "PAL") is None  # in which no number is set aside
