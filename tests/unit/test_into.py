@@ -300,12 +300,13 @@ def seconds_in(process, path):
 def test_signals_that_nobody_can_heed(room, number, words):
     """They end a process that is in one function for hours, and nothing is left."""
     draw(room.named("side.tbc"), Disc(rows_of_pictures(range(1, 9))), range(16), form="db")
-    make(room, *UNIQUE, name="long.db")
-    before, is_held = room.files(), words.startswith("ldvbi_side")
+    is_held = words.startswith("ldvbi_side")
+    make(room, *UNIQUE * (not is_held), name="long.db")
+    before = room.files()
     command = [sys.executable, "-c", HELD] if is_held else COMMAND
     process = room.started(*words.split(), command=command, preexec_fn=bounded, start_new_session=True)
     while not (is_held and process.stdout.readline() or max(
-            seconds_in(one, room.named("long.db")) for one in (process.pid, *children(process.pid))) > 0.6):
+            seconds_in(one, room.named("long.db")) for one in (process.pid, *children(process.pid))) > 0.4):
         assert process.poll() is None
         time.sleep(0.01)
     assert len(room.files()) > len(before) or not is_held
