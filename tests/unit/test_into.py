@@ -185,6 +185,13 @@ def test_the_fields_are_those_of_the_table_vbi_where_no_other_has_them(room):
     assert asked(room, "SELECT * FROM vbi") == [[(7, *words(2)[1]), (6, *words(2)[0])]]
 
 
+def test_rows_that_sqlite_counts_itself(room):
+    """It notes in a table of its own the last of numbers that it gives."""
+    make(room, "DROP TABLE vbi", "CREATE TABLE vbi (id INTEGER PRIMARY KEY AUTOINCREMENT, field_id, vbi0, vbi1, vbi2)")
+    copy(room, words(12))
+    assert asked(room, "SELECT field_id, vbi0, vbi1, vbi2 FROM vbi") == [[(n, *one) for n, one in enumerate(words(12))]]
+
+
 def test_what_was_written_last_is_copied_too(room):
     """In a database with a log of its own, which another program still has open."""
     with contextlib.closing(sqlite3.connect(make(room))) as other:
@@ -436,7 +443,7 @@ def test_refused_runs(drawn):
 
 
 @pytest.mark.parametrize("old, new, other", (
-    ("15728640, 15728640", "15728640, 15728641", "words in field 1"), ('"believed"', '"as read"', "ldvbiWords"),
+    ("15728641, 15728641", "15728641, 15728642", "words in field 2"), ('"believed"', '"as read"', "ldvbiWords"),
     ('"fields": [', '"fields": [{"vbi": {"vbiData": [1, 2, 3]}}, ', "13 fields")))
 def test_the_copy_is_read_back(copies, old, new, other):
     """Nothing is left of one that isn't as it was to be written. What is no file isn't read back."""

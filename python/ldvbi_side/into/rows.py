@@ -98,5 +98,5 @@ def _noted(words: Iterable[Words], written: "array.array[int]") -> Iterator[Word
 
 def _counts_of(database: sqlite3.Connection) -> Dict[str, int]:
     """How many rows each table has. Without a condition to count is one step, in which nothing can be stopped."""
-    return {table: database.execute("SELECT count(*) FROM %s WHERE 1" % quoted(table)).fetchone()[0]
-            for table in tables_of(database) if not table.startswith("sqlite_")}
+    return {table: count for table in tables_of(database) if not table.startswith("sqlite_")
+            for count, in database.execute("SELECT count(*) FROM %s WHERE 1" % quoted(table))}
