@@ -106,6 +106,7 @@ def test_a_document():
     readings = side.readings
     assert [line.column for line in readings[0]] == [0, 0, 909]
     assert (readings[-2:], PackedFields.of(list(readings))) == (list(readings)[2:], readings)
+    assert [tuple(readings.words_on(line)) for line in (16, 17, 18)] == list(zip(*readings.words()))
     assert reason(readings.__getitem__, 4, kind=IndexError) is not None
     for cut in (Cut(1, 1), None):
         empty = side_of_document(written(2, 0, cut))
