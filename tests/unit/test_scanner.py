@@ -86,7 +86,10 @@ def test_a_long_value_is_begun_a_few_times():
     """As often as what is read is twice as long: a value that is longer by far than a piece takes no longer."""
     with mock.patch.object(scanner, "_DECODER", mock.Mock(wraps=json.JSONDecoder())) as decoder:
         assert scanned('["%s"]' % ("a" * 100000), 1)[0][1] == "a" * 100000
-    assert decoder.raw_decode.call_count < 40
+        assert decoder.raw_decode.call_count < 40
+        decoder.raw_decode.reset_mock()
+        many = Scanner(io.StringIO("[%s{}]" % ("{}, " * 99)))  # of which all but the last are read together
+        assert sum(map(len, many.values())) == 100 and decoder.raw_decode.call_count == 1
 
 
 @pytest.mark.parametrize("wanted, place, texts", [(*row[:2], row[2:]) for row in NO_JSON])
