@@ -209,7 +209,8 @@ def test_what_was_written_last_is_copied_too(room):
      FORM.replace("vbi1 INTEGER NOT NULL", "b INTEGER"), 0, ()),
     (GAPS, FORM, 12, ["UPDATE field_record SET field_id = 20 WHERE field_id = 5"]),
     (GAPS, FORM, 11, ["INSERT INTO field_record VALUES (5, 5, 0, 1, 0)"]),
-    (GAPS, "CREATE TABLE vbi (field_id INT, vbi0, vbi1, vbi2); INSERT INTO vbi VALUES (NULL, 1, 2, 3), (0, 1, 2, 3)", 0, ()),
+    (GAPS, "CREATE TABLE vbi (field_id INT, vbi0, vbi1, vbi2); INSERT INTO vbi VALUES (NULL, 1, 2, 3), (0, 1, 2, 3)",
+     0, ()),
     ("SQLite can't copy it: no such column: capture_id", FORM.replace("(capture_id", "(a", 1), 9, ()),
     *(("its trigger one of the table %s may write something else" % table, FORM, 0, [TRIGGER % table])
       for table in ("vbi", "drop_outs")),
