@@ -15,6 +15,7 @@ from ldvbi_side.join.captures import capture_of
 from ldvbi_side.side import side_of_document
 from ldvbi_side.write.again import differences
 from ldvbi_side.write.checked import refuse_wrong
+from ldvbi_side.write.choice import damage_of
 from ldvbi_side.write.kept import fields_of
 from ldvbi_side.write.plan import Plan, plan, Wanted
 from ldvbi_side.write.said import outcome_of, rows_of, seam_lines, written_lines
@@ -288,6 +289,14 @@ def test_random_sets(seed):
     again = side_of_document(json.dumps(dict(ones[0].document, fields=records)).encode())
     again.first, again.may_end = [(begin + at) % 2 == 0 for at in range(len(places))], True
     assert differences(found, capture_of(again, "out")) == []
+
+
+@pytest.mark.parametrize("side_text, has_dropouts, sums", (
+    ("lost=3 NTSC 1..3", False, [0, 0, 0, 200000, 200000, 200000]), ("1..2 3.16=?", False, [0, 0, 0, 500, 500]),
+    ("dropouts=2..3 1..2", True, [0, 0, 900, 1800, 1800])))
+def test_how_much_is_damaged(side_text, has_dropouts, sums):
+    """A place where the colour doesn't go on counts as much as two changes of the capture do."""
+    assert damage_of(source(side_text), has_dropouts) == sums
 
 
 @pytest.mark.parametrize("sides, wanted", (
