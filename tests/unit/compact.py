@@ -160,6 +160,7 @@ ITEMS = {
                                                   one["weight"], one["against"]),
     "badLines": lambda one: "%s %s" % (place(one), one["cause"]), "reasons": lambda one: one["why"],
     "showings": lambda one: "%s@%s" % (one[0], span(one, 1, 2)), "completed": str, "confirmed": str,
+    "programmeStatus": lambda one: "%s@%s" % (one["digits"], span(one)),
     "own": lambda one: "%s %d-%d %s to %s, %d" % one}
 ITEMS.update(leadOut=ITEMS["leadIn"], chapterConflicts=ITEMS["conflicts"])
 
@@ -217,8 +218,7 @@ def table_in(path):
 
 
 def check_row(name, side, *members, **more):
-    """A row has a name, a side, and members of its answer, or its `own` breaks. What is known or asked besides, `Fields`
-    has."""
+    """A row has a name, a side, and members of its answer, or its `own` breaks. What is known besides, `Fields` has."""
     known = analysed(made(side, plain)._replace(**more))
     found = {**as_json(known.answer), "own": known.breaks}
     for member in members:

@@ -21,9 +21,11 @@ PACES = {"video": VIDEO, "both": Pace("both"), "film": Pace("film"), "minutes": 
 # A video picture has 2 fields; of both fields the second one is one after; minutes fit within one minute; one chapter
 # may be passed over in 18 fields, and at a break of the pictures' numbers, which 100 stands for, any may follow.
 OFF = {"video": "10 7 5: 0, 12 7 5: 2, 9 7 5: -1, 4 7 0: None", "both": "1 7 0 0 1: 0, 1 7 1 1 0: 0, 3 7 1 0 1: 0, "
-       "2 7 0 0 0: None", "film": "1 7 0 0 1: None, 2 7 0 0 2: None", "minutes": "10 4 0: 0, 2999 4 0: 0, 3000 4 0: 3000, "
-       "1 4 1: 0, 5999 4 1: 0, 6000 4 1: 3000, 1 4 3: -8999, 5 4 -1: 3005", "NTSC minutes": "7199 4 1: 0, "
-       "7200 4 1: 3604, 3591 4 2: 0, 3590 4 2: -3602", "chapters": "17 7 2: 2, 18 7 2: 0, 400 7 3: 4, 400 7 -1: 160, 9 7 0: 0, 9 7 1: 0, 9 7 2: 2, "
+       "2 7 0 0 0: None", "film": "1 7 0 0 1: None, 2 7 0 0 2: None",
+       "minutes": "10 4 0: 0, 2999 4 0: 0, 3000 4 0: 3000, 1 4 1: 0, 5999 4 1: 0, 6000 4 1: 3000, 1 4 3: -8999, "
+       "5 4 -1: 3005", "NTSC minutes": "7199 4 1: 0, "
+       "7200 4 1: 3604, 3591 4 2: 0, 3590 4 2: -3602",
+       "chapters": "17 7 2: 2, 18 7 2: 0, 400 7 3: 4, 400 7 -1: 160, 9 7 0: 0, 9 7 1: 0, 9 7 2: 2, "
        "9 7 4: 6, 9 107 2: 2, 9 107 -1: 160, 9 107 100: 0, 9 7 -1: 160, 9 7 100: 0, 9 7 101: 0, 9 7 140: 1, 9 7 97: 1"}
 # A number, a step and variants, and the fields between. Film has 2 and 3 fields in turn: pictures with an odd number
 # have 3, those with an even one, or none: video in between.
@@ -198,7 +200,8 @@ MINUTES = """
     PAL | 4@1-9 5@10-3008 7@3009-3010 | none | none || PAL | 4@1-9 5@10-3008 6@3009-3010 | 20 | none
     PAL | 4@1-9 5@10-3008 6@3009-3010 | 9 3009 | lost 9-3009 4 6 1 || PAL | 0@10-20 1@3000-3001 | none | none
     PAL | 0@10-20 1@3009-3010 | 2 9 | lost 9-3009 0 1 1 || PAL | 0@10-20 1@3010-3011 | 2 9 | none
-    PAL | 1@10-20 2@3009-3010 | 9 | none || PAL | 0@10-20 2@3009-3010 | 9 | none || PAL | 0@10-20 1@3009-3010 | 10 | none
+    PAL | 1@10-20 2@3009-3010 | 9 | none || PAL | 0@10-20 2@3009-3010 | 9 | none
+    PAL | 0@10-20 1@3009-3010 | 10 | none
     PAL | 0@10-20 1@3009-3010 | 9 30 | none || PAL | 0@10-20 1@3009-3010 | 9 3009 | lost 9-3009 0 1 1
 """
 

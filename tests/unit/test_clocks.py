@@ -14,7 +14,7 @@ from room import reason
 
 PLAIN, DROP = Clock(ClockKind.plain), Clock(ClockKind.drop_frame)
 THOUSAND, MORE = Clock(ClockKind.one_in, 1000, 399), Clock(ClockKind.one_in, 1001, 300)
-# Three places of each: 0:00:59.29 is followed by 0:01:00.02, and of one in 1,000 or 1,001 a number is left out each time
+# Three places of each: 0:00:59.29 is followed by 0:01:00.02, and of one in 1,000 or 1,001 a number is left out
 DISCS = {DROP: "NTSC t0..5430!1800,1801,3600,3601,5400,5401", THOUSAND: "NTSC t0..2430!399%1000",
          MORE: "NTSC t0..2330!300%1001"}
 
@@ -34,8 +34,9 @@ def judged(fields, clock="find", system="NTSC", counted="times"):
 @pytest.mark.parametrize("clock, picture, around", ((DROP, 900, (899, 901)), (THOUSAND, 200, (199, 201)),
                                                     (MORE, 600, (600, 602))))
 def test_a_side_and_a_loss(clock, picture, around, on_both):
-    """A whole side; then a picture is lost (counted from 0, and the numbers around it): two fields and a number. With numbers on both fields of a picture the one before it is a field later, and so is the last one
-    of the side: this one is off from the first by one field alone."""
+    """A whole side; then a picture is lost (counted from 0, and the numbers around it): two fields and a number. With
+    numbers on both fields of a picture the one before it is a field later, and so is the last one of the side: this one
+    is off from the first by one field alone."""
     fields = fields_of(clock, on_both)
     found = judged(fields)
     assert (found.verdict, found.reasons, found.clock, found.on_both) == (Verdict.whole, Reason(0), clock, on_both)

@@ -32,16 +32,17 @@ def chapters_of(codes: Codes, places: Places, begin: int) -> Tuple[List[Chapter]
     breaks.sort()
     found, sure = codes.kinds[Kind.chapter], sure_in(judge_chapters(codes.fields.packed))
     if breaks:  # at each any chapter may follow, so the breaks up to its field are part of a reading's number
-        sure = {field: 100 * bisect.bisect(breaks, field) + chapter for field, chapter in sure.items()}
+        sure = {field: ChapterPace.BREAK * bisect.bisect(breaks, field) + chapter for field, chapter in sure.items()}
     sure = _in_order(sure)
     inside = _inside(found, sure)
-    readings = [one._replace(number=100 * bisect.bisect(breaks, one.field) + one.number) for one in codes.readings(
-        {field: values for field, values in found.items() if field not in inside})]
+    others = codes.readings({field: values for field, values in found.items() if field not in inside})
+    readings = [one._replace(number=ChapterPace.BREAK * bisect.bisect(breaks, one.field) + one.number)
+                for one in others]
     believed = chosen(readings, ChapterPace(), sure)
     if LEAST_SHARE * (len(believed) + len(inside)) < len(codes.fields.words):
         believed, readings = [], codes.readings(found)
-    chapters = [one._replace(number=one.number % 100) for one in believed]
-    readings = [one._replace(number=one.number % 100) for one in readings]
+    chapters = [one._replace(number=one.number % ChapterPace.BREAK) for one in believed]
+    readings = [one._replace(number=one.number % ChapterPace.BREAK) for one in readings]
     aside = aside_of(codes, Kind.chapter, readings, {one.field: one.number for one in chapters},
                      lambda field, is_conflict: ("chapter", None, None))
     return (_chapters(chapters, places, begin), *aside)

@@ -121,16 +121,18 @@ class MinutePace(_LongPace):
 class ChapterPace(_LongPace):
     """The pace of chapters, which have any length. The next chapter is no break. Each one that is passed over counts as
     a picture would. Going back counts as all 80 would, since that can't be without a break of the pictures' numbers.
-    One chapter that is passed over in many fields may have been there without being read. A number here is 100 times
-    the count of breaks up to its field, plus the chapter: at a break any chapter may follow, for the least price."""
+    One chapter that is passed over in many fields may have been there without being read. A number here is `BREAK`
+    times the count of breaks up to its field, plus the chapter: at a break any may follow, for the least price."""
+    BREAK = 100
     ALL = 80  # chapters, 0 to 79
     MANY = 18  # fields
 
     def off(self, fields: int, number: int, step: int, *variants: int) -> int:
-        chapters = (number + step) % 100 - number % 100
+        (breaks, chapter), (others, after) = divmod(number, self.BREAK), divmod(number + step, self.BREAK)
+        chapters = after - chapter
         if chapters in (0, 1) or chapters == 2 and fields >= self.MANY:
             return 0
-        if number // 100 != (number + step) // 100:
+        if breaks != others:
             return 1
         return 2 * (chapters - 1) if chapters > 0 else 2 * self.ALL
 
