@@ -145,7 +145,7 @@ def _system(parameters):
         if not _is_number(_member(parameters, member, "videoParameters"), wanted, wanted):
             raise ValueError("%s is not %d" % (member, wanted))
     black, white = (_member(parameters, name, "videoParameters") for name in ("black16bIre", "white16bIre"))
-    if not _is_number(black, 0, 65535) or not _is_number(white, 0, 65535) or black >= white:
+    if not type(black) is type(white) is int or not 0 <= black < white <= 65535:
         raise ValueError("black16bIre and white16bIre are not two samples, black below white")
     return system
 
