@@ -67,6 +67,7 @@ FIELDS = """
     {"fields":[{"isFirstField":true},{"isFirstField":1}]} | 2 None None
     {"fields":[{"pad":false},{"pad":true},{"pad":1}]} | 3 None [False, True, False]
     {"fields":[{"pad":true,"isFirstField":true}],"fields":5} | None None None
+    {"fields":[{"pad":true}],"other":[{},{}]} | 1 None [True]
     {COUNT12}} | 12 None None || {COUNT0}} | 0 None None || {COUNT-1}} | None None None || {COUNT1.5}} | None None None
     {COUNTtrue}} | None None None || {COUNT12},"fields":[]} | 12 None None || {COUNT12},"fields":[{},{}]} | 2 None None
     {} | None None None || [] | None None None || {"fields":5} | None None None || x | None None None

@@ -110,6 +110,9 @@ def test_each_call(room, setup):
                         list(ldvbi.fields(room.path, *setup, recover=recover, dropouts=of_stream))[99],
                         *(call(samples, *setup, recover, dropouts) for call, samples in
                           ((ldvbi.read_field, field), (ldvbi.read_rows, b"".join(lines))))]
+            if not recover:  # as usual
+                readings += [ldvbi.read_field(field, *setup), ldvbi.read_rows(b"".join(lines), *setup),
+                             ldvbi.Stream(room.path, *setup)[99], list(ldvbi.fields(room.path, *setup))[99]]
         wanted = (0x85D0A1, 3) if recover else (0, 0), (WORD, 3) if is_found else (0, 0), (0xF54321, 1)
         assert {tuple((line.word, line.pass_) for line in one) for one in readings} == {wanted}
 
