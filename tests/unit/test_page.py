@@ -1,19 +1,25 @@
-"""The page of a side, and the index of many: parsed, and compared with the answer."""
+"""Pages of a side, of captures together, and of many sides: whole, and compared with the answer. What their scripts do
+and their looks, a browser shows (test_browser.py)."""
 
 import base64
 import hashlib
-import html
+import json
 import os
 import re
 import xml.etree.ElementTree as xml
+import zlib
 from unittest import mock
 
-from compact import made, words_of
+from compact import made
 from discs import side
 import ldvbi
 from ldvbi_side.command.summary import summary
+from ldvbi_side.draw import finding, sorting, style
+from ldvbi_side.draw.axis import BROAD, NARROW
+from ldvbi_side.draw.bars import bars_of
+from ldvbi_side.draw.drawing import drawing_of
 from ldvbi_side.draw.folds import LISTS
-from ldvbi_side.draw.index import index_of
+from ldvbi_side.draw.index import Fault, index_of
 from ldvbi_side.draw.page import page_of
 from ldvbi_side.draw.plotting import plot_line
 from ldvbi_side.draw.svg import breakable
@@ -24,33 +30,204 @@ import pytest
 from room import reason
 from streams import line_with, NTSC, worn_line, write_stream
 
-SPACE = "{http://www.w3.org/2000/svg}"
-# A side that has something in each list that CAV has
-DAMAGED = "Lx2 1..40 21..40 L 7=83D0A1/?/88FFFB 9=8DC0A1/#79999/#4 11=8AE000/S/#5 -41:44"
+# What stands for the tags of tables and lists
+SHORT = (("</td><td>", " | "), ("</th><th>", " | "), ("</td></tr>\n<tr><td>", " ; "), ("</dd><dt>", " ; "),
+         ("</dt><dd>", ": "), ('</summary><div class="wide"><table><thead><tr><th>', " [ "),
+         ("</th></tr></thead>\n<tbody><tr><td>", " ] "), ("</td></tr></tbody></table></div></details>\n", ""),
+         ('<th role="columnheader" scope="col">', "<th>"), ('</td><td role="cell">', " | "),
+         ("&quot;", '"'), ("&#x27;", "'"))
+HEAD = """<!DOCTYPE html>
+<html lang="en"><head><meta charset="utf-8"><title>%s</title>
+<meta http-equiv="Content-Security-Policy" content="default-src 'none'; style-src 'unsafe-inline'; base-uri 'none'; form-\
+action 'none'%s">
+<meta name="viewport" content="width=device-width, initial-scale=1">
+"""
 
 
-def spoken(part):
-    """The text of a part, whose words a browser may part."""
-    return "".join(part.itertext())
+def digest(script):
+    """What a policy has for a script."""
+    return "; script-src 'sha256-%s'" % base64.b64encode(hashlib.sha256(script.encode()).digest()).decode()
+
+
+def short(text, *known):
+    """A page with names in the place of texts that are known, and of the tags of tables."""
+    for name, part in known:
+        assert text.count(part) == 1
+        text = text.replace(part, name)
+    for tags, name in SHORT:
+        text = text.replace(tags, name)
+    return text.split("\n")
+
+
+def page(one, plot=None, title="side.tbc", more=(), **known):
+    one = made(one, side) if isinstance(one, str) else one
+    return page_of(one, title, [*summary(one.analysis.answer), *more], plot, **known)
+
+
+SIDE_PAGE = HEAD % ("a <b>.tbc", digest(finding.SCRIPT)) + """\
+<meta name="ldvbi-side" content="SAID">
+<style>STYLE</style></head><body>
+<p><a href="index.html">all sides</a></p>
+<h1>a <wbr/>&lt;b&gt;.<wbr/>tbc</h1>
+<div class="open">whole: can't tell<ul><li>too few numbers to judge by</li><li>numbers set aside in 1 of 3 fields</li>\
+</ul></div>
+BROADNARROW
+<p id="find" hidden="hidden" data-begin="1" data-words="WORDS"><label>field <input type="number" min="1" max="6" \
+required="required"/></label> <output></output></p>
+<p>nothing lost, unread, repeated</p>
+<dl><dt>system: PAL, CAV ; fields: 6 ; line 16: 1 words, 0 of them read only after smoothing; 0 bad (0.00 %), 5 blank ; \
+line 17: 4 words, 0 of them read only after smoothing; 1 bad (20.00 %), 1 blank ; line 18: 5 words, 0 of them read only \
+after smoothing; 0 bad (0.00 %), 1 blank ; pictures: 2, from 1 to 2 ; doubtful, set aside: 1 (picture 5 in field 5 line \
+18) ; chapters: 1 (chapter 0 in field 2) ; codes out of place: 1 (chapter in field 4 line 16)</dd></dl>
+<details id="doubtful"><summary>doubtful, set aside: 1 [ field | line | word | kind | pass | why | number | before | \
+after ] 5 | 18 | F00005 | picture | 1 | alone | 5 | 2 in field 3 | \
+<details id="chapters"><summary>chapters: 1 [ chapter | field | last | after | number | frame ] 0 | 2 | 6 |  | 1 | 1\
+<details id="stray"><summary>codes out of place: 1 [ field | line | word | kind | pass | why ] 4 | 16 | 801DDD | chapter \
+| 1 | line\
+<details id="badLines"><summary>bad lines: 1 [ field | line | cause | column | offset | bytes ] 5 | 17 | change 170 | \
+170 | 2878360 | 2270\
+<details id="showings"><summary>numbers as they come by: 2 [ number | first | last ] 1 | 1 | 1 ; 2 | 3 | 3\
+<h2>Bad lines, drawn</h2>
+<details data-field="5"><summary>field 5, line 17: change 170</summary>
+<svg>5 17</svg></details>
+<script>SCRIPT</script></body></html>
+"""
+# What the page says of itself to the index
+SAID = {
+    "version": 3, "whole": "can't tell", "reasons": [
+        {"why": "numbers", "whole": "can't tell", "text": "too few numbers to judge by"},
+        {"why": "doubtful", "whole": "can't tell", "text": "numbers set aside in 1 of 3 fields"}],
+    "system": "PAL", "format": "cav", "unit": "picture", "fields": 6, "numbers": {"count": 2, "least": 1, "greatest": 2},
+    "last": 2, "leadIn": 0, "leadOut": 0, "lost": "none", "counts": {"lost": 0, "unread": 0}, "try": None,
+    "side": "/x/a <b>.tbc", "options": ["--open-end"], "marks": {
+        "pace": "video", "said": {"chapter": [[1, 2, 0]], "programme status": []}, "lasting": [[1, 2, 1]], "users": [],
+        "begins": None, "ends": None}}
+
+
+def test_a_whole_page():
+    """Of a side whose third picture is doubtful. The words of each line are packed by their causes, passes and bytes
+    from the lowest on."""
+    one, name = made("1..3 5=-/?/#5 4=c1/-/-", side), "a <b>.tbc"
+    text = page(one, lambda bad: "<svg>%d %d</svg>" % (bad.field, bad.line), name, path="/x/" + name,
+                words=["--open-end"], index="index.html")
+    words = re.search('data-words="(.*?)"', text)[1]
+    planes = [[(reading.cause.value, reading.pass_, *reading.word.to_bytes(3, "little")) for reading in line]
+              for line in zip(*one.readings)]
+    assert zlib.decompress(base64.b64decode(words)) == b"".join(bytes(part) for line in planes for part in zip(*line))
+    assert short(text, ("STYLE", style.DRAWN), ("SCRIPT", finding.SCRIPT), ("WORDS", words),
+                 ("BROAD", drawing_of(one, name, BROAD, "broad")), ("NARROW", drawing_of(one, name, NARROW, "narrow")),
+                 ("SAID", json.dumps(SAID).replace('"', "&quot;").replace("'", "&#x27;").replace("<", "&lt;").replace(
+                     ">", "&gt;"))) == SIDE_PAGE.replace("<b>", "&lt;b&gt;", 1).split("\n")
+
+
+INDEX = HEAD % ("LaserDisc sides", digest(sorting.SCRIPT)) + """\
+<meta name="ldvbi-faults" content="[["/x/b", "b&lt;.tbc", "no &lt;such&gt; file"]]">
+<style>STYLE</style></head><body>
+<h1>5 sides, whole: 2 yes, 1 no, 0 can't tell, 1 not read, 1 gone</h1>
+<p id="filter" hidden="hidden"><span role="group" aria-label="whole">\
+<button type="button" value="yes" aria-pressed="false">yes: 2</button> \
+<button type="button" value="no" aria-pressed="false">no: 1</button> \
+<button type="button" value="open" aria-pressed="false">can't tell: 0</button> \
+<button type="button" value="fault" aria-pressed="false">not read: 1</button> \
+<button type="button" value="gone" aria-pressed="false">gone: 1</button></span> \
+<label>Rows with <input type="search"/></label> <output></output></p>
+<div class="wide"><table role="table"><thead role="rowgroup"><tr role="row"><th>side</th><th>whole</th><th>why</th>\
+<th>lost</th><th>unread</th><th>try</th><th>system</th><th>format</th><th>from</th><th>to</th><th>lead-in</th>\
+<th>lead-out</th><th>scanned on</th></tr></thead>
+<tbody role="rowgroup"><tr role="row"><td role="cell"><a href="pages/p%263.html">a_<wbr/>3.<wbr/>tbc</a></td>\
+<td role="cell" class="no" data-key="0">no | 4 fields lost; 2 pictures lost</td><td role="cell" data-key="2">2 pictures, \
+4 fields | 0 |  | PAL | cav | 1 | 14 | 0 | 0 | 2023-11-14</td></tr>
+<tr role="row"><td role="cell">b&lt;.<wbr/>tbc</td><td role="cell" class="fault" data-key="1">not read | no &lt;such&gt; \
+file</td><td role="cell" data-key="-1"> |  |  |  |  |  |  |  |  | </td></tr>
+<tr role="row"><td role="cell"><a href="pages/p%261.html">a_<wbr/>1.<wbr/>tbc</a></td>\
+<td role="cell" class="yes" data-key="3">yes | </td><td role="cell" data-key="0">none | 1 |  | PAL | clv | 0:00:00.00 | \
+0:00:00.09 | 0 | 0 | 2023-11-14</td></tr>
+<tr role="row"><td role="cell"><a href="pages/p%262.html">a_<wbr/>2.<wbr/>tbc</a></td>\
+<td role="cell" class="yes" data-key="3">yes | </td><td role="cell" data-key="0">none | 0 |  | PAL | cav | 1 | 11 | 1 | \
+1 | 2023-11-14</td></tr>
+<tr role="row"><td role="cell"><a href="pages/p%264.html">a_<wbr/>4.<wbr/>tbc</a></td>\
+<td role="cell" class="gone" data-key="4">gone | FOLDER/a_4.tbc isn't there any longer; whole: can't tell; no picture \
+number and no time</td><td role="cell" data-key="0">none | 0 |  | PAL | neither |  |  | 0 | 0 | 2023-11-14</td></tr>\
+</tbody></table></div>
+<h2>May be one disc</h2>
+<ul id="discs">
+<li>users' code: <code>ldvbi-side join --open-end FOLDER/a_2.tbc FOLDER/a_3.tbc</code></li>
+</ul>
+<script>SCRIPT</script></body></html>
+"""
+
+
+def test_a_whole_index(room):
+    """Of four sides, of which two have the same users' code and one's file is gone, and of one without a page."""
+    pages = []
+    for number, text in enumerate(("t0..9 9.16=?", "83D0A1/-/- L 1..12 25=B O", "83D0A1/-/- 1..9 12..14", "B"), 1):
+        name = "a_%d.tbc" % number
+        pages.append(room.write("p&%d.html" % number, page(text, None, name, path=room.named(name), words=["--open-end"])))
+        os.utime(pages[-1], (1699963200, 1699963200))  # noon of November 14, 2023
+        if number != 4:
+            room.write(name, "")
+    text = index_of(os.path.join(os.path.dirname(room.folder), "index.html"), pages,
+                    [Fault("/x/b", "b<.tbc", "no <such> file")], True)
+    looks = sorting.looks_of(["side", "whole", "why", "lost", "unread", "try", "system", "format", "from", "to",
+                              "lead-in", "lead-out", "scanned on"])
+    folder = os.path.basename(room.folder)
+    assert short(text.replace(room.folder, "FOLDER").replace('"%s/' % folder, '"pages/'), ("STYLE", style.STYLE + looks),
+                 ("SCRIPT", sorting.SCRIPT)) == INDEX.split("\n")
+
+
+JOINED_PAGE = HEAD % ("&lt;a&gt;.tbc, b.tbc", "") + """\
+<style>STYLE</style></head><body>
+<p><a href="index.html">all sides</a></p>
+<h1>&lt;a&gt;.<wbr/>tbc, <wbr/>b.<wbr/>tbc</h1>
+<div class="no">together: whole: no<ul><li>1 picture lost</li><li>1 picture may have another's field (11)</li></ul></div>
+BROAD
+NARROW
+<table id="captures"><thead><tr><th>capture | whole | has | lacks | has alone ] <a href="a&amp;.html">&lt;a&gt;.<wbr/>\
+tbc</a> | no | 21 | 2 | 1 ; b.<wbr/>tbc | no | 22 | 1 | 2</td></tr></tbody></table>
+<p>said</p>
+<details id="lacks"><summary>numbers that one capture lacks and another has: 3 [ capture | first | last | count | in ] \
+&lt;a&gt;.tbc | 11 | 11 | 1 | b.tbc ; &lt;a&gt;.tbc | 13 | 13 | 1 | b.tbc ; b.tbc | 6 | 6 | 1 | &lt;a&gt;.tbc\
+<details id="alone"><summary>numbers that one capture alone has: 3 [ capture | first | last | count ] &lt;a&gt;.tbc | 6 \
+| 6 | 1 ; b.tbc | 11 | 11 | 1 ; b.tbc | 13 | 13 | 1\
+<details id="better"><summary>numbers that several captures have, and one shows better than the others: 2 [ capture | \
+first | last | count ] &lt;a&gt;.tbc | 5 | 5 | 1 ; b.tbc | 10 | 10 | 1\
+<details id="missing"><summary>numbers that no capture has: 1 [ first | last | count | why ] 12 | 12 | 1 | lost\
+<details id="ranges"><summary>what the file of them takes from which capture: 4 [ first | last | count | source | field \
+| lastField | how ] 1 | 6 | 6 | &lt;a&gt;.tbc | 1 | 12 | whole ; 7 | 10 | 4 | b.tbc | 11 | 18 | whole ; 11 | 11 | 1 | \
+b.tbc | 19 | 20 | unsure ; 13 | 24 | 12 | b.tbc | 21 | 44 | whole\
+</body></html>
+"""
+
+
+def test_a_whole_page_of_captures():
+    """Pictures 11 to 13 are lost in one, which may lack a field of 10, too, and 6 and 12 in the other."""
+    found = join([capture_of(made(text, side), name) for name, text in (
+        ("<a>.tbc", "1..24 -21:26"), ("b.tbc", "1..24 -23:24 -11:12"))])
+    text = page_of_joined(found, ["", "said"], {"<a>.tbc": "a&.html"}, "index.html")
+    assert short(text, ("STYLE", style.DRAWN), ("BROAD", bars_of(found, BROAD, "broad")),
+                 ("NARROW", bars_of(found, NARROW, "narrow"))) == JOINED_PAGE.split("\n")
+    text = "\n".join(short(page_of_joined(join([capture_of(made(text, side), name) for name, text in (
+        ("a", "1..50 151..170 71..100"), ("b", "1..100"))]), [])))
+    assert ("<details id=\"disagreements\"><summary>disagreements of two captures: 2 [ why | capture | first | last | field "
+            "| lastField ] detour | a | 151 | 170 | 101 | 140 ; detour | b | 51 | 70 | 101 | 140") in text
+    assert "<a " not in text
 
 
 class Page:
-    """The parts of a page, which is XML but for its <meta>."""
+    """The parts of a page, which is XML but for its <meta>: texts by their tags, and tables by their names."""
 
     def __init__(self, text):
         tree = xml.fromstring(re.sub("(<meta [^>]*)>", r"\1/>", text))
-        self.tags = [(part.tag.replace(SPACE, ""), part.attrib) for part in tree.iter()]
         self.heads, self.rows, self.texts = {}, {}, {}
-        for (tag, _), part in zip(self.tags, tree.iter()):
-            self.texts.setdefault(tag, []).append(spoken(part) if list(part.iter("wbr")) else part.text or "")
+        for part in tree.iter():
+            self.texts.setdefault(part.tag, []).append(
+                "".join(part.itertext()) if list(part.iter("wbr")) else part.text or "")
         for one in tree.iter("details"):
             self.heads[one.get("id")] = [head.text for head in one.iter("th")]
             self.rows[one.get("id")] = [[cell.text or "" for cell in row.iter("td")] for row in one.iter("tr")][1:]
 
-
-def page(one, plot=None, title="side.tbc", more=()):
-    one = made(one, side) if isinstance(one, str) else one
-    return page_of(one, title, [*summary(one.analysis.answer), *more], plot)
+    def facts(self):
+        return dict(zip(self.texts["dt"], self.texts["dd"]))
 
 
 def cell(value):
@@ -63,7 +240,9 @@ def cell(value):
 def test_each_list_is_there_in_full():
     """Each cell stands under its head: the name of a member, or what the items of such a list are."""
     seen = set()
-    for text in (DAMAGED, "NTSC t0..2 t4..5 t0..2 t4..5 t0..2 t4..5 t0..2 t4..5", "m9x9", "", "Bx3"):
+    for text in (
+            "Lx2 1..40 21..40 L 7=83D0A1/?/88FFFB 9=8DC0A1/#79999/#4 11=8AE000/S/#5 -41:44",
+            "NTSC t0..2 t4..5 t0..2 t4..5 t0..2 t4..5 t0..2 t4..5", "m9x9", "", "Bx3"):
         answer, read = made(text, side).answer, Page(page(text))
         assert {name for name, value in answer.items() if isinstance(value, list)} == set(LISTS) | {"reasons"}
         for name in LISTS:
@@ -71,40 +250,33 @@ def test_each_list_is_there_in_full():
                      "showings" else {"field": item} for item in answer[name]]
             assert read.heads.get(name, []) == (list(items[0]) if items else [])
             assert read.rows.get(name, []) == [list(map(cell, item.values())) for item in items]
-        seen |= read.heads.keys()
-    assert {"missing", "lost", "unread", "breaks", "doubtful", "conflicts", "chapters", "showings", "badLines",
-            "users", "programmeStatus", "unknown"} <= seen
+            seen |= {LISTS[name] for _ in items}
+        assert {text.rpartition(":")[0] for text in read.texts.get("summary", [])} <= seen
+    assert seen >= {"numbers lost, undecided or unread", "lost fields", "unread, and their fields", "breaks", "bad lines",
+                    "doubtful, set aside", "lines 17 and 18 differ", "chapters", "numbers as they come by",
+                    "users' codes", "programme status", "unknown words"}
 
 
 def test_what_is_said():
-    """Terms are the lines of the summary, and the page is headed by whether the side is whole."""
-    one, read = made(DAMAGED, side), Page(page(DAMAGED))
-    said = [part for line in list(summary(one.analysis.answer))[1:]
-            for part in re.split(", (?=cut|lead-out|users' codes)", line) if not part.endswith(": none")]
-    facts = list(map(": ".join, zip(read.texts["dt"], read.texts["dd"])))
-    assert facts == said
-    assert {"fields: 119", "lead-in: 3 (fields 1 to 2, field 119)"} <= set(facts)
-    assert read.texts["li"] == [reason["text"] for reason in one.answer["reasons"]]
-    assert {"numbers lost, undecided or unread: 2", "unread, and their fields: 1"} <= set(read.texts["summary"])
+    """Two things that a line of the summary names stand apart, and what there is none of isn't said, but in one line
+    for all that one looks for first, unless nothing is known."""
+    read = Page(page("Lx4 1..30 Ox4"))
+    assert read.facts() == {
+        "system": "PAL, CAV", "fields": "68", "line 16": "0 words, 0 of them read only after smoothing; 0 bad (0.00 %), 68 "
+        "blank", "line 17": "68 words, 0 of them read only after smoothing; 0 bad (0.00 %), 0 blank", "line 18": "68 words, "
+        "0 of them read only after smoothing; 0 bad (0.00 %), 0 blank", "pictures": "30, from 1 to 30", "chapters":
+        "1 (chapter 0 in field 6)", "lead-in": "4 (fields 1 to 4)", "lead-out": "4 (fields 65 to 68)"}
+    assert list(read.rows) == ["chapters", "leadIn", "leadOut", "showings"]
+    for text, wanted in (
+            ("1..30", "lost, unread, repeated, doubtful"), ("1..30 -21:22", "unread, repeated, doubtful"), ("Bx9", ""),
+            ("1..30 21=?/?/? 22=?/?/?", "lost, repeated, doubtful"), ("1..9 ?x4 14..30", "repeated, doubtful"),
+            ("PAL/1 1..40 -1 -39", "unread, repeated, doubtful"),
+            ("1..20 16..30", "lost, unread, doubtful"), ("1..30 9.18=#79999", "lost, unread, repeated")):
+        assert re.findall("<p>nothing (.*)</p>", page(text)) == ([wanted] if wanted else []), text
     late = "<li>12 fields lost</li><li>6 pictures lost</li><li>begins at 7, ends at 9</li>"
     for text, kind, whole in (("1..3", "yes", "yes"), ("7..9", "no", "no<ul>%s</ul>" % late),
                               ("", "open", "can&#x27;t tell<ul><li>no picture number and no time</li></ul>")):
         assert '<div class="%s">whole: %s</div>' % (kind, whole) in page(text)
-
-
-def test_a_good_side():
-    """It has no heading and no list without something in it, but one line that says of what there is nothing."""
-    good = Page(page("Lx4 1..30 Ox4"))
-    assert good.texts["p"] == ["", "nothing lost, unread, repeated, doubtful"]
-    assert good.texts["dt"] == ["system", "fields", "line 16", "line 17", "line 18", "pictures", "chapters", "lead-in",
-                                "lead-out"]
-    assert list(good.rows) == ["chapters", "leadIn", "leadOut", "showings"]
-    for text, wanted in (("1..30 -21:22", ["nothing unread, repeated, doubtful"]), ("Bx9", []),
-                         ("1..30 21=?/?/? 22=?/?/?", ["nothing lost, repeated, doubtful"]),
-                         ("1..9 ?x4 14..30", ["nothing repeated, doubtful"]),
-                         ("1..20 16..30", ["nothing lost, unread, doubtful"]),
-                         ("1..30 9.18=#79999", ["nothing lost, unread, repeated"])):
-        assert [one for one in Page(page(text)).texts.get("p", []) if one.startswith("nothing")] == wanted, text
 
 
 def test_bad_lines_of_a_page():
@@ -114,130 +286,39 @@ def test_bad_lines_of_a_page():
     assert [row[:3] for row in read.rows["badLines"]] == [
         ["41", "17", "change 170"], ["41", "18", "change 170"], ["51", "17", "change 170"], ["7", "17", "change 170"],
         ["42", "18", "hold 200"]]
-    facts = dict(zip(read.texts["dt"], read.texts["dd"]))
-    assert facts["line 16"] == "bears no code on this disc: 0 words, 3 fields with noise, 57 blank"
+    assert read.facts()["line 16"] == "bears no code on this disc: 0 words, 3 fields with noise, 57 blank"
     assert [row[1] for row in Page(page("?/?/-x9")).rows["badLines"][:2]] == ["16", "17"]
     assert [row[1] for row in Page(page("t0..20 9=?/M/-")).rows["badLines"]] == ["16"]
 
 
-def test_the_link_to_all_sides(room):
-    room.add("a.tbc")
-    room.scan("--html pages a.tbc")
-    room.printed("a.tbc --html pages/alone.html")
-    assert '<body>\n<p><a href="index.html">all sides</a></p>\n<h1>' in room.text("pages/a.html")
-    assert "<a" not in room.text("pages/alone.html")
-
-
-# What a page says of fields that are asked for one after the other; where the first drawing has its mark then, and of
-# which fields bad lines are open
-ASKED = """
-<script>
-const asked = FIELDS, found = [];
-const next = () => {
-  if (asked.length === 0) {
-    document.querySelector("pre").textContent = found.join("\\n");
-    return;
-  }
-  box.value = asked.shift();
-  box.dispatchEvent(new Event("input"));
-  setTimeout(() => {
-    found.push([said.textContent, document.querySelector(".asked")?.getAttribute("x1"),
-      [...document.querySelectorAll("details[data-field][open]")].map(one => one.dataset.field)].join("|"));
-    next();
-  }, 500);
-};
-next();
-</script><pre></pre></body></html>
-"""
-
-
-def test_a_field_that_is_asked_for(drawn):
-    """Of 64 fields on 960 pixels from 150 on, of which the second ones begin frames."""
-    fields = words_of("1..32")
-    fields[4] = [0, worn_line(0xF00003, NTSC, 7, 10), 0xF00003]
-    fields[10] = [0x82CFFF, *2 * [line_with(0, NTSC, [(3, 300, True)])]]
-    write_stream(drawn.path, NTSC, fields)
-    drawn.metadata("side.tbc.json", count=64)
-    drawn.printed("side.tbc --html page.html")
-    cause, = set(re.findall(r"field 11, line 1[78]: (\w+)", drawn.text("page.html")))
-    script = ASKED.replace("FIELDS", str([5, 64, 1, 11, 65]))
-    assert shown_by_browser(drawn, "page.html", 1300, script) == [
-        "frame 2; line 16: blank; line 17: F00003, recovered; line 18: F00003|217.5|5",
-        "frame 32; line 16: blank; line 17: 800DDD; line 18: 800DDD|1102.5|",
-        "frame 0; line 16: blank; line 17: F00001; line 18: F00001|157.5|",
-        "frame 5; line 16: 82CFFF; line 17: %s; line 18: %s|307.5|11,11" % (cause, cause),
-        "|307.5|"]
-
-
-# Which forms of the first drawing a page shows, and whether each part of the page is within the window
-SHOWN = """
-<pre></pre><script>
-const isIn = one => one.closest("svg, details:not([open]) div") ? true : one.getBoundingClientRect().right <= innerWidth;
-document.querySelector("pre").textContent = [
-  ...[...document.querySelectorAll("svg")].filter(one => one.getBoundingClientRect().width > 0).map(
-    one => one.classList[0] + (one.getBoundingClientRect().right <= innerWidth)),
-  [...document.querySelectorAll("*")].every(isIn), document.documentElement.scrollWidth <= innerWidth].join("\\n");
-</script></body></html>
-"""
-
-
-def test_the_widths_of_pages(room):
-    """On a narrow page the narrow drawing is shown as it is, and nothing is beyond the window."""
-    for name in ("one/lost_pictures_of_a_disc.tbc", "two/lost_pictures_of_a_disc.tbc"):
-        room.add(name, "1..30 34..40 9.18=#79999 21=? O")
-    room.scan("--html pages one two")
-    room.printed("join --html pages/both.html one/lost_pictures_of_a_disc.tbc two/lost_pictures_of_a_disc.tbc")
-    for name in ("lost_pictures_of_a_disc", "both"):
-        for width, form in ((1300, "broad"), (420, "narrow")):
-            assert shown_by_browser(room, "pages/%s.html" % name, width, SHOWN) == [form + "true", "true", "true"]
-
-
-def digest(script):
-    """The hash of a script, as a policy has it."""
-    return base64.b64encode(hashlib.sha256(script.encode()).digest()).decode()
-
-
-@pytest.mark.parametrize("text, title, more", (
-    (page(DAMAGED, lambda one: "<svg></svg>"), "side.tbc", {"script"}),
-    (index_of("index.html", []), "LaserDisc sides", {"script"}),
-    (page_of_joined(join([capture_of(made("1..9", side), name) for name in ("a", "b")]), []), "a, b", set())))
-def test_it_says_how_it_is_read_and_needs_nothing_else(text, title, more):
-    tags = Page(text).tags
-    assert text.startswith('<!DOCTYPE html>\n<html lang="en"><head><meta charset="utf-8"><title>%s</title>' % title)
-    assert ("meta", {"name": "viewport", "content": "width=device-width, initial-scale=1"}) in tags
-    scripts = re.findall("<script>(.*?)</script>", text, re.S)
-    hashes = "".join("; script-src 'sha256-%s'" % digest(one) for one in scripts)
-    assert ("meta", {"http-equiv": "Content-Security-Policy", "content": "default-src 'none'; "
-                     "style-src 'unsafe-inline'; base-uri 'none'; form-action 'none'" + hashes}) in tags
-    assert {"script", "link", "img", "iframe", "object", "base"} & {tag for tag, _ in tags} == more
-    assert not {"src", "href", "style", "onclick"} & {name for _, known in tags for name in known}
-    assert not re.search(r"url\(|@import", text)
-    assert all(known.get("role") == "img" for tag, known in tags if tag == "svg" and known)
-    assert set(re.findall("https?://[^\"' ]*", text)) <= {"http://www.w3.org/2000/svg"}
-
-
 def test_names_are_escaped():
     """Those of a list, too, that a later answer has."""
-    name, one = '<b>"&\u00fc</b>.tbc', made("Bx60", side)
+    one, name = made("Bx60", side), '<b>"&\u00fc</b>.tbc'
     one.answer["<b>&later</b>"] = [{"<b>&first": "<b>&one</b>", "near": None, "is": False, "places": [1, 2]}]
     read = Page(page(one, title=name, more=["name: " + name]))
-    assert [read.texts["h1"], read.texts["title"][:2], read.texts["dd"][-1:]] == [[name], [name, name], [name]]
-    assert read.rows["<b>&later</b>"][0] == ["<b>&one</b>", "", "no", "1, 2"]
-    assert read.heads["<b>&later</b>"][0] == "<b>&first"
+    assert [read.texts["h1"], read.texts["title"], read.texts["dd"][-1:]] == [[name]] * 3
+    assert (read.heads["<b>&later</b>"][0], read.rows["<b>&later</b>"]) == ("<b>&first", [["<b>&one</b>", "", "no", "1, 2"]])
     assert "b" not in read.texts
+    for name, wanted in (("a/lost_side-2.tbc", "a/|lost_|side-|2.|tbc"), ("/b  c", "/|b  |c"), ("", ""),
+                         ("x" * 61, "x" * 30 + "|" + "x" * 30 + "|x"), ("<&>.", "&lt;&amp;&gt;.")):
+        assert breakable(name).replace("<wbr/>", "|") == wanted
 
 
 def test_long_lists():
     """Before the first 500 rows of a list stand its groups, or the runs of its numbers."""
     read = Page(page("1..501 4..9 ?/!/?x251 ~/-/?"))
-    assert list(map(" ".join, read.rows["badLines"][:3])) == [
-        "18 change 252 1015 1266", "17 hold 251 1015 1265", ""]
+    assert list(map(" ".join, read.rows["badLines"][:3])) == ["18 change 252 1015 1266", "17 hold 251 1015 1265", ""]
+    assert read.heads["badLines"][:5] == ["line", "cause", "count", "first field", "last field"]
     assert read.heads["showings"] == ["numbers", "to", "first", "last", "count", "number", "first", "last"]
     assert read.rows["showings"][:3] == [["1", "501", "1", "1001", "501"], ["4", "9", "1003", "1013", "6"], []]
     for name, count in (("badLines", 503), ("showings", 507)):
         assert len(read.rows[name]) - read.rows[name].index([]) - 1 == 500
-        assert "The first 500 of %d rows. This page leaves out the others; " % count in read.texts["p"]
-    assert "and 150 more groups" in Page(page("1..1300 3:2600/4=B")).texts["p"]
+        assert read.texts["p"][1:].count("In groups:") == 2 and (
+            "The first 500 of %d rows. This page leaves out the others; " % count in read.texts["p"])
+    assert "<code>ldvbi-side --json</code> prints all.</p>" in page("1..501")
+    for text, more in (("1..1300 3:2600/4=B", ["150"]), ("1..998 3:1996/4=B", []), ("1..500", [])):
+        assert re.findall("<p>and (.*) more groups</p>", page(text)) == more
+    assert "In groups" not in page("1..500")
 
 
 @pytest.mark.parametrize("text, count, size, heads", (
@@ -263,7 +344,8 @@ def test_each_drawing_is_that_of_the_same_line_alone(drawn):
         folds = re.findall(r"<details data-.*?><summary>field (\d+), line (\d+): (.*?)</summary>\n(.*?)</details>",
                            drawn.text("page.html"), re.S)
         assert [(int(field), int(line)) for field, line, _, _ in folds] == list(lines)
-        assert [">recovered: F0000" in fold[2] for fold in folds] == 3 * [near == words] + [False] * 2
+        recovered = [re.findall(', <span class="recovered">recovered: (.*)</span>$', fold[2]) for fold in folds]
+        assert recovered == [["%06X" % near[place]] if place in near else [] for place in lines]
         for place, (field, line, _, text) in zip(lines, folds):
             assert drawn.printed(name, "LEVELS", "--plot-line", field, line, more).decode() == text
             assert "a &lt;b&gt;&amp;.tbc, field %s, line %s" % (field, line) in text
@@ -271,7 +353,7 @@ def test_each_drawing_is_that_of_the_same_line_alone(drawn):
 
 
 def test_other_lines(drawn):
-    """Fields have more lines than those with words."""
+    """Fields have more lines than those with words; and a file may become shorter."""
     field = bytearray(ldvbi.field_bytes("NTSC"))
     field[1820 * 262:] = ldvbi.draw_line(0xF12345, *NTSC)
     drawn.write("side.tbc", bytes(field))
@@ -281,105 +363,24 @@ def test_other_lines(drawn):
                         ("2 16", "it has no field 2, but 1 whole fields")):
         drawn.refused("side.tbc: " + text, "side.tbc LEVELS --plot-line " + place)
     drawn.refused("side.vbi.json is a document, and --plot-line is for a TBC file", "side.vbi.json --plot-line 1 16")
+    with ldvbi.Stream(drawn.path, *NTSC) as stream:
+        os.truncate(drawn.path, 16 * 1820 - 1)
+        assert reason(plot_line, stream, drawn.path, 1, 16) == drawn.path + " became shorter while it was read"
 
 
-def test_a_file_that_becomes_shorter(room):
-    write_stream(room.path, NTSC, [[0, 0, 0]])
-    with ldvbi.Stream(room.path, *NTSC) as stream:
-        os.truncate(room.path, 100)
-        assert reason(plot_line, stream, room.path, 1, 16) == room.path + " became shorter while it was read"
-
-
-# What the index shows at first, and after each action in JavaScript: the name and verdict of each row, or - for one
-# that is hidden; then what the box says, the buttons that are pressed, and the heads by whose columns the rows are
-# sorted. Last comes whether each part of the page is within the window, and each head within its table.
-ACTIONS = """
-<pre></pre><script>
-const click = name => [...document.querySelectorAll("th button")].find(one => one.textContent === name).click();
-const input = document.querySelector("input");
-const type = words => { input.value = words; input.dispatchEvent(new Event("input")); };
-const press = value => document.querySelector(`button[value=${value}]`).click();
-const shown = () => [...[...document.querySelectorAll("tbody tr")].map(row => row.offsetHeight ?
-    row.cells[0].textContent + "=" + row.cells[1].textContent.replace(/\\W/g, "") : "-"),
-    document.querySelector("output").textContent,
-    ...[...document.querySelectorAll("button[aria-pressed=true]")].map(one => one.value),
-    ...[...document.querySelectorAll("th[aria-sort]")].map(one => one.textContent + " " + one.ariaSort)];
-const fits = () => [...document.querySelectorAll("*")].every(
-    one => one.getBoundingClientRect().right <= innerWidth ? one.scrollWidth <= innerWidth : false);
-document.querySelector("pre").textContent = [() => {}, () => click("side"), () => click("side"), () => click("lost"),
-    () => click("whole"), () => type("b/ NUMBER"), () => type(""), () => press("no"), () => press("fault"),
-    () => press("no")].map(action => (action(), shown())).concat([innerWidth, fits()]).join("\\n");
-</script></body></html>
-"""
-
-
-def shown_by_browser(room, name, width, script):
-    """What a browser of this width has in <pre> after it ran a script on a page."""
-    # The policy lets no other script run, so that of the test is named there, too.
-    action, = re.findall("<script>(.*?)</script>", script, re.S)
-    known = "script-src " if "script-src " in room.text(name) else "default-src 'none'; "
-    text = room.text(name).replace(known, "script-src 'sha256-%s' %s" % (
-        digest(action), known.replace("script-src ", "").replace("default-src", "; default-src")))
-    room.write("after.html", text.replace("</body></html>", "") + script)
-    # A page that is narrower than a window may be is in a frame.
-    room.write("frame.html", '<iframe src="after.html" width="%d" height="900" style="border:0"></iframe><pre></pre>'
-               "<script>setInterval(() => document.querySelector('pre').textContent = document.querySelector('iframe')."
-               "contentDocument.querySelector('pre').textContent, 100)</script>" % width)
-    words = ["chromium", "--headless=new", "--no-sandbox", "--disable-gpu", "--disable-dev-shm-usage", "--dump-dom",
-             "--allow-file-access-from-files", "--window-size=1400,1000", "--virtual-time-budget=10000"]
-    # Chromium keeps what it remembers below HOME.
-    text = room.run_words(*words, "file://" + room.named("frame.html"), command=[],
-                          env={**os.environ, "HOME": room.folder})[1]
-    return html.unescape(re.search("<pre>(.*?)</pre>", text, re.S)[1]).split("\n")
-
-
-def test_the_index(room):
-    """In a browser it is sorted by clicks, and filtered by kinds and words. Numbers in names count, and a fault has no
-    lost ones. Long words of `try` and of why make no column wider than the window."""
-    for name, fields in (("a/2", "1..3"), ("a/10", "7..9 12..14"), ("b/1 & #1", "Bx9")):
-        room.add("sides/%s.tbc" % name, fields)
-        room.write("sides/%s.vbi.json" % name, room.extracted("sides/%s.tbc" % name))
-        os.unlink(room.named("sides/%s.tbc" % name))
-    room.write("sides/b/odd.vbi.json", "{")
-    assert room.scan("--open-end --html pages sides")[0] == 2
-    read = Page(room.text("pages/index.html"))
-    assert read.texts["th"] == ["side", "whole", "why", "lost", "unread", "try", "system", "format", "from", "to",
-                                "lead-in", "lead-out", "scanned on"]
-    assert [known["href"] for tag, known in read.tags if tag == "a"] == [
-        "a-10.html", "b-1%20%26%20%231.html", "a-2.html"]
-    assert [known["class"] for tag, known in read.tags if tag == "td" and "class" in known] == [
-        "no", "fault", "open", "yes"]
-    assert read.texts["button"] == ["yes: 1", "no: 1", "can't tell: 1", "not read: 1"]
-    for tag, role in (("table", "table"), ("thead", "rowgroup"), ("tbody", "rowgroup"), ("tr", "row"), ("td", "cell"),
-                      ("th", "columnheader")):
-        assert {known.get("role") for name, known in read.tags if name == tag} == {role}
-    for name in ("a-2", "a-10", "b-1 & #1"):
-        path = room.named("pages/%s.html" % name)
-        room.write(path, room.text(path).replace("&quot;try&quot;: null", "&quot;try&quot;: &quot;--system NTSC " + (
-            "--black 16384 --white 30000 --meta /archive/captures/side.tbc.json&quot;")))
-        os.utime(path, (1700000000, 1700000000))  # on November 14, 2023, at 22:13
-    room.scan("--open-end --html pages sides/b/odd.vbi.json")
-    read = Page(room.text("pages/index.html"))
-    system, dates = read.texts["td"][6::13], read.texts["td"][12::13]
-    assert (system, {date[:9] for date in dates}) == (["NTSC", "", "NTSC", "NTSC"], {"", "2023-11-1"})
-    assert "|".join(read.texts["td"][:3] + read.texts["td"][7:12] + read.texts["td"][13:17]) == "|".join((
-        "a/10.vbi.json|no|16 fields lost; 8 pictures lost; begins at 7, ends at 14|cav|7|14|0|0",
-        "odd.vbi.json|not read|not JSON: line 1 is wrong from column 2 on|"))
-    for width in (1300, 420):
-        found = [line.replace(".vbi.json", "") for line in shown_by_browser(room, "pages/index.html", width, ACTIONS)]
-        assert found == [
-            "a/10=no,odd=notread,b/1 & #1=canttell,a/2=yes,",
-            "a/2=yes,a/10=no,b/1 & #1=canttell,odd=notread,,side ascending",
-            "odd=notread,b/1 & #1=canttell,a/10=no,a/2=yes,,side descending",
-            "odd=notread,b/1 & #1=canttell,a/2=yes,a/10=no,,lost ascending",
-            "a/10=no,odd=notread,b/1 & #1=canttell,a/2=yes,,whole ascending",
-            "-,-,b/1 & #1=canttell,-,1 of 4,whole ascending",
-            "a/10=no,odd=notread,b/1 & #1=canttell,a/2=yes,4 of 4,whole ascending",
-            "a/10=no,-,-,-,1 of 4,no,whole ascending", "a/10=no,odd=notread,-,-,2 of 4,no,fault,whole ascending",
-            "-,odd=notread,-,-,1 of 4,fault,whole ascending", str(width), "true"]
-
-
-def test_names_are_broken_between_words():
-    for name, wanted in (("a/lost_side-2.tbc", "a/|lost_|side-|2.|tbc"), ("/b  c", "/|b  |c"), ("", ""),
-                         ("x" * 61, "x" * 30 + "|" + "x" * 30 + "|x"), ("<&>.", "&lt;&amp;&gt;.")):
-        assert breakable(name).replace("<wbr/>", "|") == wanted
+def test_looks():
+    """Styles are rules, and scripts are statements. Pages show drawings by their width."""
+    for text in (style.DRAWN, style.STYLE + sorting.looks_of(["a", "b", "c", "d", "e"])):
+        flat = re.sub(r"@media\([a-z-]+:\w+\){((?:[^{}]+{[^{}]*}\s*)*)}", r"\1", text)
+        *rules, rest = flat.split("}")
+        assert rest.strip() == "" and len(rules) > 20
+        for rule in rules:
+            assert re.fullmatch(r"\s*[a-z:.[][^{}@~]*{\s*[a-z-]+:[^;]+(;\s*[a-z-]+:[^;]+)*", rule), rule
+        assert set(re.findall(r"var\((--.*?)\)", text)) <= set(re.findall(r"(--\w+):#[0-9a-f]{6}[;}]", text))
+    assert sorting.looks_of(["a", "b", "c", "d", "e"]) == sorting.STYLE + (
+        'td:nth-child(4)::before{content:"d: ";color:var(--axis)}td:nth-child(5)::before{content:"e: ";color:var(--axis)}}\n')
+    for script in (finding.SCRIPT, sorting.SCRIPT):
+        assert re.search(";\n$", script) and not re.search("[<&]|]]>", script)
+    causes = re.search(r"causes = \[(.*?)\]", finding.SCRIPT)[1]
+    assert causes == ", ".join('"%s"' % one.name for one in ldvbi.Cause)
+    assert [style.DRAWN.count("max-width:700px"), sorting.STYLE.count("max-width:700px")] == [1, 1]
