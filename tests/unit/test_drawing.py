@@ -7,24 +7,18 @@ from unittest import mock
 
 from compact import cells_of, made
 from discs import side, typed
-import ldvbi
-from ldvbi import Kind, Reading
+from ldvbi import Kind
 from ldvbi.readings import Cut
 from ldvbi_side.answer.entries import Doubt, Extent, Lost, Missing, Numbered, Repeated, Speed
-from ldvbi_side.draw import bands, bars, colours, curve, drawing, folds, sorting
+from ldvbi_side.draw import bands, bars, colours, curve, drawing, folds
 from ldvbi_side.draw.axis import Axis, BROAD, NARROW
 from ldvbi_side.draw.curve import Scale, ticks
 from ldvbi_side.draw.drawing import drawing_of
-from ldvbi_side.draw.line import line_of, plot_of, Row
 from ldvbi_side.draw.marks import Mark, marks_of
-from ldvbi_side.draw.style import STYLE
 from ldvbi_side.draw.svg import shortened, Svg
-from ldvbi_side.join.captures import capture_of
 from ldvbi_side.judge.places import Break, Showing
 from ldvbi_side.judge.readings import Stray
-from ldvbi_side.write.joined import join
 import pytest
-from streams import NTSC
 
 SPACE = "{http://www.w3.org/2000/svg}"
 EMPTY = made("", typed)
@@ -233,25 +227,6 @@ def test_heads():
         part.text for _, part in parts_of("-/#9/#9", cut=Cut(2, 5))]
 
 
-@pytest.mark.parametrize("form, right, legend", ((BROAD, 1140, 850), (NARROW, 388, 388)))
-def test_texts_are_apart(form, right, legend):
-    """And within the picture, as are the boxes and rings of the legend, of which a page 900 pixels wide shows 850.
-    Letters are 7 pixels wide, or less."""
-    boxes, letters = [], form.letters
-    for part in xml.fromstring(drawing_of(made("1..8 5=-/#3^/#3^", side), "side.tbc", form)).iter():
-        known = part.attrib
-        x, y = (float(known.get(name, known.get("c" + name, 0))) for name in ("x", "y"))
-        if part.tag == SPACE + "text" and "transform" not in known:
-            width = 7 / 13 * float(known.get("font-size", letters)) * len(text_in(part))
-            left = x - width * {"middle": 0.5, "end": 1}.get(known.get("text-anchor"), 0)
-            boxes.append((left, y - 10, left + width, y + 2))
-        elif part.tag == SPACE + "circle" or known.get("width") == "14":
-            boxes.append((x - 4, y - 4, x + 4, y + 4) if part.tag == SPACE + "circle" else (x, y, x + 14, y + 14))
-    for (left, top, end, bottom), *others in (boxes[place:] for place in range(len(boxes))):
-        assert 0 <= left and end <= (legend if 50 < top < 86 else right) and top >= 0
-        assert all(end <= other[0] or other[2] <= left or bottom <= other[1] or other[3] <= top for other in others)
-
-
 def luminance(colour):
     """The relative luminance of a colour of sRGB, as WCAG has it."""
     parts = [int(colour[place:place + 2], 16) / 255 for place in (1, 3, 5)]
@@ -264,59 +239,32 @@ def contrast(colour, other):
     return (high + 0.05) / (low + 0.05)
 
 
-def pairs_of(text):
-    """Each colour of a drawing that is no ground, and each of a text, with that of the last box below it."""
-    boxes = []
-    for part in list(xml.fromstring(text).iter())[1:]:
-        known, tag = part.attrib, part.tag[len(SPACE):]
-        if tag == "title":
-            continue
-        place = re.findall(r"-?[0-9.]+", known.get("d", ""))[:2] or [
-            known.get(name, known.get(name + "1", known.get("c" + name, "0"))) for name in "xy"]
-        x, y = map(float, place)
-        width, height = (float(known[name]) if tag == "rect" and known["width"] != "100%" else 0
-                         for name in ("width", "height"))
-        middle, level = x + width / 2, y + height / 2
-        below = [fill for left, top, right, bottom, fill in boxes if left <= middle < right and top <= level < bottom]
-        for colour in {known.get(name, colours.TEXT if (tag, name) == ("text", "fill") else "none")
-                       for name in ("fill", "stroke")} - {"none"}:
-            if tag == "text" or colour not in colours.GROUNDS:
-                yield colour, below[-1] if below else colours.PAPER
-            else:
-                assert colour in colours.DARK
-        if width and "opacity" not in known:
-            boxes.append((x, y, x + width, y + height, known["fill"]))
-
-
 def test_contrast():
-    """What there is to see in drawings, also beside words, and in the style of a page has 4.5 to 1 at least, on light
-    and on dark pages."""
-    sides = [made(text, side) for text in (
-        "NTSC Lx2 1..6 9..10 11x3 12..13 B C 15..16 79999 18..19 0 21..22 5 24..26 24..27 Ox2 28:62/2=-/c1/c1 7=S/S/#3 "
-        "10=-/S/c0 12=-/M/c0", "1..8 5=-/#3^/#3^", "1..9 ?x4 14..30", "S/S*/- ~/?/!")]
-    numbered = [made(one, side) for one in ("1..9 12..30", "1..20 24..40 50=?")]
-    drawn = [drawing_of(one, "side", form) for one in sides for form in (BROAD, NARROW)]
-    drawn += [bars.bars_of(join([capture_of(one, name) for name, one in zip("ab", numbered)]), form)
-              for form in (BROAD, NARROW)]
-    line = bytes(ldvbi.draw_line(0x82CFFF, *NTSC))
-    for name, reading in (("word", ldvbi.read_line(line, *NTSC)), ("change", Reading(ldvbi.Cause.change, 0, 170, 0))):
-        shown = line_of(line, ldvbi.System.NTSC, *NTSC[1:], reading)
-        drawn += [plot_of(shown, name, row) for row in (None, Row(0x82CFFE, 140))]
-    pairs = {pair for text in drawn for pair in pairs_of(text)}
-    pairs |= {(shown, colours.WORD) for name, shown in bands.SHOWN.items() if name not in ("word", "blank")}
-    style = STYLE + sorting.STYLE
-    assert set(re.findall(r"var\(--(\w+)\)", style)) <= set(colours.NAMED)
-    pairs |= {(colours.NAMED[name], ground) for name in re.findall(r"[^-]color:var\(--(\w+)\)", style)
-              if name != "paper" for ground in (colours.PAPER, colours.LANE)}
-    pairs.add((colours.PAPER, colours.TEXT))  # of a button that is pressed
-    assert len(pairs) > 40
-    assert "button[aria-pressed=true]{color:var(--paper);background:var(--text)}" in style
+    """What there is to see has 4.5 to 1 at least, on light and on dark pages: beside all that a page, a lane or a line
+    has where there is nothing; in bands and bars beside words, too; in a line's drawing beside cells; and so has paper
+    beside what has letters of its colour."""
+    shown = [one for one in colours.DARK if one not in colours.GROUNDS]
+    pairs = {(one, ground) for one in shown for ground in (colours.PAPER, colours.LANE, colours.BLANK)}
+    pairs |= {(one, colours.WORD) for one in {*bands.SHOWN.values(), *bars.COLOURS.values()} - {
+        colours.WORD, colours.BLANK, colours.PINK}}
+    pairs |= {(one, pale) for one in (colours.AXIS, colours.CURVE, colours.DARK_BLUE, colours.GREEN, colours.RED)
+              for pale in (colours.PALE_BLUE, colours.PALE_GREY, colours.PALE_RED)}
+    pairs |= {(colours.PAPER, one) for one in (*drawing.ENDS.values(), *drawing.CHAPTER_COLOURS, colours.TEXT)}
     for colour, ground in pairs:
         for scheme in ({one: one for one in colours.DARK}, colours.DARK):
             assert contrast(scheme[colour], scheme[ground]) >= 4.5, (colour, ground)
+    assert all(re.fullmatch("#[0-9a-f]{6}", one) for pair in colours.DARK.items() for one in pair)
+    assert set(colours.NAMED.values()) | {one for name, one in vars(colours).items() if type(one) is str and one[0] == "#"
+                                          } <= colours.DARK.keys()
     rules = colours.dark_drawings()
-    assert {(name, light, dark) for name, light, same, dark in re.findall(r'\[(\w+)="(.*?)"\]{(\w+):(.*?)}', rules)
-            if name == same} == {(name, *pair) for pair in colours.DARK.items() for name in ("fill", "stroke")}
+    assert rules == "@media(prefers-color-scheme:dark){%s}\n" % "".join(
+        '[%s="%s"]{%s:%s}' % (name, *pair[:1], name, pair[1]) for pair in colours.DARK.items()
+        for name in ("fill", "stroke"))
+    light, dark = re.fullmatch(r":root{color-scheme:light dark;(.*)}\n@media\(prefers-color-scheme:dark\){:root{(.*)}}\n",
+                               colours.named_colours()).groups()
+    assert light == ("--paper:#ffffff;--lane:#f8fafc;--grid:#e2e8f0;--text:#1e293b;--axis:#475569;--link:#1d4ed8;"
+                     "--yes:#166534;--no:#b91c1c;--open:#b45309;--fault:#7e22ce;--recovered:#164e63")
+    assert dark == re.sub("#[0-9a-f]{6}", lambda one: colours.DARK[one[0]], light)
     assert abs(contrast("#000000", "#ffffff") - 21) < 1e-9
     assert abs(contrast("#767676", "#ffffff") - 4.54) < 0.01  # the lightest grey that is enough on white
 

@@ -3,8 +3,8 @@ better, and where they disagree about a number; the same of random sets of captu
 
 import functools
 import json
+import os
 import re
-import xml.etree.ElementTree as xml
 from collections import Counter
 
 from compact import cells_of, made, span, words_of
@@ -12,10 +12,7 @@ from discs import side
 from ldvbi_side.command.chapters import chapters_text, joined_spans
 from ldvbi_side.command.join import joined_text, NOTHING_SHOWS
 from ldvbi_side.command.map import joined_rows
-from ldvbi_side.draw.axis import BROAD, NARROW
-from ldvbi_side.draw.bars import bars_of
-from ldvbi_side.draw.svg import escaped
-from ldvbi_side.draw.together import page_of_joined
+from ldvbi_side.draw.index import index_of
 from ldvbi_side.join.captures import capture_of
 from ldvbi_side.join.plain import as_json
 from ldvbi_side.judge.places import Showing
@@ -27,7 +24,6 @@ from simulate import captures
 from streams import NTSC, pictures, worn_line, write_stream
 from truth import number_of, Truth
 
-SPACE = "{http://www.w3.org/2000/svg}"
 # What stands for sides, or their ends, in the tables
 NAMES = {
     # of 4 numbers ONE has 3, 2, none that is read, and 2 of another pass; OTHER has 2, and a line that is doubtful.
@@ -257,50 +253,6 @@ def test_chapters_and_stops_together():
     assert not list(joined_spans(together("m0..1x3000", "m0..1x3000")))
 
 
-def boxes(found, name):
-    """The places, the first pixel, the width and the title of the boxes of a class."""
-    return ["%s %s %s %s" % (box.get("data-places"), box.get("x"), box.get("width"), box.find(SPACE + "title").text)
-            for box in xml.fromstring(bars_of(found)).iter(SPACE + "rect") if box.get("class") == name]
-
-
-def test_bars_and_page():
-    """96 numbers on 960 pixels from 150 on: 10 pixels each. Those that touch are one."""
-    found = together("1..96 -41:46", "1..96 -43:44 -21:22")  # pictures 21 to 23; 22 and 11
-    assert boxes(found, "taken-from-here") == [
-        "1-11 150 110 1 to 11: taken from fields 1 to 22 of a",
-        "12-20 260 90 12 to 20: taken from fields 21 to 38 of b", "23-96 370 740 23 to 96: taken from fields 41 to 188 of b"]
-    assert boxes(found, "taken-unsure") == ["21-21 350 10 21: taken from fields 39 to 40 of b"]
-    assert boxes(found, "in-another-capture-alone") == [
-        "21-21 350 10 21: not in a, but in b", "23-23 370 10 23: not in a, but in b",
-        "11-11 250 10 11: not in b, but in a"]
-    assert boxes(found, "in-none") == ["22-22 360 10 22: in no capture, lost"] * 3
-    texts = [list(text.itertext())[-1] for text in xml.fromstring(bars_of(found)).iter(SPACE + "text")]
-    assert texts[:1] + texts[7:11] == ["2 captures together", "a", "b", "in none: 1", "disagreements: 0"]
-    one, = boxes(together("1..3000 -2005:2006 -2001:2002", "1..3000"), "in-another-capture-alone")
-    assert one.startswith("1001-1003 ") and one.endswith(" 1001: not in a, but in b; and 1 more")
-    assert [one.split(" ", 3)[3] for one in boxes(together("DETOUR", "1..100"), "disagreement")] == [
-        "51 to 70: in fields 101 to 140 of b, and a otherwise",
-        "151 to 170: in fields 101 to 140 of a, and b otherwise"]
-    page = page_of_joined(found, joined_text(found))
-    # each has lost what comes after the picture, and perhaps a field of that
-    for text in (*("<p>%s</p>" % escaped(text) for text in list(joined_text(found))[1:]),
-                 '<div class="no">together: whole: no<ul><li>',
-                 "<tr><td>a</td><td>no</td><td>93</td><td>2</td><td>1</td></tr>\n"
-                 "<tr><td>b</td><td>no</td><td>94</td><td>1</td><td>2</td></tr>",
-                 bars_of(found, BROAD, "broad"), bars_of(found, NARROW, "narrow"),
-                 '<details id="missing"><summary>numbers that no capture has: 1</summary>',
-                 "<tr><td>22</td><td>22</td><td>1</td><td>lost</td></tr>",
-                 "<tr><td>a</td><td>10</td><td>10</td><td>1</td></tr>\n<tr><td>b</td><td>20</td><td>20</td>",
-                 '<head><meta charset="utf-8"><title>a, b</title>'):
-        assert text in page
-    assert not re.search("<a |disagreements of two captures", page)
-    page = page_of_joined(join([capture_of(capture("1..40"), name) for name in ("<a>.tbc", "b & c.tbc")]), [])
-    assert "<h1>&lt;a&gt;.tbc, b &amp; c.tbc</h1>" in page.replace("<wbr/>", "")
-    narrow = xml.fromstring(bars_of(found, NARROW))
-    assert [narrow.get(name) for name in ("width", "role", "aria-label")] == [
-        "388", "img", "2 captures together: a, b"]
-
-
 def test_what_is_printed_and_written(drawn):
     """Of pictures 0 to 11, and of 4 to 7 and 10 to 15. With one field each has its own stretch."""
     write_stream(drawn.named("other.tbc"), NTSC, pictures(16)[4:8] + pictures(16)[10:])
@@ -335,11 +287,14 @@ def test_what_is_printed_and_written(drawn):
 
 
 def test_links_to_pages_of_the_same_folder(room):
-    """From a page beside those of a scan; a capture without a page has no link, nor has a page elsewhere."""
+    """From a page beside those of two of three captures, and an index; a page elsewhere has none."""
     for name in ("a/1.tbc", "b/1.tbc", "c.tbc"):
         room.add(name, "1..30 O")
-    room.scan("--html pages a b")
+    os.mkdir(room.named("pages"))
+    for words in ("a/1.tbc --html pages/1.html", "b/1.tbc --html pages/1-2.html"):
+        room.printed(words)
     room.write("pages/other.html", "<p>")
+    room.write("pages/index.html", index_of(room.named("pages/index.html"), []))
     for page, wanted in (("pages/both.html", ["index.html", "1.html", "1-2.html"]), ("both.html", [])):
         room.printed("join --html %s a/1.tbc b/1.tbc c.tbc" % page)
         assert re.findall('href="(.*?)"', room.text(page)) == wanted
@@ -410,5 +365,5 @@ def check_random_set(seed):
 @pytest.mark.unrecorded
 def test_random_sets():
     """Two to four captures of one drawn disc with losses, jumps and damage of their own, beside the truth."""
-    counts = sum(map(check_random_set, range(100)), Counter())
-    assert counts > Counter(whole=50, taken=25000, due=80, missing=80, lacking=2000)
+    counts = sum(map(check_random_set, range(30)), Counter())
+    assert counts > Counter(whole=12, taken=6000, due=20, missing=12, lacking=500)

@@ -249,3 +249,8 @@ def test_whole_drawings():
             (bars_of(together("1..24 -21:26", "1..24 -23:24 -11:12")), (150, 960, 24), BROAD_BARS),
             (bars_of(together("1..22", "1..9 30..31 12..22"), NARROW, "narrow"), (124, 242, 22), NARROW_BARS)):
         assert parts_in(drawn) == Sketch(*size).parts(table)
+    drawn = parts_in(bars_of(together("1..50 151..170 71..100", "1..100")))  # what is beyond the axis is at its end
+    assert [one for one in drawn if ".disagreement" in one] == [
+        "rect 630-822 160-182 #be185d .disagreement @51-70 (51 to 70: in fields 101 to 140 of b.tbc, and a.tbc otherwise)",
+        "rect 1108-1110 160-182 #be185d .disagreement @151-170 (151 to 170: in fields 101 to 140 of a.tbc, and b.tbc "
+        "otherwise)"]

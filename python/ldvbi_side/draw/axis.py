@@ -40,6 +40,7 @@ class Axis:
         return round(self.x(field))
 
     def extent(self, first: int, last: int) -> Tuple[int, int]:
-        """The pixels of fields, at least two."""
-        begin = min(self.pixel(first), self.left + self.width - 2)
-        return begin, max(self.pixel(last + 1), begin + 2)
+        """The pixels of fields, at least two. What is beyond the axis is at its end."""
+        end = self.left + self.width
+        begin = min(max(self.pixel(first), self.left), end - 2)
+        return begin, min(max(self.pixel(last + 1), begin + 2), end)
