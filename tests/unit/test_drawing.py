@@ -98,8 +98,22 @@ def test_texts_and_ticks_that_fit():
             (1, 52, [1, 2, 5, 10, 20], [1, 20, 40]), (1, 0, [1], []),
             (7, 100, [1, 2], [7, *range(8, 101, 2)])):  # where no step is large enough
         assert ticks(least, greatest, 5, steps) == wanted
-    minutes = Extent(30, "0:00", "0:29")  # whose least step is a minute
-    assert Scale("minute", "PAL", minutes, 0, 9).ticks() == [0, 10, 20]
+
+
+@pytest.mark.parametrize("unit, steps", (
+    ("picture", (1, 2, 5, 10, 20, 50, 100, 200, 500)), ("minute", (1, 5, 10, 15, 30, 60)),
+    ("time", (1, 5, 25, 125, 375, 1500, 7500, 15000, 22500, 45000, 90000))))
+def test_each_step(unit, steps):
+    """About five labels: a step is enough for five times itself, and not for one more."""
+    def text(count):
+        return {"picture": count, "minute": "%d:%02d" % divmod(count, 60), "time": "%d:%02d:%02d.%02d" % (
+            count // 90000, count // 1500 % 60, count // 25 % 60, count % 25)}[unit]
+    for step, after in zip(steps, steps[1:]):
+        for greatest, wanted in ((5 * step, step), (5 * step + 1, after)):
+            found = Scale(unit, "PAL", Extent(9, text(0), text(greatest)), 0, 9)
+            assert found.ticks() == list(range(0, greatest + 1, wanted))
+            assert [found.text_of(one).removesuffix(".00") for one in found.ticks()] == [
+                str(text(one)).removesuffix(".00") for one in found.ticks()]
 
 
 def text_in(part):
@@ -144,7 +158,7 @@ DRAWN = """
       | @line-18 1-1 150-630 blank 28; 2-2 630-1110 hold 28 | @empty 630 368 no picture number and no time
     1..32 33.16=? | @line-16 1-32 150-630 blank 28; 33-33 630-645 noise 28; 34-64 645-1110 blank 28
       | +line-16 line 16, field 33: noise, change 170
-    NTSC m59x20 m60x28 | @number-label 140 432 0:59; 140 312 1:00 | @run 1-48 4 160 428 1100 308 | doubt
+    NTSC m59x20 m60x28 | axis time; field | @number-label 140 432 0:59; 140 312 1:00 | @run 1-48 4 160 428 1100 308 | doubt
     MANY 2401.16=? | @line-16 1-2400 124-244 blank 28; 2401-2420 244-245 noise 1; 2401-2420 244-245 blank 27;
       2421-4840 245-366 blank 28 | +line-16 line 16, fields 2401 to 2420: noise in 5 % of these fields
       | +line-16 line 16, fields 2401 to 2420: blank in 95 % of these fields
@@ -213,11 +227,9 @@ def test_padding():
     assert "padding" not in drawing_of(one, "")
     one = made("1..32 12=B", side)
     one.pad = [field in (11, 12) for field in range(1, 65)]
-    drawn = list(xml.fromstring(drawing_of(one, "")).iter(SPACE + "rect"))
-    boxes = [box for box in drawn if box.get("data-shown") == "padding"]
-    assert [(box.get("class"), box.get("data-fields")) for box in boxes] == [
-        ("line-%d" % line, "11-12") for line in (16, 17, 18)]
-    assert boxes[0].find(SPACE + "title").text == "line 16, fields 11 to 12: padding"
+    assert re.findall('fill="#1e293b" class="(.*?)" data-shown="padding" data-fields="(.*?)" .*<title>(.*)</title>',
+                      drawing_of(one, "")) == [
+        ("line-%d" % line, "11-12", "line %d, fields 11 to 12: padding" % line) for line in (16, 17, 18)]
 
 
 def test_heads():

@@ -14,6 +14,7 @@ from ldvbi_side.command.join import joined_text, NOTHING_SHOWS
 from ldvbi_side.command.map import joined_rows
 from ldvbi_side.draw.index import index_of
 from ldvbi_side.join.captures import capture_of
+from ldvbi_side.join.marks import marks_in, plain_marks
 from ldvbi_side.join.plain import as_json
 from ldvbi_side.judge.places import Showing
 from ldvbi_side.side import side_of_document
@@ -167,13 +168,39 @@ def check_captures(texts, names, members):
         assert wanted in lines if name == "says" else wanted == told(known, name)
 
 
-def test_tables():
-    for _, ones, *members in cells_of(EITHER):
-        texts = ones.split(" ; ")
-        check_captures(texts, "abc", members)
-        check_captures(texts[::-1], "abc"[:len(texts)][::-1], members)
-    for _, ones, *members in cells_of(IN_ORDER):
-        check_captures(ones.split(" ; "), "abc", members)
+@pytest.mark.parametrize("name, ones, members", ((name, ones, members) for name, ones, *members in cells_of(EITHER)))
+def test_either_first(name, ones, members):
+    texts = ones.split(" ; ")
+    check_captures(texts, "abc", members)
+    check_captures(texts[::-1], "abc"[:len(texts)][::-1], members)
+
+
+@pytest.mark.parametrize("name, ones, members", ((name, ones, members) for name, ones, *members in cells_of(IN_ORDER)))
+def test_in_this_order(name, ones, members):
+    check_captures(ones.split(" ; "), "abc", members)
+
+
+# What may show of which disc a side is: chapters and programme statuses beside numbers; which numbers last two fields,
+# or three; users' codes; and between which numbers its first one is after lead-in, and its last one before lead-out.
+# Field 2n - 1 has picture n, but after lead-in.
+@pytest.mark.parametrize("text, chapters, statuses, lasting, users, begins, ends", (
+    ("1..40 2:46/2=-/c1/c1 48:80/2=-/c2/c2", [[1, 23, 1], [24, 40, 2]], [], [[1, 40, 1]], [], None, None),
+    ("1..40 2:30/2=-/c1/c1 31=-/#16/c1 32:80/2=B", [[1, 16, 1]], [], [[1, 40, 1]], [], None, None),
+    ("1..40 2:20/2=B 22:80/2=-/c1/c1", [[11, 40, 1]], [], [[1, 40, 1]], [], None, None),
+    ("Lx2 Bx6 3..40 1:8.16=83D0A1 B O", [[3, 40, 0]], [], [[3, 40, 1]], [[3, "0A1"]], (0, 3), (40, 41)),
+    ("Lx3 1..40 10=8DC000/#4/#4 11=8BA000/-/- 14=8DC000/#6/#6 Bx3 Ox2", [[1, 40, 0]],
+     [[4, 4, "8BA000"], [6, 6, "8DC000"]], [[1, 40, 1]], [], (1, 1), (40, 42)),
+    ("NTSC f1..12", [[1, 12, 0]], [], [[1, 12, 2]], [], None, None),
+    ("1..9 -6 12..20", [[1, 9, 0], [12, 20, 0]], [], [[1, 3, 1], [4, 9, 1], [12, 20, 1]], [], None, None),
+    ("1..10 11x3 12..20", [[1, 20, 0]], [], [[1, 11, 1], [12, 20, 1]], [], None, None),
+    ("NTSC t0..39", [[0, 39, 0]], [[0, 39, "8BA000"]], [[0, 39, 1]], [], None, None),
+    ("L Bx3000 m1x3000 O", [], [], [], [], (0, 1), (1, 1)), ("O 1..9 L", [[1, 9, 0]], [], [[1, 9, 1]], [], None, None)))
+def test_marks(text, chapters, statuses, lasting, users, begins, ends):
+    one = capture_of(made(text, side), "a")
+    plain = plain_marks(one.marks)
+    assert plain == {"pace": one.answer.pace, "said": {"chapter": chapters, "programme status": statuses},
+                     "lasting": lasting, "users": users, "begins": begins, "ends": ends}
+    assert marks_in({"marks": plain, "system": one.answer.system, "unit": one.answer.unit}, "a") == one.marks
 
 
 def test_a_confirmed_number_is_between_those_that_are_read_and_due():
