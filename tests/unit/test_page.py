@@ -6,6 +6,7 @@ import hashlib
 import json
 import os
 import re
+import runpy
 import xml.etree.ElementTree as xml
 import zlib
 from unittest import mock
@@ -118,6 +119,13 @@ def test_a_whole_page():
                  ("BROAD", drawing_of(one, name, BROAD, "broad")), ("NARROW", drawing_of(one, name, NARROW, "narrow")),
                  ("SAID", json.dumps(SAID).replace('"', "&quot;").replace("'", "&#x27;").replace("<", "&lt;").replace(
                      ">", "&gt;"))) == SIDE_PAGE.replace("<b>", "&lt;b&gt;", 1).split("\n")
+
+
+@pytest.mark.parametrize("order, places", (("little", (4, 5, 6)), ("big", (7, 6, 5))))
+def test_where_a_packed_word_has_its_bytes(order, places):
+    """The lowest of four bytes, which stand after a line's cause and pass and two more, is the first or the last."""
+    with mock.patch("sys.byteorder", order):
+        assert runpy.run_path(finding.__file__)["_PLACES"] == (0, 1, *places)
 
 
 INDEX = HEAD % ("LaserDisc sides", digest(sorting.SCRIPT)) + """\
