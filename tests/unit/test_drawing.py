@@ -239,6 +239,31 @@ def test_heads():
         part.text for _, part in parts_of("-/#9/#9", cut=Cut(2, 5))]
 
 
+def test_levels_of_another_file():
+    """A side without numbers may be read by the metadata of another file: of one with more fields, or with whole ones."""
+    for cut, fields, is_other in ((None, None, False), (None, 40, False), (None, 41, True), (Cut(41, 5), None, True)):
+        one = made("Bx40", side, cut=cut)
+        answer = one.analysis.answer._replace(metadata_fields=fields)
+        one.analysis = one.analysis._replace(answer=answer)
+        asked = "is it this system, and this file's metadata?" if is_other else "are black and white right?"
+        assert "lines 17 and 18 have 0 words, 0 are bad, 80 blank: %s<" % asked in drawing_of(one, "")
+
+
+FIRST_PART, LAST_PART = (10, 5, 6, 10), (20, 25, 26, 20)
+
+
+@pytest.mark.parametrize("run, count", (
+    ([FIRST_PART, (15, 9, 9, 15), LAST_PART], 1), ([(10, 5, 7, 10), LAST_PART], 1), ([FIRST_PART, (20, 24, 26, 20)], 1),
+    ([(11, 5, 6, 11), LAST_PART], 2), ([(10, 4, 6, 10), LAST_PART], 2), ([FIRST_PART, (21, 25, 26, 21)], 2),
+    ([FIRST_PART, (20, 25, 27, 20)], 2)))
+def test_runs_in_the_same_pixels_are_one(run, count):
+    """By the first field of their first number, and the last one of their last, which have a pixel each, as numbers."""
+    svg, drawn = Svg(20, 10, ""), set()
+    for one in ([FIRST_PART, LAST_PART], run):
+        curve._draw_run(svg, Axis(960), Scale("picture", "PAL", Extent(9, 1, 240), 0, 240), one, drawn)
+    assert len(svg.parts) == count
+
+
 def luminance(colour):
     """The relative luminance of a colour of sRGB, as WCAG has it."""
     parts = [int(colour[place:place + 2], 16) / 255 for place in (1, 3, 5)]
