@@ -156,8 +156,6 @@ DRAWN = """
     NTSC S/S*/- ~/?/! | @line-16 1-1 150-630 word 28; 2-2 630-1110 unfinished 28 | @stop 1 390.0 224
       | @line-17 1-1 150-630 read only after smoothing 28; 2-2 630-1110 change 28
       | @line-18 1-1 150-630 blank 28; 2-2 630-1110 hold 28 | @empty 630 368 no picture number and no time
-    1..32 33.16=? | @line-16 1-32 150-630 blank 28; 33-33 630-645 noise 28; 34-64 645-1110 blank 28
-      | +line-16 line 16, field 33: noise, change 170
     NTSC m59x20 m60x28 | axis time; field | @number-label 140 432 0:59; 140 312 1:00 | @run 1-48 4 160 428 1100 308 | doubt
     MANY 2401.16=? | @line-16 1-2400 124-244 blank 28; 2401-2420 244-245 noise 1; 2401-2420 244-245 blank 27;
       2421-4840 245-366 blank 28 | +line-16 line 16, fields 2401 to 2420: noise in 5 % of these fields

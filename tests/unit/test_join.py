@@ -3,7 +3,6 @@ better, and where they disagree about a number; the same of random sets of captu
 
 import functools
 import json
-import os
 import re
 from collections import Counter
 
@@ -12,7 +11,6 @@ from discs import side
 from ldvbi_side.command.chapters import chapters_text, joined_spans
 from ldvbi_side.command.join import joined_text, NOTHING_SHOWS
 from ldvbi_side.command.map import joined_rows
-from ldvbi_side.draw.index import index_of
 from ldvbi_side.join.captures import capture_of
 from ldvbi_side.join.marks import marks_in, plain_marks
 from ldvbi_side.join.plain import as_json
@@ -314,18 +312,17 @@ def test_what_is_printed_and_written(drawn):
 
 
 def test_links_to_pages_of_the_same_folder(room):
-    """From a page beside those of two of three captures, and an index; a page elsewhere has none."""
+    """From a page beside those of a scan, which have one to the index; a capture without a page has no link, nor has a
+    page elsewhere."""
     for name in ("a/1.tbc", "b/1.tbc", "c.tbc"):
         room.add(name, "1..30 O")
-    os.mkdir(room.named("pages"))
-    for words in ("a/1.tbc --html pages/1.html", "b/1.tbc --html pages/1-2.html"):
-        room.printed(words)
+    room.scan("--html pages a b")
     room.write("pages/other.html", "<p>")
-    room.write("pages/index.html", index_of(room.named("pages/index.html"), []))
     for page, wanted in (("pages/both.html", ["index.html", "1.html", "1-2.html"]), ("both.html", [])):
         room.printed("join --html %s a/1.tbc b/1.tbc c.tbc" % page)
         assert re.findall('href="(.*?)"', room.text(page)) == wanted
     assert '<td><a href="1-2.html">b/<wbr/>1.<wbr/>tbc</a></td>' in room.text("pages/both.html")
+    assert '<body>\n<p><a href="index.html">all sides</a></p>\n<h1>' in room.text("pages/1.html")
     room.refused("absent/both.html: No such file or directory", "join --html absent/both.html a/1.tbc b/1.tbc")
 
 
