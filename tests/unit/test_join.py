@@ -12,7 +12,7 @@ from ldvbi_side.command.chapters import chapters_text, joined_spans
 from ldvbi_side.command.join import joined_text, NOTHING_SHOWS
 from ldvbi_side.command.map import joined_rows
 from ldvbi_side.join.captures import capture_of
-from ldvbi_side.join.marks import marks_in, plain_marks
+from ldvbi_side.join.marks import Marks, marks_in, plain_marks, Said
 from ldvbi_side.join.plain import as_json
 from ldvbi_side.judge.places import Showing
 from ldvbi_side.side import side_of_document
@@ -199,6 +199,28 @@ def test_marks(text, chapters, statuses, lasting, users, begins, ends):
     assert plain == {"pace": one.answer.pace, "said": {"chapter": chapters, "programme status": statuses},
                      "lasting": lasting, "users": users, "begins": begins, "ends": ends}
     assert marks_in({"marks": plain, "system": one.answer.system, "unit": one.answer.unit}, "a") == one.marks
+
+
+def test_marks_of_a_page():
+    """A page has as many stretches as are believed of a side that isn't too worn. One of another form has no marks:
+    numbers are whole, and those of discs; all else is text."""
+    for count, is_there in ((2000, True), (2001, False)):
+        said = {"chapter": [Said(one, one, 1) for one in range(1200)], "programme status": [Said(1, 1, "8BA000")] * 300}
+        known = Marks("a", "PAL", "picture", "video", said, [range(2)] * (count - 1500), [], None, None)
+        assert (plain_marks(known) is not None) == is_there
+    assert marks_in({"marks": None}, "a") is None
+    plain = {"pace": "video", "said": {"chapter": [[1, 2, 3]], "programme status": [[4, 5, "8BA000"]]},
+             "lasting": [[6, 8, 1]], "users": [[7, "0A1"]], "begins": [0, 1], "ends": [9, 10]}
+    texts = json.dumps(plain)
+    for number in range(11):  # that of lasting's step aside, each is there once
+        for other, is_good in (("2097151", True), ("-2097151", True), ("2097152", False), ("-2097152", False),
+                               ("true", False), ("1.0", False), ('"1"', False), ("null", False), ("[]", False)):
+            text = re.sub(r"(?<![\dA-Z])%d(?![\dA-Z])" % number, other, texts, count=1)
+            said = {"marks": json.loads(text), "system": "PAL", "unit": "picture"}
+            assert (reason(marks_in, said, "a", kind=(TypeError, ValueError, KeyError)) is None) == is_good, text
+    for part, other in (('"8BA000"', "1"), ('"0A1"', "1"), ('"chapter"', '"chapters"'), ("[0, 1]", "[0]"), ("[0, 1]", "0")):
+        said = {"marks": json.loads(texts.replace(part, other)), "system": "PAL", "unit": "picture"}
+        assert reason(marks_in, said, "a", kind=(TypeError, ValueError, KeyError)), part
 
 
 def test_a_confirmed_number_is_between_those_that_are_read_and_due():
