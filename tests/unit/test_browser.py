@@ -1,4 +1,4 @@
-"""What pages do in a browser: the field that is asked for, their widths, and the index, which is sorted and filtered."""
+"""What pages do in a browser: a field that is asked for, their widths, and the index, sorted and filtered."""
 
 import base64
 import hashlib
@@ -43,7 +43,8 @@ next();
 # Which forms of the first drawing a page shows, and whether each part of the page is within the window
 SHOWN = """
 <pre></pre><script>
-const isIn = one => one.closest("svg, details:not([open]) div") ? true : one.getBoundingClientRect().right <= innerWidth;
+const isIn = one =>
+  one.closest("svg, details:not([open]) div") ? true : one.getBoundingClientRect().right <= innerWidth;
 document.querySelector("pre").textContent = [
   ...[...document.querySelectorAll("svg")].filter(one => one.getBoundingClientRect().width > 0).map(
     one => one.classList[0] + (one.getBoundingClientRect().right <= innerWidth)),
@@ -135,8 +136,9 @@ def test_the_index(room):
     for name, fields in (("a/2", "1..3"), ("a/10", "7..9 12..14"), ("b/1 & #1", "Bx9")):
         one = made(fields, side)
         text = page_of(one, name, summary(one.analysis.answer))
-        pages.append(room.write("p%d.html" % len(pages), text.replace("&quot;try&quot;: null", "&quot;try&quot;: &quot;" + (
-            "--system NTSC --black 16384 --white 30000 --meta /archive/captures/side.tbc.json&quot;"))))
+        pages.append(room.write("p%d.html" % len(pages), text.replace(
+            "&quot;try&quot;: null", "&quot;try&quot;: &quot;--system NTSC --black 16384 --white 30000 --meta "
+            "/archive/captures/side.tbc.json&quot;")))
     room.write("index.html", index_of(room.named("index.html"), pages, [
         Fault("/x/odd", "odd", "not JSON: line 1 is wrong from column 2 on")]))
     for width, found in zip((1300, 420), shown_by_browser(

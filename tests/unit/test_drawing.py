@@ -7,10 +7,11 @@ from unittest import mock
 
 from compact import cells_of, made
 from discs import side, typed
+import ldvbi
 from ldvbi import Kind
 from ldvbi.readings import Cut
 from ldvbi_side.answer.entries import Doubt, Extent, Lost, Missing, Numbered, Repeated, Speed
-from ldvbi_side.draw import bands, bars, colours, curve, drawing, folds
+from ldvbi_side.draw import bands, bars, colours, curve, drawing, finding, folds, sorting, style
 from ldvbi_side.draw.axis import Axis, BROAD, NARROW
 from ldvbi_side.draw.curve import Scale, ticks
 from ldvbi_side.draw.drawing import drawing_of
@@ -156,7 +157,8 @@ DRAWN = """
     NTSC S/S*/- ~/?/! | @line-16 1-1 150-630 word 28; 2-2 630-1110 unfinished 28 | @stop 1 390.0 224
       | @line-17 1-1 150-630 read only after smoothing 28; 2-2 630-1110 change 28
       | @line-18 1-1 150-630 blank 28; 2-2 630-1110 hold 28 | @empty 630 368 no picture number and no time
-    NTSC m59x20 m60x28 | axis time; field | @number-label 140 432 0:59; 140 312 1:00 | @run 1-48 4 160 428 1100 308 | doubt
+    NTSC m59x20 m60x28 | axis time; field
+      | @number-label 140 432 0:59; 140 312 1:00 | @run 1-48 4 160 428 1100 308 | doubt
     MANY 2401.16=? | @line-16 1-2400 124-244 blank 28; 2401-2420 244-245 noise 1; 2401-2420 244-245 blank 27;
       2421-4840 245-366 blank 28 | +line-16 line 16, fields 2401 to 2420: noise in 5 % of these fields
       | +line-16 line 16, fields 2401 to 2420: blank in 95 % of these fields
@@ -238,7 +240,7 @@ def test_heads():
 
 
 def test_levels_of_another_file():
-    """A side without numbers may be read by the metadata of another file: of one with more fields, or with whole ones."""
+    """A side without numbers may be read by the metadata of another file: of more fields, or of whole ones."""
     for cut, fields, is_other in ((None, None, False), (None, 40, False), (None, 41, True), (Cut(41, 5), None, True)):
         one = made("Bx40", side, cut=cut)
         answer = one.analysis.answer._replace(metadata_fields=fields)
@@ -289,19 +291,38 @@ def test_contrast():
         for scheme in ({one: one for one in colours.DARK}, colours.DARK):
             assert contrast(scheme[colour], scheme[ground]) >= 4.5, (colour, ground)
     assert all(re.fullmatch("#[0-9a-f]{6}", one) for pair in colours.DARK.items() for one in pair)
-    assert set(colours.NAMED.values()) | {one for name, one in vars(colours).items() if type(one) is str and one[0] == "#"
-                                          } <= colours.DARK.keys()
+    assert {one for one in vars(colours).values() if type(one) is str and one[0] == "#"} <= colours.DARK.keys()
     rules = colours.dark_drawings()
     assert rules == "@media(prefers-color-scheme:dark){%s}\n" % "".join(
         '[%s="%s"]{%s:%s}' % (name, *pair[:1], name, pair[1]) for pair in colours.DARK.items()
         for name in ("fill", "stroke"))
-    light, dark = re.fullmatch(r":root{color-scheme:light dark;(.*)}\n@media\(prefers-color-scheme:dark\){:root{(.*)}}\n",
-                               colours.named_colours()).groups()
+    light, dark = re.fullmatch(
+        r":root{color-scheme:light dark;(.*)}\n@media\(prefers-color-scheme:dark\){:root{(.*)}}\n",
+        colours.named_colours()).groups()
     assert light == ("--paper:#ffffff;--lane:#f8fafc;--grid:#e2e8f0;--text:#1e293b;--axis:#475569;--link:#1d4ed8;"
                      "--yes:#166534;--no:#b91c1c;--open:#b45309;--fault:#7e22ce;--recovered:#164e63")
     assert dark == re.sub("#[0-9a-f]{6}", lambda one: colours.DARK[one[0]], light)
     assert abs(contrast("#000000", "#ffffff") - 21) < 1e-9
     assert abs(contrast("#767676", "#ffffff") - 4.54) < 0.01  # the lightest grey that is enough on white
+
+
+def test_looks():
+    """Styles are rules, and scripts are statements. Pages show drawings by their width."""
+    for text in (style.DRAWN, style.STYLE + sorting.looks_of(["a", "b", "c", "d", "e"])):
+        flat = re.sub(r"@media\([a-z-]+:\w+\){((?:[^{}]+{[^{}]*}\s*)*)}", r"\1", text)
+        *rules, rest = flat.split("}")
+        assert rest.strip() == "" and len(rules) > 20
+        for rule in rules:
+            assert re.fullmatch(r"\s*[a-z:.[][^{}@~]*{\s*[a-z-]+:[^;]+(;\s*[a-z-]+:[^;]+)*", rule), rule
+        assert set(re.findall(r"var\((--.*?)\)", text)) <= set(re.findall(r"(--\w+):#[0-9a-f]{6}[;}]", text))
+    assert sorting.looks_of(["a", "b", "c", "d", "e"]) == sorting.STYLE + (
+        'td:nth-child(4)::before{content:"d: ";color:var(--axis)}'
+        'td:nth-child(5)::before{content:"e: ";color:var(--axis)}}\n')
+    for script in (finding.SCRIPT, sorting.SCRIPT):
+        assert re.search(";\n$", script) and not re.search("[<&]|]]>", script)
+    causes = re.search(r"causes = \[(.*?)\]", finding.SCRIPT)[1]
+    assert causes == ", ".join('"%s"' % one.name for one in ldvbi.Cause)
+    assert [style.DRAWN.count("max-width:700px"), sorting.STYLE.count("max-width:700px")] == [1, 1]
 
 
 # Marks by their first and last field, of 960 that have a pixel each, of which a mark has two at least: what is drawn of

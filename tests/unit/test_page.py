@@ -39,7 +39,8 @@ SHORT = (("</td><td>", " | "), ("</th><th>", " | "), ("</td></tr>\n<tr><td>", " 
          ("&quot;", '"'), ("&#x27;", "'"))
 HEAD = """<!DOCTYPE html>
 <html lang="en"><head><meta charset="utf-8"><title>%s</title>
-<meta http-equiv="Content-Security-Policy" content="default-src 'none'; style-src 'unsafe-inline'; base-uri 'none'; form-\
+<meta http-equiv="Content-Security-Policy" content="default-src 'none'; style-src 'unsafe-inline'; base-uri 'none'; \
+form-\
 action 'none'%s">
 <meta name="viewport" content="width=device-width, initial-scale=1">
 """
@@ -76,14 +77,18 @@ BROADNARROW
 <p id="find" hidden="hidden" data-begin="1" data-words="WORDS"><label>field <input type="number" min="1" max="6" \
 required="required"/></label> <output></output></p>
 <p>nothing lost, unread, repeated</p>
-<dl><dt>system: PAL, CAV ; fields: 6 ; line 16: 1 words, 0 of them read only after smoothing; 0 bad (0.00 %), 5 blank ; \
-line 17: 4 words, 0 of them read only after smoothing; 1 bad (20.00 %), 1 blank ; line 18: 5 words, 0 of them read only \
-after smoothing; 0 bad (0.00 %), 1 blank ; pictures: 2, from 1 to 2 ; doubtful, set aside: 1 (picture 5 in field 5 line \
+<dl><dt>system: PAL, CAV ; fields: 6 ; line 16: 1 words, 0 of them read only after smoothing; 0 bad (0.00 %), 5 blank \
+; \
+line 17: 4 words, 0 of them read only after smoothing; 1 bad (20.00 %), 1 blank ; line 18: 5 words, 0 of them read \
+only \
+after smoothing; 0 bad (0.00 %), 1 blank ; pictures: 2, from 1 to 2 ; doubtful, set aside: 1 (picture 5 in field 5 \
+line \
 18) ; chapters: 1 (chapter 0 in field 2) ; codes out of place: 1 (chapter in field 4 line 16)</dd></dl>
 <details id="doubtful"><summary>doubtful, set aside: 1 [ field | line | word | kind | pass | why | number | before | \
 after ] 5 | 18 | F00005 | picture | 1 | alone | 5 | 2 in field 3 | \
 <details id="chapters"><summary>chapters: 1 [ chapter | field | last | after | number | frame ] 0 | 2 | 6 |  | 1 | 1\
-<details id="stray"><summary>codes out of place: 1 [ field | line | word | kind | pass | why ] 4 | 16 | 801DDD | chapter \
+<details id="stray"><summary>codes out of place: 1 [ field | line | word | kind | pass | why ] 4 | 16 | 801DDD | \
+chapter \
 | 1 | line\
 <details id="badLines"><summary>bad lines: 1 [ field | line | cause | column | offset | bytes ] 5 | 17 | change 170 | \
 170 | 2878360 | 2270\
@@ -98,7 +103,8 @@ SAID = {
     "version": 3, "whole": "can't tell", "reasons": [
         {"why": "numbers", "whole": "can't tell", "text": "too few numbers to judge by"},
         {"why": "doubtful", "whole": "can't tell", "text": "numbers set aside in 1 of 3 fields"}],
-    "system": "PAL", "format": "cav", "unit": "picture", "fields": 6, "numbers": {"count": 2, "least": 1, "greatest": 2},
+    "system": "PAL", "format": "cav", "unit": "picture", "fields": 6,
+    "numbers": {"count": 2, "least": 1, "greatest": 2},
     "last": 2, "leadIn": 0, "leadOut": 0, "lost": "none", "counts": {"lost": 0, "unread": 0}, "try": None,
     "side": "/x/a <b>.tbc", "options": ["--open-end"], "marks": {
         "pace": "video", "said": {"chapter": [[1, 2, 0]], "programme status": []}, "lasting": [[1, 2, 1]], "users": [],
@@ -143,15 +149,19 @@ INDEX = HEAD % ("LaserDisc sides", digest(sorting.SCRIPT)) + """\
 <th>lost</th><th>unread</th><th>try</th><th>system</th><th>format</th><th>from</th><th>to</th><th>lead-in</th>\
 <th>lead-out</th><th>scanned on</th></tr></thead>
 <tbody role="rowgroup"><tr role="row"><td role="cell"><a href="pages/p%263.html">a_<wbr/>3.<wbr/>tbc</a></td>\
-<td role="cell" class="no" data-key="0">no | 4 fields lost; 2 pictures lost</td><td role="cell" data-key="2">2 pictures, \
+<td role="cell" class="no" data-key="0">no | 4 fields lost; 2 pictures lost</td><td role="cell" data-key="2">2 \
+pictures, \
 4 fields | 0 |  | PAL | cav | 1 | 14 | 0 | 0 | 2023-11-14</td></tr>
-<tr role="row"><td role="cell">b&lt;.<wbr/>tbc</td><td role="cell" class="fault" data-key="1">not read | no &lt;such&gt; \
+<tr role="row"><td role="cell">b&lt;.<wbr/>tbc</td><td role="cell" class="fault" data-key="1">not read | no \
+&lt;such&gt; \
 file</td><td role="cell" data-key="-1"> |  |  |  |  |  |  |  |  | </td></tr>
 <tr role="row"><td role="cell"><a href="pages/p%261.html">a_<wbr/>1.<wbr/>tbc</a></td>\
-<td role="cell" class="yes" data-key="3">yes | </td><td role="cell" data-key="0">none | 1 |  | PAL | clv | 0:00:00.00 | \
+<td role="cell" class="yes" data-key="3">yes | </td><td role="cell" data-key="0">none | 1 |  | PAL | clv | 0:00:00.00 \
+| \
 0:00:00.09 | 0 | 0 | 2023-11-14</td></tr>
 <tr role="row"><td role="cell"><a href="pages/p%262.html">a_<wbr/>2.<wbr/>tbc</a></td>\
-<td role="cell" class="yes" data-key="3">yes | </td><td role="cell" data-key="0">none | 0 |  | PAL | cav | 1 | 11 | 1 | \
+<td role="cell" class="yes" data-key="3">yes | </td><td role="cell" data-key="0">none | 0 |  | PAL | cav | 1 | 11 | 1 \
+| \
 1 | 2023-11-14</td></tr>
 <tr role="row"><td role="cell"><a href="pages/p%264.html">a_<wbr/>4.<wbr/>tbc</a></td>\
 <td role="cell" class="gone" data-key="4">gone | FOLDER/a_4.tbc isn't there any longer; whole: can't tell; no picture \
@@ -170,7 +180,8 @@ def test_a_whole_index(room):
     pages = []
     for number, text in enumerate(("t0..9 9.16=?", "83D0A1/-/- L 1..12 25=B O", "83D0A1/-/- 1..9 12..14", "B"), 1):
         name = "a_%d.tbc" % number
-        pages.append(room.write("p&%d.html" % number, page(text, None, name, path=room.named(name), words=["--open-end"])))
+        pages.append(room.write("p&%d.html" % number, page(
+            text, None, name, path=room.named(name), words=["--open-end"])))
         os.utime(pages[-1], (1699963200, 1699963200))  # noon of November 14, 2023
         if number != 4:
             room.write(name, "")
@@ -179,15 +190,16 @@ def test_a_whole_index(room):
     looks = sorting.looks_of(["side", "whole", "why", "lost", "unread", "try", "system", "format", "from", "to",
                               "lead-in", "lead-out", "scanned on"])
     folder = os.path.basename(room.folder)
-    assert short(text.replace(room.folder, "FOLDER").replace('"%s/' % folder, '"pages/'), ("STYLE", style.STYLE + looks),
-                 ("SCRIPT", sorting.SCRIPT)) == INDEX.split("\n")
+    assert short(text.replace(room.folder, "FOLDER").replace('"%s/' % folder, '"pages/'),
+                 ("STYLE", style.STYLE + looks), ("SCRIPT", sorting.SCRIPT)) == INDEX.split("\n")
 
 
 JOINED_PAGE = HEAD % ("&lt;a&gt;.tbc, b.tbc", "") + """\
 <style>STYLE</style></head><body>
 <p><a href="index.html">all sides</a></p>
 <h1>&lt;a&gt;.<wbr/>tbc, <wbr/>b.<wbr/>tbc</h1>
-<div class="no">together: whole: no<ul><li>1 picture lost</li><li>1 picture may have another's field (11)</li></ul></div>
+<div class="no">together: whole: no<ul><li>1 picture lost</li><li>1 picture may have another's field \
+(11)</li></ul></div>
 BROAD
 NARROW
 <table id="captures"><thead><tr><th>capture | whole | has | lacks | has alone ] <a href="a&amp;.html">&lt;a&gt;.<wbr/>\
@@ -195,12 +207,14 @@ tbc</a> | no | 21 | 2 | 1 ; b.<wbr/>tbc | no | 22 | 1 | 2</td></tr></tbody></tab
 <p>said</p>
 <details id="lacks"><summary>numbers that one capture lacks and another has: 3 [ capture | first | last | count | in ] \
 &lt;a&gt;.tbc | 11 | 11 | 1 | b.tbc ; &lt;a&gt;.tbc | 13 | 13 | 1 | b.tbc ; b.tbc | 6 | 6 | 1 | &lt;a&gt;.tbc\
-<details id="alone"><summary>numbers that one capture alone has: 3 [ capture | first | last | count ] &lt;a&gt;.tbc | 6 \
+<details id="alone"><summary>numbers that one capture alone has: 3 [ capture | first | last | count ] &lt;a&gt;.tbc | \
+6 \
 | 6 | 1 ; b.tbc | 11 | 11 | 1 ; b.tbc | 13 | 13 | 1\
 <details id="better"><summary>numbers that several captures have, and one shows better than the others: 2 [ capture | \
 first | last | count ] &lt;a&gt;.tbc | 5 | 5 | 1 ; b.tbc | 10 | 10 | 1\
 <details id="missing"><summary>numbers that no capture has: 1 [ first | last | count | why ] 12 | 12 | 1 | lost\
-<details id="ranges"><summary>what the file of them takes from which capture: 4 [ first | last | count | source | field \
+<details id="ranges"><summary>what the file of them takes from which capture: 4 [ first | last | count | source | \
+field \
 | lastField | how ] 1 | 6 | 6 | &lt;a&gt;.tbc | 1 | 12 | whole ; 7 | 10 | 4 | b.tbc | 11 | 18 | whole ; 11 | 11 | 1 | \
 b.tbc | 19 | 20 | unsure ; 13 | 24 | 12 | b.tbc | 21 | 44 | whole\
 </body></html>
@@ -216,8 +230,8 @@ def test_a_whole_page_of_captures():
                  ("NARROW", bars_of(found, NARROW, "narrow"))) == JOINED_PAGE.split("\n")
     text = "\n".join(short(page_of_joined(join([capture_of(made(text, side), name) for name, text in (
         ("a", "1..50 151..170 71..100"), ("b", "1..100"))]), [])))
-    assert ("<details id=\"disagreements\"><summary>disagreements of two captures: 2 [ why | capture | first | last | field "
-            "| lastField ] detour | a | 151 | 170 | 101 | 140 ; detour | b | 51 | 70 | 101 | 140") in text
+    assert ("<details id=\"disagreements\"><summary>disagreements of two captures: 2 [ why | capture | first | last "
+            "| field | lastField ] detour | a | 151 | 170 | 101 | 140 ; detour | b | 51 | 70 | 101 | 140") in text
     assert "<a " not in text
 
 
@@ -260,8 +274,8 @@ def test_each_list_is_there_in_full():
             assert read.rows.get(name, []) == [list(map(cell, item.values())) for item in items]
             seen |= {LISTS[name] for _ in items}
         assert {text.rpartition(":")[0] for text in read.texts.get("summary", [])} <= seen
-    assert seen >= {"numbers lost, undecided or unread", "lost fields", "unread, and their fields", "breaks", "bad lines",
-                    "doubtful, set aside", "lines 17 and 18 differ", "chapters", "numbers as they come by",
+    assert seen >= {"numbers lost, undecided or unread", "lost fields", "unread, and their fields", "breaks",
+                    "bad lines", "doubtful, set aside", "lines 17 and 18 differ", "chapters", "numbers as they come by",
                     "users' codes", "programme status", "unknown words"}
 
 
@@ -270,10 +284,12 @@ def test_what_is_said():
     for all that one looks for first, unless nothing is known."""
     read = Page(page("Lx4 1..30 Ox4"))
     assert read.facts() == {
-        "system": "PAL, CAV", "fields": "68", "line 16": "0 words, 0 of them read only after smoothing; 0 bad (0.00 %), 68 "
-        "blank", "line 17": "68 words, 0 of them read only after smoothing; 0 bad (0.00 %), 0 blank", "line 18": "68 words, "
-        "0 of them read only after smoothing; 0 bad (0.00 %), 0 blank", "pictures": "30, from 1 to 30", "chapters":
-        "1 (chapter 0 in field 6)", "lead-in": "4 (fields 1 to 4)", "lead-out": "4 (fields 65 to 68)"}
+        "system": "PAL, CAV", "fields": "68",
+        "line 16": "0 words, 0 of them read only after smoothing; 0 bad (0.00 %), 68 blank",
+        "line 17": "68 words, 0 of them read only after smoothing; 0 bad (0.00 %), 0 blank",
+        "line 18": "68 words, 0 of them read only after smoothing; 0 bad (0.00 %), 0 blank",
+        "pictures": "30, from 1 to 30", "chapters": "1 (chapter 0 in field 6)",
+        "lead-in": "4 (fields 1 to 4)", "lead-out": "4 (fields 65 to 68)"}
     assert list(read.rows) == ["chapters", "leadIn", "leadOut", "showings"]
     for text, wanted in (
             ("1..30", "lost, unread, repeated, doubtful"), ("1..30 -21:22", "unread, repeated, doubtful"), ("Bx9", ""),
@@ -305,7 +321,8 @@ def test_names_are_escaped():
     one.answer["<b>&later</b>"] = [{"<b>&first": "<b>&one</b>", "near": None, "is": False, "places": [1, 2]}]
     read = Page(page(one, title=name, more=["name: " + name]))
     assert [read.texts["h1"], read.texts["title"], read.texts["dd"][-1:]] == [[name]] * 3
-    assert (read.heads["<b>&later</b>"][0], read.rows["<b>&later</b>"]) == ("<b>&first", [["<b>&one</b>", "", "no", "1, 2"]])
+    assert read.heads["<b>&later</b>"][0] == "<b>&first"
+    assert read.rows["<b>&later</b>"] == [["<b>&one</b>", "", "no", "1, 2"]]
     assert "b" not in read.texts
     for name, wanted in (("a/lost_side-2.tbc", "a/|lost_|side-|2.|tbc"), ("/b  c", "/|b  |c"), ("", ""),
                          ("x" * 61, "x" * 30 + "|" + "x" * 30 + "|x"), ("<&>.", "&lt;&amp;&gt;.")):
@@ -374,21 +391,3 @@ def test_other_lines(drawn):
     with ldvbi.Stream(drawn.path, *NTSC) as stream:
         os.truncate(drawn.path, 16 * 1820 - 1)
         assert reason(plot_line, stream, drawn.path, 1, 16) == drawn.path + " became shorter while it was read"
-
-
-def test_looks():
-    """Styles are rules, and scripts are statements. Pages show drawings by their width."""
-    for text in (style.DRAWN, style.STYLE + sorting.looks_of(["a", "b", "c", "d", "e"])):
-        flat = re.sub(r"@media\([a-z-]+:\w+\){((?:[^{}]+{[^{}]*}\s*)*)}", r"\1", text)
-        *rules, rest = flat.split("}")
-        assert rest.strip() == "" and len(rules) > 20
-        for rule in rules:
-            assert re.fullmatch(r"\s*[a-z:.[][^{}@~]*{\s*[a-z-]+:[^;]+(;\s*[a-z-]+:[^;]+)*", rule), rule
-        assert set(re.findall(r"var\((--.*?)\)", text)) <= set(re.findall(r"(--\w+):#[0-9a-f]{6}[;}]", text))
-    assert sorting.looks_of(["a", "b", "c", "d", "e"]) == sorting.STYLE + (
-        'td:nth-child(4)::before{content:"d: ";color:var(--axis)}td:nth-child(5)::before{content:"e: ";color:var(--axis)}}\n')
-    for script in (finding.SCRIPT, sorting.SCRIPT):
-        assert re.search(";\n$", script) and not re.search("[<&]|]]>", script)
-    causes = re.search(r"causes = \[(.*?)\]", finding.SCRIPT)[1]
-    assert causes == ", ".join('"%s"' % one.name for one in ldvbi.Cause)
-    assert [style.DRAWN.count("max-width:700px"), sorting.STYLE.count("max-width:700px")] == [1, 1]

@@ -1,4 +1,4 @@
-"""Whole drawings and pages: all that one has, and what it has to have, worked out from the fields and the numbers along it."""
+"""Whole drawings: all that one has, and what it has to have, worked out from the fields and the numbers along it."""
 
 import re
 import xml.etree.ElementTree as xml
@@ -116,7 +116,8 @@ class Sketch:
             is_break, fields, title = re.fullmatch(r"(\^?)@(\S+) (.*)", item).groups()
             if is_break:
                 yield self.box(fields, 248, 240, "%s opacity=0.2 .upright @%s" % (colour, fields), title)
-            yield self.box(fields, top, 12, "%s .%s @%s" % (colour, text.split(":")[0].replace(" ", "-"), fields), title)
+            kind = text.split(":")[0].replace(" ", "-")
+            yield self.box(fields, top, 12, "%s .%s @%s" % (colour, kind, fields), title)
 
     def runs(self, items):
         for item in items:
@@ -251,6 +252,7 @@ def test_whole_drawings():
         assert parts_in(drawn) == Sketch(*size).parts(table)
     drawn = parts_in(bars_of(together("1..50 151..170 71..100", "1..100")))  # what is beyond the axis is at its end
     assert [one for one in drawn if ".disagreement" in one] == [
-        "rect 630-822 160-182 #be185d .disagreement @51-70 (51 to 70: in fields 101 to 140 of b.tbc, and a.tbc otherwise)",
+        "rect 630-822 160-182 #be185d .disagreement @51-70 (51 to 70: in fields 101 to 140 of b.tbc, and a.tbc "
+        "otherwise)",
         "rect 1108-1110 160-182 #be185d .disagreement @151-170 (151 to 170: in fields 101 to 140 of a.tbc, and b.tbc "
         "otherwise)"]
