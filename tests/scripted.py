@@ -34,7 +34,7 @@ WRITTEN, NAMED = "python3 texts/write.py --check", "python3 tests/documents.py"
 SCHEMA = "cd tests/unit && /usr/bin/python3 -m pytest -q -x test_schema.py"
 
 
-def script(name, program="$PROGRAM"):
+def script(name, program="$TRIED"):
     return "sh tests/%s.sh %s" % (name, program)
 
 
@@ -85,7 +85,7 @@ def planted(plant):
 
 def environment(folder):
     program = "rust/ldvbi" if (TOP / "rust" / "ldvbi").exists() else "ldvbi"
-    more = {"PROGRAM": program, "STOP_AT_FIRST": "yes", "RUN_SECONDS": "120", "HOME": folder,
+    more = {"TRIED": program, "STOP_AT_FIRST": "yes", "RUN_SECONDS": "120", "HOME": folder,
             "TMPDIR": folder / "tests", "CARGO_TARGET_DIR": folder / "rust" / "out", "CARGO_PROFILE_DEV_OPT_LEVEL": "1",
             "CARGO_PROFILE_DEV_DEBUG": "0", "PYTHONDONTWRITEBYTECODE": "1"}
     more["DIFFERENCES"] = folder / "rust" / "differences.txt" if program.startswith("rust") else ""
