@@ -190,6 +190,11 @@ fn counts_times_from_the_beginning() {
         assert_eq!(index(Place::Time(8, 59, 58, 0)), Some(0));
         assert_eq!(index(Place::Time(8, 59, 59, rate - 1)), Some(4 * rate as usize - 2));
         assert_eq!(index(Place::Time(9, 0, 0, 3)), Some(4 * rate as usize + 6));
+        let early: Vec<_> =
+            (0..20).map(|number| time(0, 0, 0, number)).map(|[one, two]| [one, CLV_MARK, two]).collect();
+        let bytes = draw(system, &early.iter().flat_map(|row| [*row, [0; 3]]).collect::<Vec<_>>());
+        let early = Side::new(&bytes, system, levels()).unwrap();
+        assert_eq!(early.seek(Place::Time(0, 0, 0, 12)).map(|field| field.index), Some(24));
         // What no clock shows counts to none of these, though the sum would.
         for place in [Place::Time(8, 60, 0, 3), Place::Time(8, 59, 60, 3), Place::Time(8, 59, 59, rate)] {
             assert_eq!(index(place), None);
@@ -320,9 +325,12 @@ fn goes_on_to_what_a_capture_has() {
 
 #[test]
 fn a_field_is_told_by_those_around_it() {
-    // Among others, 60 fields without a number or a chapter, and the last chapter of all
-    let mut rows = lacking();
-    rows.splice(30..30, [[0; 3]; 60]);
+    // Of pictures 30 to 49 nothing is read. After lead-out follows the last chapter that there may be.
+    let disc = (0..90).flat_map(|number| match number {
+        30..=49 => [[0; 3]; 2],
+        _ => [[0, picture(number), picture(number)], [0, chapter(number / 60), chapter(number / 60)]],
+    });
+    let mut rows: Vec<_> = disc.chain([[0, 0x80EEEE, 0x80EEEE]; 8]).collect();
     rows.extend((0..40).map(|field| [0, if field < 10 { chapter(79) } else { 0 }, 0]));
     for (system, _, size, ..) in SYSTEMS {
         let bytes = draw(system, &rows);
