@@ -2,6 +2,7 @@
 with a documented status. A fault is one line that names the file, and leaves nothing of what was to be written. The
 same of outputs that take nothing."""
 
+import contextlib
 import html
 import json
 import os
@@ -207,6 +208,16 @@ WRITTEN = ("side.tbc -o", "side.tbc --html", "side.tbc --svg", "side.tbc --map",
            "side.tbc --document -o", "side.tbc --csv -o", "join side.tbc side.vbi.json --html")
 
 
+@contextlib.contextmanager
+def files_of_64_bytes():
+    soft, hard = resource.getrlimit(resource.RLIMIT_FSIZE)
+    resource.setrlimit(resource.RLIMIT_FSIZE, (64, hard))
+    try:
+        yield
+    finally:
+        resource.setrlimit(resource.RLIMIT_FSIZE, (soft, hard))
+
+
 def test_outputs_that_take_nothing(drawn):
     """To a device without room, to nobody, and to a disk on which each file has 64 bytes."""
     drawn.metadata("side.tbc.json", count=12)
@@ -219,12 +230,10 @@ def test_outputs_that_take_nothing(drawn):
                 2, None, "ldvbi-side: standard output: %s\n" % said)
     for words in WRITTEN:
         drawn.refused("/dev/full: " + full, words + " /dev/full")
-    soft, hard = resource.getrlimit(resource.RLIMIT_FSIZE)
-    resource.setrlimit(resource.RLIMIT_FSIZE, (64, hard))
-    drawn.cleanup.callback(resource.setrlimit, resource.RLIMIT_FSIZE, (soft, hard))
     for words in (*(words + " out" for words in WRITTEN), "side.tbc --meta side.db --into out",
                   "scan -j 1 side.tbc --html pages"):
-        status, _, said = drawn.run_command(words)
+        with files_of_64_bytes():
+            status, _, said = drawn.run_command(words)
         shutil.rmtree(drawn.named("pages"), ignore_errors=True)
         assert (status, said.count("\n"), drawn.files()) == (2, 1, before)
         assert re.search("^ldvbi-side: (out|side.db|pages/.*): ", said)
