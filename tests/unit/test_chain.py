@@ -130,6 +130,7 @@ def parsed(text):
 
 
 def test_chains():
+    assert chain([], VIDEO) == []
     for text, wanted in cells_of(CHAINS):
         ones, sure = parsed(text)
         assert " ".join(map(str, believed(ones, sure))) == wanted, text

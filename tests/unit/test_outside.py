@@ -312,3 +312,16 @@ def test_which_are_refused(room):
                 (new, [new, new], []), (again, [new, again], []), (near, [None, near], [side, meta]),
                 (side, [number, side], []), (number, [number], [side])):
             assert reason(outputs.refuse_inputs, written_to, inputs) == (name and IN_PLACE % name)
+
+
+def test_a_process_that_heeds_no_signal_ends_without_its_parts(room):
+    """Once it has had the time that it may take; another one is heeded meanwhile."""
+    part, (ours, theirs) = room.write("part", "old"), os.pipe()
+    handlers = iter((outside._stop, signal.SIG_IGN, signal.SIG_IGN, *[outside._stop] * 100))
+    os.write(theirs, bytes([signal.SIGINT, signal.SIGTERM]))
+    with mock.patch.object(outputs, "_own", [part]), mock.patch.multiple(outside, _UNHEEDED=0.05, _HELD=9), \
+            mock.patch.object(signal, "getsignal", lambda _: next(handlers)), \
+            mock.patch.object(os, "_exit", side_effect=SystemExit) as end, pytest.raises(SystemExit):
+        outside._watch(ours)
+    end.assert_called_once_with(128 + signal.SIGTERM)
+    assert room.names() == []

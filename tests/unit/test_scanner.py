@@ -116,6 +116,8 @@ def test_nested_and_long():
                           ("1, ", '{"a":[' * 62 + '{"a":[]},[]' + "]}" * 62)):
         assert scanned("[%s%s]" % (before, inner), 50)[-1][2] == inner
         assert reason(scanned, "[%s[%s]]" % (before, inner), 50, kind=NotJson) == deep % (1 + len(before))
+    together = Scanner(io.StringIO('[{"a":%s}, {}, {}]' % ("[" * 126 + "]" * 126)))
+    assert reason(lambda: list(together.values()), kind=NotJson) == deep % 1
     many = "[%s]" % ",".join(["[[]]"] * 200)  # none of which is deep
     one = Scanner(io.StringIO(many))
     assert (len(scanned(many, 50)), [one.value() for _ in one.items() for _ in one.items()]) == (200, [[]] * 200)

@@ -401,6 +401,17 @@ def test_captures_that_change_meanwhile(room, monkeypatch, text, change):
     assert {*room.names(), "b.efm"} == names and room.read("out.tbc") == b"old"
 
 
+def test_databases_are_joined_as_texts_are(room):
+    answers = []
+    for form in ("json", "db"):
+        drawn(room, "each lacks others", form)
+        answers.append(room.run_command("join --json a.tbc b.tbc"))
+        for letter in "ab":
+            os.unlink(room.named(letter + ".tbc." + form))
+        assert not told.is_database_at(room.named("a.tbc." + form))
+    assert answers[0][0] == 0 and answers[0] == answers[1]
+
+
 def test_a_failing_disk(room, monkeypatch):
     words = drawn(room, "whole", "db")
     before = room.files()
