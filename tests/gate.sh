@@ -1,8 +1,8 @@
 #!/bin/sh
 # The whole gate, at the top of the repository: every proof, test and stored run by `rt ci`, each wrong body by
 # proofs/wrong_bodies.py, and beside both the scripts on the built program and library, and on the same source, built by
-# cargo, which is compared with what was proved. What was run is compared with the list in git (tests/ran.sh), count by
-# count.
+# cargo, which is compared with what was proved; then a part of the errors that tests/mutants.py plants. What was run is
+# compared with the list in git (tests/ran.sh), count by count.
 #
 # `rt ci` works on a copy without must-fail/, whose edits it would try one at a time, and wrong_bodies.py on another,
 # since the toolchain has a command wait for another one in its folder; a library it takes from another. So the program
@@ -80,6 +80,8 @@ compared sh tests/scripts.sh ./ldvbi || fails 'of the scripts one failed'
 part 'scripts'
 compared sh tests/scripts.sh rust/ldvbi --rust || fails 'of the scripts on the Rust program one failed'
 part 'scripts on the Rust program'
+make mutants PART=0 || fails 'of the planted errors one is not seen'
+part 'a part of the planted errors'
 wait "$tried" || { cat "$work/wrong"; fails 'a wrong body is missing or not refused'; }
 tried=
 cat "$work/wrong"

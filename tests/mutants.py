@@ -43,9 +43,8 @@ REASONS = TOP / "tests" / "mutants.txt"
 # Tests of all that these modules define: the header and texts/classes.txt have the same
 DEFINED_IN, DEFINED = "python/ldvbi/", ("::test_the_header_says_so", "::test_all_that_is_public", "::test_the_classes")
 LEFT_OUT = "__pycache__", ".git", ".venv", "crate", "dist", "ldvbi-mutants-*", "out"  # they aren't copied
-PARTS = 480  # each of about 60 plants
+PARTS = 540  # each of about 60 plants
 FIRST = 40  # tests of a plant, which are run before the others
-MOST = 45  # seconds that the tests of a plant take, and no more are run
 GRACE = 20  # seconds of a processor, besides four times those of its tests, after which a plant is seen, since it hangs
 WAITING = 4  # times as long may pass, for the machine may be busy
 DOUBTED = 1  # seconds: a test that takes longer has to fail twice
@@ -79,12 +78,14 @@ def recorded(names, jobs):
 
 @contextlib.contextmanager
 def room(is_for_python=True):
-    """A copy of the tree, which is another user's if root asks."""
+    """A copy of the tree, and beside it a folder for temporary files, since tests copy the tree. Both are another user's if
+    root asks."""
     with tempfile.TemporaryDirectory(prefix="ldvbi-mutants-") as name:
-        folder = pathlib.Path(os.path.realpath(name))
-        shutil.copytree(TOP, folder, True, shutil.ignore_patterns(*LEFT_OUT), dirs_exist_ok=True)
+        folder = pathlib.Path(os.path.realpath(name), "tree")
+        shutil.copytree(TOP, folder, True, shutil.ignore_patterns(*LEFT_OUT))
+        scripted.temporary(folder).mkdir()
         if os.getuid() == 0:
-            for place, _, names in os.walk(folder):
+            for place, _, names in os.walk(name):
                 for one in (place, *(os.path.join(place, name) for name in names)):
                     os.chown(one, NOBODY, NOBODY, follow_symlinks=False)
         if is_for_python:  # all is compiled
@@ -97,8 +98,8 @@ def confine(folder, seconds=3600):
     """Has this process be one of its own group, without rights, and with bounded memory and seconds."""
     os.setsid()
     resource.setrlimit(resource.RLIMIT_CPU, (seconds, seconds))
-    os.environ.update(HOME=str(folder), TMPDIR=str(folder / "tests"))
-    tempfile.tempdir = str(folder / "tests")
+    tempfile.tempdir = str(scripted.temporary(folder))
+    os.environ.update(HOME=str(folder), TMPDIR=tempfile.tempdir)
     resource.setrlimit(resource.RLIMIT_DATA, (MEMORY, MEMORY))
     if os.getuid() == 0:
         os.setgroups([])
@@ -186,8 +187,11 @@ def work(folder, jobs, seen, connection):
     for plant, tests in jobs:
         if plant.file.startswith("python/"):
             found = tried(folder, plant, ordered(plant, tests, seen))
-        else:
+        elif scripted.is_built(plant.file):
             found = scripted.tried(folder, plant, planted(plant))
+        else:  # a script may leave something behind where a plant has it end too early
+            with room(False) as fresh:
+                found = scripted.tried(fresh, plant, planted(plant))
         if found in tests:
             seen[plant.name] = found
         connection.send((plant, found))
@@ -195,19 +199,14 @@ def work(folder, jobs, seen, connection):
 
 
 def ordered(plant, tests, seen):
-    """The tests of a plant with their seconds, as many as there is time for: the one that saw it before, then those that
-    saw others in its function or, five of them, in its file, then the quickest."""
+    """The tests of a plant with their seconds: the one that saw it before, then those that saw others in its function or,
+    five of them, in its file, then the quickest."""
     function, file = plant.name.partition(": ")[0], plant.file + " "
     near = [[test for name, test in seen.items() if test in tests and is_near(name)] for is_near in (
         plant.name.__eq__, lambda name: name.partition(": ")[0] == function, lambda name: name.startswith(file))]
     near[2] = [test for test, _ in collections.Counter(near[2]).most_common(5)]
-    rows, total = [], 0
-    for test in dict.fromkeys([*near[0], *near[1], *near[2], *sorted(tests, key=tests.get)]):
-        total += tests[test]
-        if total > MOST and rows:
-            break
-        rows.append((test, tests[test]))
-    return rows
+    return [(test, tests[test])
+            for test in dict.fromkeys([*near[0], *near[1], *near[2], *sorted(tests, key=tests.get)])]
 
 
 def side_by_side(jobs, seen, count):

@@ -17,6 +17,7 @@ TURNED = {ast.Lt: (ast.LtE, ast.GtE), ast.LtE: (ast.Lt, ast.Gt), ast.Gt: (ast.Gt
           ast.Eq: (ast.NotEq,), ast.NotEq: (ast.Eq,), ast.Is: (ast.IsNot,), ast.IsNot: (ast.Is,), ast.In: (ast.NotIn,),
           ast.NotIn: (ast.In,)}
 LEFT_OUT = ast.Expr, ast.AugAssign, ast.Raise, ast.Continue, ast.Break, ast.Return, ast.Delete
+IN_ANY_ORDER = "min", "max"  # calls whose arguments are swapped without effect
 FUNCTIONS = ast.FunctionDef, ast.AsyncFunctionDef, ast.Lambda
 
 
@@ -54,7 +55,7 @@ def variants(parent, field, node):
         found.append(ast.BoolOp(ast.Or() if isinstance(node.op, ast.And) else ast.And(), node.values))
         found += [with_other(node, "values", place, ast.Constant(isinstance(node.op, ast.And)))
                   for place in range(len(node.values))]
-    elif isinstance(node, ast.Call):
+    elif isinstance(node, ast.Call) and ast.unparse(node.func) not in IN_ANY_ORDER:
         found += [with_other(with_other(node, "args", place, node.args[place + 1]), "args", place + 1, node.args[place])
                   for place in range(len(node.args) - 1)
                   if not any(isinstance(one, ast.Starred) for one in node.args[:place + 2])]

@@ -7,6 +7,7 @@ import shutil
 import signal
 import subprocess
 import sys
+import tempfile
 
 import planted as python
 import planted_text
@@ -14,6 +15,7 @@ from planted import TOP
 
 NO_PLANT = "no plant"
 NOBODY = 65534  # who runs all where root would: a plant may end processes, or remove files
+MOST_SAID = 4000  # bytes of what a command says that fails where nothing is planted
 LONGEST = 600  # seconds of a command, which is seen to hang then
 PATTERNS = ("Makefile", "README.md", "docs/*.md", "examples/*.*", "examples/rust/**/*.*", "include/*", "packaging/*",
             "rust/hand/Cargo.toml", "rust/hand/build.rs", "rust/hand/src/*.rs", "share/*/*")
@@ -83,27 +85,34 @@ def planted(plant):
     return (python if plant.file.endswith(".py") else planted_text).planted(plant)
 
 
+def temporary(folder):
+    """The folder beside a copy of the tree for temporary files."""
+    return folder.parent / "temporary"
+
+
 def environment(folder):
+    """That of a command. A make within another one would say on standard output which folder it is in."""
     program = "rust/ldvbi" if (TOP / "rust" / "ldvbi").exists() else "ldvbi"
     more = {"TRIED": program, "STOP_AT_FIRST": "yes", "RUN_SECONDS": "120", "HOME": folder,
-            "TMPDIR": folder / "tests", "CARGO_TARGET_DIR": folder / "rust" / "out", "CARGO_PROFILE_DEV_OPT_LEVEL": "1",
+            "TMPDIR": temporary(folder), "CARGO_TARGET_DIR": folder / "rust" / "out", "CARGO_PROFILE_DEV_OPT_LEVEL": "1",
             "CARGO_PROFILE_DEV_DEBUG": "0", "PYTHONDONTWRITEBYTECODE": "1"}
     more["DIFFERENCES"] = folder / "rust" / "differences.txt" if program.startswith("rust") else ""
     asked = ["rustc", "--print", "sysroot"]  # rustup's own commands are where another user may not go
     if shutil.which("rustc"):
         root = subprocess.run(asked, stdout=subprocess.PIPE, text=True, check=False).stdout.strip()
         more["PATH"] = "%s/bin:%s" % (root, os.environ["PATH"])
-    return {**os.environ, **{name: str(value) for name, value in more.items()}}
+    ours = {name: value for name, value in os.environ.items() if not name.startswith(("MAKE", "MFLAGS"))}
+    return {**ours, **{name: str(value) for name, value in more.items()}}
 
 
-def succeeds(folder, command, file):
+def succeeds(folder, command, file, said=subprocess.DEVNULL):
     """Whether a command succeeds in the copy. As nobody, it may read what root may, such as the compiler."""
     words = ["sh", "-c", command]
     if os.getuid() == 0:
         words = ["setpriv", "--reuid=%d" % NOBODY, "--regid=%d" % NOBODY, "--clear-groups",
                  "--inh-caps=+dac_read_search", "--ambient-caps=+dac_read_search", *words]
     with subprocess.Popen(words, cwd=folder, env={**environment(folder), "FILE": file}, stdin=subprocess.DEVNULL,
-                          stdout=subprocess.DEVNULL, stderr=subprocess.DEVNULL, start_new_session=True) as process:
+                          stdout=said, stderr=subprocess.STDOUT, start_new_session=True) as process:
         try:
             return process.wait(LONGEST) == 0
         except subprocess.TimeoutExpired:
@@ -146,11 +155,16 @@ def row_of(file):
 
 
 def is_good(folder, file, command, old):
-    """Whether a command succeeds where nothing is planted."""
+    """Whether a command succeeds where nothing is planted, the second time at least. Else the end of what it says is
+    said."""
     if command not in KNOWN:
         pathlib.Path(folder, file).write_text(old, "utf-8")
         build = row_of(file)[1]
-        KNOWN[command] = (not build or succeeds(folder, build, file)) and succeeds(folder, command, file)
-        if not KNOWN[command]:
-            print("scripted: without a plant this fails: %s" % command, file=sys.stderr, flush=True)
+        with tempfile.TemporaryFile() as said:
+            KNOWN[command] = (not build or succeeds(folder, build, file)) and any(
+                succeeds(folder, command, file, said) for _ in range(2))
+            if not KNOWN[command]:
+                said.seek(max(0, said.tell() - MOST_SAID))
+                print("scripted: without a plant this fails: %s\n%s" % (command, said.read().decode("utf-8", "replace")),
+                      file=sys.stderr, flush=True)
     return KNOWN[command]

@@ -63,6 +63,7 @@ echo "${CRATES:-1} passed, ${FAILED:-0} failed"
 exit "${RT:-0}"
 END
 stub stubs/make << 'END'
+[ "$1" != mutants ] || exit "${MUTANTS:-0}"
 echo "${BUILT:-program}" > ldvbi
 exit "${MAKE:-0}"
 END
@@ -88,7 +89,7 @@ fails_with() {
 }
 check 'the gate passes where nothing is wrong' gate
 for fault in RT=1 FAILED=1 CRATES=2 ENDED=failed MORE=yes MAKE=2 BUILT=another WRONG=1 REFUSED=not BODIES=2 TRIALS=1 \
-    SCRIPTS=1 NEW=1 RUST_SCRIPTS=1; do
+    SCRIPTS=1 NEW=1 RUST_SCRIPTS=1 MUTANTS=1; do
     check "the gate fails with $fault" fails_with "$fault"
 done
 finish

@@ -4,6 +4,7 @@ import contextlib
 import gc
 from typing import Iterator
 
+_FEW = 10000  # objects made meanwhile, which the collector may as well look through
 
 @contextlib.contextmanager
 def paused() -> Iterator[None]:
@@ -14,8 +15,8 @@ def paused() -> Iterator[None]:
         yield
     finally:
         if was_enabled:
-            # so that it doesn't look through all that was made meanwhile at once
-            if hasattr(gc, "freeze") and not gc.get_freeze_count():
+            # so that it doesn't look through all that was made meanwhile at once; to ask what is frozen counts all of it
+            if hasattr(gc, "freeze") and gc.get_count()[0] > _FEW and not gc.get_freeze_count():
                 gc.freeze()
                 gc.unfreeze()
             gc.enable()

@@ -23,7 +23,7 @@ def main(words: Optional[List[str]] = None) -> int:
         finally:
             if words is None:
                 end_by_the_system()
-        gc.freeze()  # as the process ends all is given back, and nobody has to look through it
+                gc.freeze()  # as the process ends all is given back, and nobody has to look through it
         return status
     except KeyboardInterrupt as stop:
         heeded()

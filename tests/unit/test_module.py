@@ -25,6 +25,7 @@ from ldvbi import (complete_times, draw_line, find_clock, find_pace, judge, judg
                    judge_side, judge_stops, judging, library, near, nearest, next_stop, read_field, read_line,
                    read_rows, recover_pile, seek, seek_chapter, seeking, sides, stream, Stream)
 from ldvbi.collector import paused
+from ldvbi_side.__main__ import main
 from ldvbi.samples import Samples
 import pytest
 from room import reason
@@ -79,16 +80,29 @@ def test_the_collector_is_paused():
     gc.unfreeze()
     with paused():
         assert not gc.isenabled()
-        kept = [[] for _ in range(5000)]
+        kept = [[] for _ in range(15000)]
         with paused():
             pass
         assert not gc.isenabled()
-    assert gc.isenabled() and len(kept) > gc.get_count()[0] + 4000 and gc.get_freeze_count() == 0
+    assert gc.isenabled() and len(kept) > gc.get_count()[0] + 14000 and gc.get_freeze_count() == 0
     gc.freeze()
     with paused():
-        pass
+        kept += [[] for _ in range(15000)]
     assert gc.get_freeze_count() > 0
     gc.unfreeze()
+
+
+def test_calls_that_make_little_count_no_objects(monkeypatch):
+    """To count those that are frozen takes as long as there are many."""
+    monkeypatch.setattr(gc, "get_freeze_count", lambda: pytest.fail("counted"))
+    with paused():
+        assert not gc.isenabled()
+
+
+def test_a_program_that_calls_the_command_keeps_its_collector(tmp_path, capsys):
+    """What it has made is still looked through."""
+    gc.unfreeze()
+    assert main([str(tmp_path / "none.json")]) == 2 and gc.get_freeze_count() == 0
 
 
 # ---- Where the library is, and what it has
