@@ -10,15 +10,15 @@
 #
 # Once the program is built, these need no toolchain: `make install PREFIX=DIR` copies it and `ldvbi-side` to DIR/bin,
 # the manual pages, completions, schema, the Python module, documents and examples to DIR/share (below /usr and
-# /usr/local the system's python3 finds the module), and the library with its header to DIR/lib (or LIBDIR) and DIR/include where it is built, too; `make install-lib` installs
-# the library alone; DESTDIR goes before all of them; `make uninstall PREFIX=DIR` takes all of it away; `make wheel`
-# packs the Python module with the library for pip, and `make venv` puts it into a virtual environment, .venv; `make
-# deb` makes a package of Debian's of what is installed; `make check PROGRAM=./ldvbi` runs the gate's scripts on the
-# program; `make dist` packs source and what is built, with checksums (docs/RELEASING.md); `make peers` has other
-# programs read what it reads, and needs mame-tools and libzvbi-dev; `make channel` has the library read simulated lines
-# of worn discs, and needs python3-numpy and python3-scipy. With FROM=rust `install`, `install-lib`, `wheel`, `venv` and
-# `deb` take what `make rust` built. The system's loader finds a library that is installed to /usr/local once `ldconfig`
-# was run as root.
+# /usr/local the system's python3 finds the module), and the library with its header to DIR/lib (or LIBDIR) and
+# DIR/include where it is built, too; `make install-lib` installs the library alone; DESTDIR goes before all of them;
+# `make uninstall PREFIX=DIR` takes all of it away; `make wheel` packs the Python module with the library for pip, and
+# `make venv` puts it into a virtual environment, .venv; `make deb` makes a package of Debian's of what is installed;
+# `make check PROGRAM=./ldvbi` runs the gate's scripts on the program; `make dist` packs source and what is built, with
+# checksums (docs/RELEASING.md); `make peers` has other programs read what it reads, and needs mame-tools and
+# libzvbi-dev; `make channel` has the library read simulated lines of worn discs, and needs python3-numpy and
+# python3-scipy. With FROM=rust `install`, `install-lib`, `wheel`, `venv` and `deb` take what `make rust` built. The
+# system's loader finds a library that is installed to /usr/local once `ldconfig` was run as root.
 
 PREFIX ?= /usr/local
 # Debian's is /usr/lib/x86_64-linux-gnu
@@ -131,7 +131,8 @@ N := 10
 SEED := 1
 rust-compare:
 	COMPARE_RUNS=$(N) COMPARE_SEED=$(SEED) COMPARE_RUNNER="$(RUNNER)" SCRIPT_SECONDS=86400 \
-	    HARNESS_VERBOSE=1 sh tests/scripts.sh rust/$(if $(TARGET),$(TARGET)/)ldvbi$(if $(findstring windows,$(TARGET)),.exe) rust_compare
+	    HARNESS_VERBOSE=1 sh tests/scripts.sh \
+	    rust/$(if $(TARGET),$(TARGET)/)ldvbi$(if $(findstring windows,$(TARGET)),.exe) rust_compare
 
 # What the gate alone needs is installed by `make setup test`.
 setup:

@@ -68,7 +68,8 @@ echo "libldvbi 1 ldvbi (>= $version)" > "$folder/DEBIAN/shlibs"
 echo 'activate-noawait ldconfig' > "$folder/DEBIAN/triggers"
 printf '#!/bin/sh\nset -e\n%s\n' 'py3compile -p ldvbi /usr/share/ldvbi' > "$folder/DEBIAN/postinst"
 # What Python has compiled is no file of the package.
-printf '#!/bin/sh\nset -e\n%s\n' 'find /usr/share/ldvbi -name __pycache__ -prune -exec rm -r {} +' > "$folder/DEBIAN/prerm"
+printf '#!/bin/sh\nset -e\n%s\n' \
+    'find /usr/share/ldvbi -name __pycache__ -prune -exec rm -r {} +' > "$folder/DEBIAN/prerm"
 chmod 755 "$folder/DEBIAN/postinst" "$folder/DEBIAN/prerm"
 (cd "$folder" && find usr -type f -exec md5sum {} + | LC_ALL=C sort -k 2) > "$folder/DEBIAN/md5sums"
 dpkg-deb --root-owner-group -Zxz --build "$folder" "$4/$package" > /dev/null

@@ -12,5 +12,6 @@ def build_wheel(folder, settings=None, metadata=None):
     """Makes the wheel in a folder, and answers its name. Without a library two lines say how to get one."""
     built = [path for path in (os.path.join(TOP, name) for name in LIBRARIES) if os.path.exists(path)]
     if not built:
-        sys.exit("ldvbi: the library isn't built; in %s:\n    make rust && make wheel\n    pip install dist/*.whl" % TOP)
+        sys.exit("ldvbi: the library isn't built; in %s:\n    make rust && make wheel\n"
+                 "    pip install dist/*.whl" % TOP)
     return os.path.basename(make_wheel(built[0], folder))

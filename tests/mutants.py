@@ -69,6 +69,8 @@ def recorded(names, jobs):
                         "not unrecorded", "-q", "--basetemp", folder / "out", *names], cwd=folder / "tests" / "unit",
                        env={**os.environ, **more}, preexec_fn=lambda: confine(folder), stdout=subprocess.DEVNULL,
                        check=False)
+        if not (site / "times").exists():  # none of them is recorded
+            return {}
         lines = coverage.Coverage(config_file=str(site / "rc"))
         lines.combine([str(site)])
         return tests_in(lines.get_data().data_filename(), site / "times", folder)

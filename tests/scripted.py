@@ -52,7 +52,7 @@ ROWS = (
     ("include/ldvbi.h", "", (WRITTEN, NAMED, script("library/library"), script("library/examples"))),
     ("include/", "", (script("library/installed"), script("cli/packaging"))),
     ("Makefile", "make -n places", (script("cli/targets"), script("library/installed"), script("cli/packaging"))),
-    ("packaging/", "", (script("library/installed"), script("cli/packaging"))),
+    ("packaging/", "", (script("library/packed"), script("library/installed"), script("cli/packaging"))),
     ("share/schema/", "", (WRITTEN, SCHEMA, NAMED, script("cli/docs"))),
     ("share/", "", (WRITTEN, script("cli/manual"), NAMED, script("cli/docs"))),
     ("examples/rust/", PROJECT, (script("cli/rust_answers"), script("cli/rust_crate"))),

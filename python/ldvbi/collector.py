@@ -15,7 +15,7 @@ def paused() -> Iterator[None]:
         yield
     finally:
         if was_enabled:
-            # so that it doesn't look through all that was made meanwhile at once; to ask what is frozen counts all of it
+            # so that it doesn't look through all that was made meanwhile at once; to ask what is frozen counts it all
             if hasattr(gc, "freeze") and gc.get_count()[0] > _FEW and not gc.get_freeze_count():
                 gc.freeze()
                 gc.unfreeze()

@@ -33,7 +33,7 @@ _CAUSES_AND_PASSES = re.compile(re.escape(CAUSES).replace("%d", "(%s)" % _NUMBER
 _LEAST_WORD, _GREATEST_WORD = 0x800000, 0xFFFFFF
 _STOP = 0x82CFFF
 _NEAR_STOP = re.compile(r'\{"word":%d,' % _STOP)
-_PIECE = 131072  # characters of records that are taken apart at once
+_PIECE = 1 << 17  # characters of records that are taken apart at once
 _LONGEST, _ = size_of(System.PAL)
 # Of each cause, by its number, the texts by column
 _CAUSES = [["word"], ["blank"], ["unfinished"], ["change %d" % column for column in range(_LONGEST)],

@@ -6,15 +6,15 @@ import math
 import re
 from typing import Any, Iterator, List, Optional, TextIO
 
-PIECE = 262144  # characters
-LONGEST = 268435456  # the characters of a value
+PIECE = 1 << 18  # characters
+LONGEST = 1 << 28  # the characters of a value
 MOST = LONGEST  # those of a text; the program takes no longer metadata
 DEEPEST = 127  # lists and objects, one in the other; the program takes no deeper ones
 
 _SPACE = re.compile(r"[ \t\n\r]*")
 # Several items of a list, up to one that is an object and comes before another; more characters aren't read together
 _SEVERAL = re.compile(r"(.*\}),[ \t\n\r]*(?=\{)", re.DOTALL)
-_TOGETHER = 4096
+_TOGETHER = 1 << 12
 # What may look wrong only because it ends with what has been read: at most an escape of two parts, \ud834\udd1e
 _CUT = 12
 

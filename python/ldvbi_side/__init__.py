@@ -12,8 +12,8 @@ import os
 import sys
 
 # As `python3 -m ldvbi_side`, and in the script ldvbi-side that pip makes, this is the first of the command that Python
-# reads in. Until the command heeds Ctrl-C itself, it ends this without a word of what was being loaded. From Python 3.10
-# on it is known what was asked for by -m.
+# reads in. Until the command heeds Ctrl-C itself, it ends this without a word of what was being loaded. From Python
+# 3.10 on it is known what was asked for by -m.
 if ((sys.argv[:1] == ["-m"] and getattr(sys, "orig_argv", ())[-len(sys.argv):][:1] == [__name__]
      or os.path.basename("".join(sys.argv[:1])) == "ldvbi-side")
         and _signal.getsignal(_signal.SIGINT) == _signal.default_int_handler):

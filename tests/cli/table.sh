@@ -22,7 +22,15 @@ draws_sides() {
     sed -i "s/}}\$/},\"fields\":[${fields%,}]}/" turned.tbc.json
 }
 
+# counted NAME: a check for each of as many as `out` says, so that none gets lost
+counted() {
+    for place in $(seq "$(cat out)"); do check "$1 $place" true; done
+}
+
 # asks PROGRAM..: checks that each of these programs answers all questions of the table that are put to it
 asks() {
-    for one; do check "$one answers as the table has it" does python3 "$tests/cli/answers.py" "$one"; done
+    for one; do
+        check "$one answers as the table has it" does python3 "$tests/cli/answers.py" "$one"
+        counted "$one: question"
+    done
 }

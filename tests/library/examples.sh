@@ -143,6 +143,7 @@ END
 status=0
 bounded python3 "$here/examples.py" < rows > out 2> err || status=$?
 check "examples answer as the table has it" [ "$status" = 0 ]
+counted 'examples: run'
 
 # A player's settings that can't be right
 while read -r settings; do

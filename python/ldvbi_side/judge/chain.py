@@ -24,11 +24,11 @@ LAST = 4  # readings before one that are asked in any case
 LONG = 1000  # readings between two anchors that may be noise, if there are more
 DENSE = 4  # fields to one of these, at most, and of so many one that goes on
 LEAST = price(1)  # that a break costs
-TIE = 9.5367431640625e-07  # of chains that are worth the same the one with more readings is taken
-BACK = 3.814697265625e-06  # and with fewer jumps back
+TIE = 2 ** -20  # of chains that are worth the same the one with more readings is taken
+BACK = 4 * TIE  # and with fewer jumps back
 STILL = 2  # what it costs that numbers begin to stay
 NEVER = -math.inf  # the value of a chain that doesn't begin where it has to
-FEWER = 9.5367431640625e-07  # of breaks that cost as much those of fewer fields are taken
+FEWER = 2 ** -20  # of breaks that cost as much those of fewer fields are taken
 
 
 # ---- The library's numbers

@@ -25,9 +25,9 @@ pub enum OpenError {
 }
 
 impl Side<'static> {
-    /// Maps a TBC file. System, levels and the [fields of padding](Side::with_padding) are those of ld-decode's metadata
-    /// beside it, in JSON: `side.tbc.json` for `side.tbc`. It is read as the program reads it, and is held in memory
-    /// meanwhile.
+    /// Maps a TBC file. System, levels and the [fields of padding](Side::with_padding) are those of ld-decode's
+    /// metadata beside it, in JSON: `side.tbc.json` for `side.tbc`. It is read as the program reads it, and is held in
+    /// memory meanwhile.
     ///
     /// The file stays mapped until the process ends. Nobody may make it shorter before: reading what has gone ends the
     /// process by SIGBUS.
