@@ -250,12 +250,20 @@ for page in ldvbi ldvbi-side; do
     gzip -dc < unpacked_proved/usr/share/man/man1/$page.1.gz > found
     check "the manual of $page" cmp "$top/share/man/$page.1" found
 done
-nm unpacked_proved/usr/bin/ldvbi > found 2> err
-check 'the program is stripped' grep -q 'no symbols' err
-nm unpacked_proved/usr/lib/multiarch/libldvbi.so.2 > found 2> err
-check 'and so is the library' grep -q 'no symbols' err
-readelf -SW unpacked_proved/usr/lib/multiarch/libldvbi.a > found 2> err
-check 'the archive has nothing for a debugger' [ "$(grep -c 'debug_info' found)" = 0 ]
+# A program and a library with all that a debugger wants
+folder known
+echo 'int ldvbi_one(void); int ldvbi_one(void) { return 1; } int main(void) { return 0; }' > one.c
+bounded $cc -g -o known/usr/bin/ldvbi one.c
+bounded $cc -g -shared -fPIC -o known/usr/lib/multiarch/libldvbi.so.2 one.c
+bounded $cc -g -c one.c && rm known/usr/lib/multiarch/libldvbi.a && ar rc known/usr/lib/multiarch/libldvbi.a one.o
+does sh "$top/packaging/make_deb.sh" proved known $version to_known
+bounded dpkg-deb -R to_known/*.deb unpacked_known
+for file in bin/ldvbi lib/multiarch/libldvbi.so.2; do
+    nm unpacked_known/usr/$file > found 2> err
+    check "$file is stripped" grep -q 'no symbols' err
+done
+check 'the archive has names, and nothing for a debugger' [ "$(readelf -sSW unpacked_known/usr/lib/multiarch/libldvbi.a |
+    grep -o 'debug_info\|ldvbi_one$' | sort -u)" = ldvbi_one ]
 folder again
 sleep 1
 does sh "$top/packaging/make_deb.sh" proved again $version to_again
