@@ -272,4 +272,6 @@ folder other
 ! does sh "$top/packaging/make_deb.sh" proved other 0.0.0 to_other
 check 'a version that the change log has not' \
     [ "$status $(cat err) $(ls to_other 2> /dev/null)" = '1 make deb: CHANGELOG.md has no date of version 0.0.0 ' ]
+! does sh "$top/packaging/make_deb.sh" proved absent $version to_absent
+check 'a folder that is not there' [ "$status$(cat out)" = 1 ]
 finish
