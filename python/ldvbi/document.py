@@ -292,9 +292,9 @@ class _KnownCauses(Dict[str, _Lines]):
         match = _CAUSES_AND_PASSES.fullmatch(text)
         if not match:
             raise ValueError("causes and passes aren't as they are written")
-        causes, passes = match.groups()[:3], list(map(int, match.groups()[3:]))
+        passes = list(map(int, match.groups()[3:]))
         packed = [_line(_LEAST_WORD if number else 0, cause, number, self.width, self.version)
-                  for cause, number in zip(causes, passes)]
+                  for cause, number in zip(match.groups(), passes)]
         self[text] = _Lines(bytes(map(bool, passes)), b"".join([one[:4] for one in packed]))
         return self[text]
 

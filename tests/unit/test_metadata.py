@@ -69,7 +69,8 @@ FIELDS = """
     {"fields":[{"pad":true,"isFirstField":true}],"fields":5} | None None None
     {"fields":[{"pad":true}],"other":[{},{}]} | 1 None [True]
     {COUNT12}} | 12 None None || {COUNT0}} | 0 None None || {COUNT-1}} | None None None || {COUNT1.5}} | None None None
-    {COUNTtrue}} | None None None || {COUNT12},"fields":[]} | 12 None None || {COUNT12},"fields":[{},{}]} | 2 None None
+    {COUNTtrue}} | None None None || {COUNT12},"fields":[]} | 12 None None || {COUNT12},"fields":5} | 12 None None
+    {COUNT12},"fields":[{},{}]} | 2 None None
     {} | None None None || [] | None None None || {"fields":5} | None None None || x | None None None
     {"videoParameters":5} | None None None
 """

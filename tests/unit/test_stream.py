@@ -83,8 +83,9 @@ def test_refused(room):
     assert reason(ldvbi.Stream, room.folder, *NTSC, kind=IsADirectoryError) is not None
     assert reason(ldvbi.Stream, absent, "NTSC", 2, 2) == "black is not below white"
     assert reason(ldvbi.Stream, room.path, *NTSC) == room.path + " is no file that can be mapped"
-    assert reason(ldvbi.Stream, b"x" * (LINE - 1), *NTSC) == "1819 bytes are less than a line; a path is a str or a " \
-        "path object, as os.fsdecode makes of bytes"
+    for count in (1, LINE - 1):
+        assert reason(ldvbi.Stream, b"x" * count, *NTSC) == "%d bytes are less than a line; a path is a str or a path " \
+            "object, as os.fsdecode makes of bytes" % count
 
 
 def held(path):
