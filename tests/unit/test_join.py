@@ -88,6 +88,28 @@ def test_together(row, more):
         check_captures(texts[::-1], "abc"[:len(texts)][::-1], members)
 
 
+# Captures, and some of their places: a number with its first and last field, whether one of its fields may be lost or
+# another's, on how many lines it was read, and on how many of these in pass 1. Fields are lost, numbers shown twice, and
+# of the pictures of a side with numbers on both fields a first or a second one isn't read. Fields of words that are set
+# aside count for none, nor has a number that is due lines.
+PLACES = """
+    1..10 3=-/#2/c1 5=-/#3*/? 7=B 9=-/#5*/#5 11=-/#6/#70000 -12 -19
+        | 1 1-2 2/2, 2 3-4 1/1, 3 5-6 1/0, 4 7-8 -1/0, 5 9-10 2/1, 6 11-11? 1/1, 7 12-13 2/2, 10 18-18? 2/2
+    NTSC f1..20 -4 -13:17 | 1 1-2 2/2, 3 5-7 2/2, 4 8-9 2/2, 5 10-11? 2/2, 8 13-14 2/2, 20 43-44 2/2
+    1..9 10x2 11..20 | 10 19-20? 2/2, 10 21-22 2/2 || NTSC f1 2x2 f3..9 | 2 4-5? 2/2, 2 6-7 2/2, 3 8-10 2/2
+    NTSC t0..9 5=-/M/@0:00 | 1 3-4 2/2, 2 5-6 -1/0 || m0x2999 B m1x2999 B m3x3000 | 0 1-3000 1/1, 1 3001-5999 1/1
+    b1..20 5=B 10=B -14 21:22=B 23=B
+        | 2 3-5 2/2, 3 6-6 2/2, 5 9-10 2/2, 7 13-13? 2/2, 8 14-15 2/2, 11 20-21 2/2, 12 22-23 -1/0, 20 38-39 2/2
+"""
+
+
+@pytest.mark.parametrize("text, wanted", cells_of(PLACES))
+def test_places(text, wanted):
+    found = ["%d %d-%d%s %d/%d" % (one.number, one.field, one.last, "?" * (not one.is_whole), one.lines, one.sure)
+             for one in capture_of(made(text, side), "a").places]
+    assert not set(wanted.split(", ")) - set(found)
+
+
 # What may show of which disc a side is: chapters and programme statuses beside numbers; which numbers last two fields,
 # or three; users' codes; and between which numbers its first one is after lead-in, and its last one before lead-out.
 # Field 2n - 1 has picture n, but after lead-in.
