@@ -78,6 +78,18 @@ def planned(text):
     return plan(sources, Wanted(**wanted)), sources
 
 
+def check_members(found, why=None):
+    """What a plan says of its numbers is as its stretches have them."""
+    padded, taken, unsure = ({number for one in found.stretches if is_so(one) for number in one.numbers()}
+                             - {*found.left_out} for is_so in (
+                                 lambda one: one.source is None, lambda one: one.source is not None,
+                                 lambda one: one.how == UNSURE))
+    assert (found.padded, found.partial, found.unsure) == (
+        sorted(padded - taken), sorted(padded & taken), sorted(unsure)), why
+    assert {*found.first_field} <= padded | taken, why  # of film what is unread has none
+    assert found.fields == sum(one.fields for one in found.stretches), why
+
+
 def member(found, name):
     """A member of a plan as a text; 5@ is the field in which 5 begins."""
     if name.endswith("@"):
@@ -96,8 +108,9 @@ def test_plans(why, sides, wanted, members):
         return
     assert stretches_text(found) == wanted, why
     refuse_wrong(found, sources)
+    check_members(found, why)
     numbers = {number for one in found.stretches for number in one.numbers()} - {*found.left_out}
-    assert numbers - {*found.padded} <= {*found.first_field} <= numbers, why
+    assert numbers - {*found.padded} <= {*found.first_field}, why
     for one in members.split():
         name, value = re.fullmatch(r"(\w+@|\w+)=?(\S*)", one).groups()
         assert member(found, name) == value, (why, name)
@@ -136,6 +149,7 @@ class Drawn:
         """How many stretches show another picture than they say, how many of these are said to be unsure, and how many
         pictures are padding that a capture has in full."""
         counts = Counter(sets=1)
+        check_members(found)
         refuse_wrong(found, self.sources)
         for one in found.stretches:
             if one.source is None:
@@ -192,6 +206,7 @@ def test_random_sets(seed):
         sources.append(Source(capture_of(read, str(place)), Facts(
             read.first, [at % PHASES[system] + 1 for at in one.order])))
     found = plan(sources, Wanted(one_side=True, most_padding=1 << 30))
+    check_members(found)
     refuse_wrong(found, sources)
     places = [None if one.source is None else ones[one.source].order[one.field - 1 + step]
               for one in found.stretches for step in range(one.fields)]
