@@ -89,9 +89,9 @@ def test_together(row, more):
 
 
 # Captures, and some of their places: a number with its first and last field, whether one of its fields may be lost or
-# another's, on how many lines it was read, and on how many of these in pass 1. Fields are lost, numbers shown twice, and
-# of the pictures of a side with numbers on both fields a first or a second one isn't read. Fields of words that are set
-# aside count for none, nor has a number that is due lines.
+# another's, on how many lines it was read, and on how many of these in pass 1. Fields are lost, numbers shown twice,
+# and of the pictures of a side with numbers on both fields a first or a second one isn't read. Lines with words that are
+# set aside count for none, and a number that is due has none.
 PLACES = """
     1..10 3=-/#2/c1 5=-/#3*/? 7=B 9=-/#5*/#5 11=-/#6/#70000 -12 -19
         | 1 1-2 2/2, 2 3-4 1/1, 3 5-6 1/0, 4 7-8 -1/0, 5 9-10 2/1, 6 11-11? 1/1, 7 12-13 2/2, 10 18-18? 2/2
@@ -173,31 +173,44 @@ def test_texts():
         "lacking in all: none", "disagreements: none", "as one file: yes"]
 
 
-# What is asked, captures, and whether they are whole together, whichever comes first: at an open end, if lead-out has
-# to be seen, by a strict judge, or with a given last number. Each may fill what the other lost. A picture of which both
-# lost another field isn't whole. One that is whole alone says it all. A time that the clock may have left out is so in
-# both.
+# What is asked, captures, and whether they are whole together, whichever comes first, with the words of the reasons: at
+# an open end, if lead-out has to be seen, by a strict judge, or with a given last number. Each may fill what the other
+# lost. A picture of which both lost another field isn't whole. One that is whole alone says it all. A time that the
+# clock may have left out is so in both.
 WHOLE = """
-    open | 1..40 -41:46 ; 1..40 -61:62 | yes || open | 1..40 -42 ; 1..40 -42 | no: 1 picture lacks fields (21)
-    open | 1..10 21..40 ; 1..10 21..40 | no: 10 pictures lost; .. || open | 1..40 ; 1..20 Lx5 1..20 | yes
-    open | 5..40 ; 7..44 | no: begins at picture 5 || open | 5..40 ; 1..9 | yes
-    open | 1..15 ; 1..20 Lx5 1..20 | no: b: lead-in again in field 41 (two sides joined)
-    open | 1..10 Bx20 ; 21..40 | can't tell: 10 pictures may have another's field (11 to 20)
-    open | NTSC t0..59!31 ; NTSC t0..59!31 | can't tell: in all of them fields may be lost at the same place
-    open | NTSC t0..59!31 ; NTSC t0..59!41 | yes || open | m0..1x3000 ; m0..1x3000 | can't tell: no minute is between ..
-    open | NTSC t3..39 ; NTSC t3..39 | can't tell: numbers before time 0:00:00.03 may be lost
-    open | 1..40 -41:46 Bx150 ; 1..40 -71:72 Bx150 | can't tell: numbers after picture 40 may be lost
-    end | 1..40 -41:46 O ; 1..40 -61:62 | yes || end | 1..40 -41:46 ; 1..40 -61:62 | can't tell: no lead-out after ..
-    strict | L 1..40 -42:47 ; 1..40 -61:62 O | yes || strict | L 1..40 42=? O ; 1..40 41=? | no: 1 picture unread
-    strict | L 1..40 42=? O ; 1..40 | yes || strict | 1..40 -41:46 ; 1..40 -61:62 | no: no lead-in; no lead-out after ..
-    42 | 1..40 ; 1..38 | no: 2 pictures lost || 42 | 1..40 Bx4 ; 1..38 | can't tell: 2 pictures undecided
-    40 | 1..40 -41:46 ; 1..40 -61:62 | yes || 38 | 1..40 ; 1..38 | can't tell: a: it ends at 40, after 38 that was ..
-    0:00:34 | NTSC t0..1019!31%100 ; NTSC t0..99 | no: 1 time lost; .. || 5 | t0..39 ; t0..9 | can't tell: no lead-..
+    open | 1..40 -41:46 ; 1..40 -61:62 | - | yes
+    open | 1..40 -42 ; 1..40 -42 | lost | no: 1 picture lacks fields (21)
+    open | 1..10 21..40 ; 1..10 21..40 | missing, unsure | no: 10 pictures lost; 1 picture may have another's field (10)
+    open | 1..40 ; 1..20 Lx5 1..20 | - | yes || open | 5..40 ; 1..9 | - | yes
+    open | 5..40 ; 7..44 | begins | no: begins at picture 5
+    open | 1..15 ; 1..20 Lx5 1..20 | joined | no: b: lead-in again in field 41 (two sides joined)
+    open | 1..10 Bx20 ; 21..40 | unsure | can't tell: 10 pictures may have another's field (11 to 20)
+    open | NTSC t0..59!31 ; NTSC t0..59!31 | open | can't tell: in all of them fields may be lost at the same place
+    open | NTSC t0..59!31 ; NTSC t0..59!41 | - | yes || open | 1 ; 1 | numbers | can't tell: too few numbers to judge by
+    open | m0..1x3000 ; m0..1x3000 | minutes | can't tell: no minute is between two others
+    open | NTSC t3..39 ; NTSC t3..39 | ends | can't tell: numbers before time 0:00:00.03 may be lost
+    open | 1..40 -41:46 Bx150 ; 1..40 -71:72 Bx150 | ends | can't tell: numbers after picture 40 may be lost
+    open | 1..20 Bx120 81..100 ; 1..20 Bx120 81..100 | unseen | can't tell: no number in fields 40 to 160
+    open | 1..20 Bx120 81..100 -5:6 ; 1..100 -11:12 | - | yes
+    open | 1..40 t0..4 -9:12 ; 1..40 -41:44 | format | no: a: codes of CLV in 10 fields, from field 77 on
+    end | 1..40 -41:46 O ; 1..40 -61:62 | - | yes
+    end | 1..40 -41:46 ; 1..40 -61:62 | lead-out | can't tell: no lead-out after picture 40
+    end | 1..40 -41:46 ; 1..38 -5:6 O | unsure, lead-out
+        | can't tell: 1 picture may have another's field (40); no lead-out after picture 40
+    strict | L 1..40 -42:47 ; 1..40 -61:62 O | - | yes || strict | L 1..40 42=? O ; 1..40 | - | yes
+    strict | L 1..40 42=? O ; 1..40 41=? | unread | no: 1 picture unread
+    strict | 1..40 -41:46 ; 1..40 -61:62 | lead-in, lead-out | no: no lead-in; no lead-out after picture 40
+    42 | 1..40 ; 1..38 | missing | no: 2 pictures lost || 40 | 1..40 -41:46 ; 1..40 -61:62 | - | yes
+    42 | 1..40 Bx4 ; 1..38 | undecided | can't tell: 2 pictures undecided
+    38 | 1..40 ; 1..38 | last | can't tell: a: it ends at 40, after 38 that was given as the last
+    0:00:34 | NTSC t0..1019!31%100 ; NTSC t0..99 | missing, unsure
+        | no: 1 time lost; 1 time may have another's field (0:00:33.29)
+    5 | t0..39 ; t0..9 | lead-out, last | can't tell: no lead-out after time 0:00:01.14; ..
 """
 
 
-@pytest.mark.parametrize("asked, texts, wanted", cells_of(WHOLE))
-def test_whole_together(asked, texts, wanted):
+@pytest.mark.parametrize("asked, texts, words, wanted", cells_of(WHOLE))
+def test_whole_together(asked, texts, words, wanted):
     ones = []
     for text in texts.split(" ; "):
         ones.append(made(text, side))
@@ -205,9 +218,9 @@ def test_whole_together(asked, texts, wanted):
         ones[-1].given_last = asked if asked[0].isdigit() else None
     captures_of = [capture_of(one, name) for one, name in zip(ones, "ab")]
     for found in (join(captures_of), join(captures_of[::-1])):
-        said = next(joined_text(found))
-        head = "together: whole: " + wanted
-        assert said.startswith(head[:-2]) if wanted.endswith("..") else said == head
+        said = next(joined_text(found))[len("together: whole: "):]
+        assert said.startswith(wanted[:-2]) if wanted.endswith("..") else said == wanted
+        assert ", ".join(one.why for one in found.reasons) == words.strip("-")
         assert found.whole == wanted.split(":")[0]
 
 
