@@ -90,8 +90,8 @@ def test_together(row, more):
 
 # Captures, and some of their places: a number with its first and last field, whether one of its fields may be lost or
 # another's, on how many lines it was read, and on how many of these in pass 1. Fields are lost, numbers shown twice,
-# and of the pictures of a side with numbers on both fields a first or a second one isn't read. Lines with words that are
-# set aside count for none, and a number that is due has none.
+# and of the pictures of a side with numbers on both fields a first or a second one isn't read. Lines with words that
+# are set aside count for none, and a number that is due has none.
 PLACES = """
     1..10 3=-/#2/c1 5=-/#3*/? 7=B 9=-/#5*/#5 11=-/#6/#70000 -12 -19
         | 1 1-2 2/2, 2 3-4 1/1, 3 5-6 1/0, 4 7-8 -1/0, 5 9-10 2/1, 6 11-11? 1/1, 7 12-13 2/2, 10 18-18? 2/2
