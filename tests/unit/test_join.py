@@ -236,6 +236,10 @@ def test_chapters_and_stops_together():
         ("stop", 11, 22, 11, "read", "b")]
     assert chapters_text("PAL", joined_spans(found), "x.txt") == (
         "0.020000\t0.620000\tChapter 1\n0.620000\t1.600000\tChapter 2\n")
+    # what stands before the first field of 1 in a is in that of b
+    assert together("-/c1/c1 1..40 3:81/2=-/c1/c1 62=?/#31/#31", "1..40 2:80/2=-/c1/c1").chapters == [
+        (1, 1, "b", 1, 1, 1)]
+    assert together("S/-/- 1..40 62=?/#31/#31", "1..40").stops == [(1, "b", 1, 1, "read")]
     assert together("1..9", "B 1..9 1:9=B").stops == []
     worn = together("1..9 3=S^/#2/#2 5=S^/#3/#3 7=S/#4/#4 -11:14", "1..9 3=S^/#2/#2 5=S/#3/#3 7=S^/#4/#4")
     assert [row for row in joined_rows(worn, ()) if row[0] == "stop"] == [
