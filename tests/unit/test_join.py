@@ -40,6 +40,8 @@ NAMES = {
     "CUT": "NTSC f1..60 61..90 f91..120",
     "CHAPTERS": "1..40 2:30/2=-/c1/c1 32:80/2=-/c2/c2"}
 
+JOINS = list(table_in(os.path.join(os.path.dirname(__file__), "joins.txt")))
+
 
 @functools.lru_cache(maxsize=None)
 def capture(text):
@@ -80,7 +82,7 @@ def check_captures(texts, names, members):
         assert wanted in lines if name == "says" else wanted == told(known, name)
 
 
-@pytest.mark.parametrize("row, more", table_in(os.path.join(os.path.dirname(__file__), "joins.txt")))
+@pytest.mark.parametrize("row, more", JOINS, ids=["%d %s" % (at, row[0]) for at, (row, _) in enumerate(JOINS, 1)])
 def test_together(row, more):
     texts, members = row[1].split(" ; "), row[2:]
     check_captures(texts, "abc", members)
