@@ -1,17 +1,18 @@
 """Captures of a drawn disc as TBC files, in which each field has its place on the disc in its samples, its sound and
-its metadata; what `write` makes of them, compared with that; and how captures lose, repeat and swap fields."""
+its metadata; what `write` makes of them, compared with that; how captures lose, repeat and swap fields; and cases."""
 
 import json
 import os
 import sqlite3
 import struct
 
+from discs import LEAD_IN, LEAD_OUT, pictures, times
 import ldvbi
 from ldvbi_side.write.sources import PHASES
 from ldvbi_side.write.told import base_of
-from streams import NTSC, PAL
+import streams
 
-SETUPS = {"NTSC": NTSC, "PAL": PAL}
+SETUPS = {"NTSC": streams.NTSC, "PAL": streams.PAL}
 MARK = 0xA5A5  # before a field's place, on a line of its picture
 PLACE_LINE = 99
 FURTHER = {"syncConf": 90, "medianBurstIRE": 17.5, "decodeFaults": 3}  # of each field; padding has 0
@@ -123,6 +124,64 @@ def _draw_database(path, parameters, entries):
         database.execute("INSERT INTO drop_outs VALUES (1, ?, 40, ?, 200)", (at, one["dropOuts"]["startx"][0]))
     database.commit()
     database.close()
+
+
+# ---- Cases
+
+LEAD = [LEAD_IN] * 6
+
+
+def disc(rows, system="NTSC"):
+    return Disc(LEAD + rows + [LEAD_OUT] * 6, system)
+
+
+VIDEO, PAL = disc(pictures(range(1, 25))), disc(pictures(range(1, 25)), "PAL")
+FILM = disc(pictures(range(1, 21), 1))
+SECOND = Disc([LEAD_IN] * 7 + pictures(range(1, 15)) + [LEAD_OUT] * 6)  # pictures begin with second fields
+TIMES = disc(times(range(20), 25), "PAL")
+
+
+def inside(one):
+    """The places of a disc that are of its numbers."""
+    return list(range(6 + len(one.words) % 2, len(one.words) - 6))
+
+
+def lost(one, *spans):
+    """The fields of a capture that lost so many from each of these numbers on, or from a field after its first."""
+    return losing(one.order, *((one.at[number] + step, count) for number, step, count in spans))
+
+
+# Of each case its disc, and the captures: the orders of their fields, and what draw takes besides; and what is padding
+CASES = {
+    "whole": (VIDEO, [(VIDEO.order, {})], []),
+    "pictures lost": (VIDEO, [(lost(VIDEO, (9, 0, 6)), {})], range(VIDEO.at[9], VIDEO.at[9] + 6)),
+    "each lacks others": (VIDEO, [(lost(VIDEO, (9, 0, 6)), {}), (lost(VIDEO, (15, 0, 5)), {"jitter": 1})], []),
+    "a first field": (VIDEO, [(lost(VIDEO, (9, 0, 1)), {})], [VIDEO.at[9]]),
+    "a second field": (VIDEO, [(lost(VIDEO, (9, 1, 1)), {})], [VIDEO.at[9] + 1]),
+    "both": (VIDEO, [(lost(VIDEO, (9, 1, 2)), {})], [VIDEO.at[9] + 1, VIDEO.at[10]]),
+    "a still": (VIDEO, [(standing(VIDEO.order, VIDEO.at[9], 5), {})], []),
+    "a field twice": (VIDEO, [(standing(VIDEO.order, VIDEO.at[9] + 1, 2, 1), {})], []),
+    "swapped fields": (VIDEO, [(swapping(VIDEO.order, VIDEO.at[9]), {})], []),
+    "back": (VIDEO, [(going_back(VIDEO.order, VIDEO.at[15], VIDEO.at[8]), {})], []),
+    "ahead, filled": (VIDEO, [(lost(VIDEO, (9, 0, 20)), {}), (VIDEO.order[:VIDEO.at[21]], {})], []),
+    "unread": (VIDEO, [(VIDEO.order, {"unread": range(VIDEO.at[9], VIDEO.at[12])})], []),
+    "unread at the ends": (VIDEO, [(VIDEO.order, {"unread": [*range(6, 8), *range(52, 54)]})], []),
+    "worse": (VIDEO, [(VIDEO.order, {"worse": range(VIDEO.at[4], VIDEO.at[9])}), (VIDEO.order, {"jitter": 1})], []),
+    "second fields": (SECOND, [(SECOND.order, {})], []),
+    "PAL, eight fields": (PAL, [(lost(PAL, (9, 0, 8)), {})], range(PAL.at[9], PAL.at[9] + 8)),
+    "film": (FILM, [(lost(FILM, (9, 0, 7)), {})], range(FILM.at[9], FILM.at[9] + 7)),
+    "film, a still without a number": (FILM, [(standing(FILM.order, FILM.at[11] + 1, 4), {})], []),
+    "film, a third field": (FILM, [(lost(FILM, (9, 2, 1)), {})], [FILM.at[9] + 2]),
+    "film, filled": (FILM, [(lost(FILM, (9, 1, 7)), {}), (lost(FILM, (15, 0, 4)), {"jitter": 1})], []),
+    "times": (TIMES, [(losing(TIMES.order, (16, 6)), {})], range(16, 22))}
+
+
+def drawn(room, name, form="json", **known):
+    """The captures of a case; the answer is the words that write them."""
+    one, captures, _ = CASES[name]
+    for letter, (order, more) in zip("abc", captures):
+        draw(room.named(letter + ".tbc"), one, order, form=form, **more, **known)
+    return "write out.tbc " + " ".join(letter + ".tbc" for letter in "abc"[:len(captures)])
 
 
 # ---- What was written

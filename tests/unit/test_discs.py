@@ -41,6 +41,7 @@ TABLE = """
     two discs | USERS 1..40 ; 83D0A2/-/- 1..40 ; 83D0A2/-/- 1..40 ; USERS 1..40
         | a d by users' code, b c by users' code
     two sides in one file | USERS 1..40 Ox2 Lx2 1..40 Ox2 ; USERS 1..40 | none
+    three, each tied to both others | USERS 1..40 ; USERS 1..40 ; USERS 1..40 | a b c by users' code
     one that ties two which differ | USERS 1..40 O ; USERS 1..60 O ; USERS 1..20 | a c by users' code
 """
 

@@ -1,12 +1,14 @@
 """Several captures of one side: what they have together, which one each number is taken from, which one shows it
-better, and where they disagree about a number; the same of random sets of captures; and the command `join`."""
+better, and where they disagree about a number, by rows of joins.txt; the same of random sets of captures; and the
+command `join`."""
 
 import functools
 import json
+import os
 import re
 from collections import Counter
 
-from compact import cells_of, made, span, words_of
+from compact import cells_of, made, span, table_in, words_of
 from discs import side
 from ldvbi_side.command.chapters import chapters_text, joined_spans
 from ldvbi_side.command.join import joined_text, NOTHING_SHOWS
@@ -37,95 +39,8 @@ NAMES = {
     # 64 is 6 fields on, and in the whole side 8
     "CUT": "NTSC f1..60 61..90 f91..120",
     "CHAPTERS": "1..40 2:30/2=-/c1/c1 32:80/2=-/c2/c2"}
-# Why it is so, captures, and what is said of them, whichever comes first. Field 2n - 1 has picture n.
-EITHER = """
-    what each has | ONE ; OTHER | alone b 21-23 3, a 31 1 | better b 2-4 3, a 5-6 2, a 8 1, b 20 1, a 30 1
-        | alike 1 1, 7 1, 9-19 11, 24-29 6, 32-40 9 | @2 b 3 2 read | @5 b 9 5 read | @20 b 39 20 read
-        | says better in b: 4 (pictures 2 to 4, picture 20)
-        | says alike: 28 (picture 1, picture 7, pictures 9 to 19, pictures 24 to 29 and 1 more)
-    shown again, and worse at first | 1..30 11..40 31=-/#16*/- ; 1..40 | alone | better | alike 1-40 40
-    due is less than any line | 1..40 7=? ; 1..40 7=-/?/#4* | better b 4 1
-    pass 1 is more than recovered | 1..40 7=-/?/#4 ; 1..40 7=-/?/#4^ | better a 4 1
-    pass 2 isn't | 1..40 7=-/?/#4* ; 1..40 7=-/?/#4^ | better || at last | 1..40 -80 ; 1..40 79=-/#40/- | better b 40 1
-    two lines are more than one of pass 1 | 1..40 3=-/#2*/#2* ; 1..40 3=-/#2/- | better a 2 1
-    line 16 isn't the number's | 1..40 3=#2/#2/- ; 1..40 3=-/#2*/#2* | better b 2 1
-    and than fewer bad lines nearby | 1..40 61=?/#31/#31 ; 1..40 51=-/#26*/#26 | better a 26 1
-    a picture that has lost a field comes last: the one before 24 may be of 21, 22 or 23
-        | 1..40 -42 -42:45 ; 1..40 41=-/-/#21* | better b 21 1 | alone b 22-23 2
-    seconds count | t100..139 ; t100..139 21.16=s4.10* | better a 0:00:04.10 1
-    better than both others | 1..40 3=-/#2*/- ; 1..40 3=-/#2/- 5=? ; 1..39 3=-/#2*/- | better b 2 1
-    another part | 1..10 ; 21..40 | missing 11-20 10 lost | says lacking in all: 10 (pictures 11 to 20 lost)
-    fields after the last number or before the first may have others | 1..10 Bx20 ; 21..40 | missing
-        | says as one file: can't tell: 10 pictures may have another's field (11 to 20)
-    as many | 1..10 Bx4 O ; Lx9 Bx5 61..80 | missing 13-57 45 lost, 58 1 undecided
-        | says together: pictures 1 to 80, 45 lost, 1 undecided
-        | says as one file: no: 46 pictures are padding (13 to 58); 5 pictures may have another's field (10 to 12, 59 to
-        60)
-    minutes | n0..1x3000 Bx3000 ; n4x3000 | missing 0:02 1 undecided, 0:03 1 lost
-    what one has a field for isn't missing | 1..40 29=C ; 1..40 -29:30 | missing | lacks
-    nor lacking in the other | 1..40 9=C -29:30 ; 1..40 9=C -29:30 | missing 15 1 lost | lacks
-    what is due isn't missing | 1..40 29=B ; 1..40 -29:30 | missing | says together: pictures 1 to 40, none lost
-    the clock | SOME ; SOME | missing | disagreements | says skipped by the disc itself: 5
-    it leaves out 0:00:00.07 | SOME -1:38 ; SOME | lacks a 0:00:00.00-0:00:00.19 19 b
-    a detour | DETOUR ; 1..100 | says disagreements: 1 (pictures 151 to 170 in fields 101 to 140 of a, where b has
-        pictures 51 to 70 in fields 101 to 140)
-    a long one | RUN ; RUN | disagreements || of another | RUN ; 1..62 | says disagreements: 1 (pictures 5 to 42 in
-        fields 21 to 96 of a, where b has pictures 11 to 48 in fields 21 to 96)
-    what the clock leaves out of one | SOME ; NTSC t0..999 | says disagreements: 1 (time 0:00:00.07 skipped by the disc
-        itself in fields 13 to 15 of a, and shown in fields 15 to 16 of b)
-    a skip | 1..50 31..100 ; 1..100 | disagreements || a way back | 1..50 71..100 ; 1..100 | disagreements
-    a still | 1..20 21x6 22..100 ; 1..100 | disagreements || a loss | 1..100 -41 ; 1..100 | disagreements
-    swapped | 1..100 ~41 ; 1..100 | disagreements || another speed | 1..30 32..69/2 69..100 ; 1..100 | disagreements
-    a detour at another speed | 1..50 170..151 71..100 ; 1..100 | disagreements
-    a number on both fields, of which each reads another one
-        | b1..80 2=B 82:160/4=B 83:160/4=B ; b1..80 1=B 81:160/4=B 84:160/4=B | disagreements
-    one chapter | 1..40 2:80/2=-/c1/c1 ; 1..40 2:80/2=-/c1/c1 | shownBy
-    ten numbers | CHAPTERS ; 12..21 2:8/2=-/c1/c1 10:20/2=-/c2/c2 | shownBy chapter
-    nine | CHAPTERS ; 13..21 2:6/2=-/c1/c1 8:18/2=-/c2/c2 | shownBy
-    ten others | CHAPTERS ; 1..40 2:30/2=-/c1/c1 32:60/2=-/c2/c2 62:80/2=-/c3/c3 | shownBy
-    a programme status | t0..39 ; t30..69 | shownBy programme status
-    another | 83D0A1/-/- 1..40 ; 83D0A2/-/- 1..40 | shownBy
-    one by another | 83D0A1/-/- 1..40 ; 83D0A2/-/- 41..60 ; 83D0A1/-/- 83D0A2/-/- 61..80 | shownBy users' code
-    one by none | 83D0A1/-/- 1..40 ; 83D0A1/-/- 1..40 ; 1..40 | shownBy
-    by different ones | CHAPTERS 83D0A1/-/- ; 83D0A1/-/- 41..60 ; CHAPTERS | shownBy chapter, users' code
-    other chapters of half | CHAPTERS ; 1..40 2:30/2=-/c1/c1 32:40/2=-/c2/c2 42:80/2=-/c3/c3 | shownBy
-    of nine | CHAPTERS ; 32..59 2:56/2=-/c5/c5 | shownBy
-    film and video, nine times | NTSC f1..19 ; NTSC 1..40 | shownBy
-"""
-# The same of captures in this order
-IN_ORDER = """
-    of a still the last one | 1..20 21x4 22..40 ; 1..10 | @21 a 47 24 read
-    alike | 1..40 -42 ; 1..40 -42 | @21 a 41 21 read || due | 1..40 7=B ; 1..40 7=B | @4 a 7 4 neighbours
-    shown again | 1..30 11..40 31=-/#16*/- ; 1..20 | @16 a 71 36 read | @17 a 73 37 read
-    fewer bad lines nearby | 1..30 11..40 33.16=? ; 1..10 | @16 a 71 36 read
-    the first one | 1..40 ; 1..40 ; 1..40 | ranges 1-40 a 1-80 || film | NTSC f1..20 ; NTSC f1..2 | ranges 1-20 a 1-50
-    one that begins with a second field | PAL/1 1..40 -1 ; 1..10 | @1 b 1 1 read | @2 a 2 1 read
-    fewer bad lines | 1..80 101=?/#51/#51 ; 1..80 | ranges 1-80 b 1-160
-    each has lost others | 1..40 -61:62 ; 1..40 -41:46 | ranges 1-23 a 1-46, 24-40 b 41-74 | says as one file: yes
-    a field lost | 1..40 -42 ; 1 | ranges 1-21 a 1-41, 22-39 a 42-77, 40 a 78-79 || at the end | 1..40 -80 ; 1
-        | ranges 1-40 a 1-79 | says as one file: no: 1 picture lacks fields (40)
-    numbers on both fields | b1..10 ; b1..20 | ranges 1-20 b 1-40
-    of which the second one alone is read | b1..20 39=B Bx4 ; b1 | ranges 1-20 a 1-40
-    minutes | m59x3000 ; m58..59x3000 | ranges 0:58-0:59 b 1-6000
-    two sides | 1..20 Lx5 1..20 ; 1..20 | says as one file: refused: a: lead-in or lead-out stands between its numbers:
-        two sides? (--one-side says that it is one)
-    halves that meet, unread | 1..20 Bx6 ; Bx6 21..40 | missing
-    a copy | 1..20 -31:32 ; 1..20 -31:32 | missing 16 1 lost
-    what the clock leaves out | SOME ; SOME | ranges 0:00:00.00-0:02:29.29 a 1-8990
-    numbers of a detour are taken elsewhere | DETOUR ; 1..100 ; 121..180 | @151 c 61 31 read
-        | ranges 1-100 b 1-200, 121-180 c 1-120
-    a distance | CUT ; NTSC f1..120 | says disagreements: 1 (pictures 64 to 120 in fields 157 to 285 of a and fields 159
-        to 300 of b, further from those before them in one than in the other)
-    up to a loss | CUT ; NTSC f1..120 -201:225 | says disagreements: 1 (pictures 64 to 80 in fields 157 to 190 of a and
-        fields 159 to 200 of b, further from those before them in one than in the other)
-    PAL and NTSC | 1..40 ; 1..40 ; NTSC 1..40 | refused a has pictures of PAL, c has pictures of NTSC: two discs?
-    most chapters | CHAPTERS ; 1..40 2:30/2=-/c1/c1 32:80/2=-/c3/c3
-        | refused a and b differ in the chapter of 25 of 40 numbers (at 16 it is 2 and 3): two discs?
-    other numbers | 1..40 ; t0..29 | refused a has pictures of PAL, b has times of PAL: two discs?
-    ten of three fields | NTSC f1..20 ; NTSC 1..20 | refused a has pictures of film, b has pictures of video: two discs?
-    on both | NTSC b1..20 ; NTSC f1..20 | refused b has pictures of film, a has pictures of video: two discs?
-    no numbers | 1..40 ; B | refused b has no numbers to join || at first | B ; 1..40 | refused a has no numbers to join
-"""
+
+JOINS = list(table_in(os.path.join(os.path.dirname(__file__), "joins.txt")))
 
 
 @functools.lru_cache(maxsize=None)
@@ -167,16 +82,34 @@ def check_captures(texts, names, members):
         assert wanted in lines if name == "says" else wanted == told(known, name)
 
 
-@pytest.mark.parametrize("name, ones, members", ((name, ones, members) for name, ones, *members in cells_of(EITHER)))
-def test_either_first(name, ones, members):
-    texts = ones.split(" ; ")
+@pytest.mark.parametrize("row, more", JOINS, ids=["%d %s" % (at, row[0]) for at, (row, _) in enumerate(JOINS, 1)])
+def test_together(row, more):
+    texts, members = row[1].split(" ; "), row[2:]
     check_captures(texts, "abc", members)
-    check_captures(texts[::-1], "abc"[:len(texts)][::-1], members)
+    if more["either"]:
+        check_captures(texts[::-1], "abc"[:len(texts)][::-1], members)
 
 
-@pytest.mark.parametrize("name, ones, members", ((name, ones, members) for name, ones, *members in cells_of(IN_ORDER)))
-def test_in_this_order(name, ones, members):
-    check_captures(ones.split(" ; "), "abc", members)
+# Captures, and some of their places: a number with its first and last field, whether one of its fields may be lost or
+# another's, on how many lines it was read, and on how many of these in pass 1. Fields are lost, numbers shown twice,
+# and of the pictures of a side with numbers on both fields a first or a second one isn't read. Lines with words that
+# are set aside count for none, and a number that is due has none.
+PLACES = """
+    1..10 3=-/#2/c1 5=-/#3*/? 7=B 9=-/#5*/#5 11=-/#6/#70000 -12 -19
+        | 1 1-2 2/2, 2 3-4 1/1, 3 5-6 1/0, 4 7-8 -1/0, 5 9-10 2/1, 6 11-11? 1/1, 7 12-13 2/2, 10 18-18? 2/2
+    NTSC f1..20 -4 -13:17 | 1 1-2 2/2, 3 5-7 2/2, 4 8-9 2/2, 5 10-11? 2/2, 8 13-14 2/2, 20 43-44 2/2
+    1..9 10x2 11..20 | 10 19-20? 2/2, 10 21-22 2/2 || NTSC f1 2x2 f3..9 | 2 4-5? 2/2, 2 6-7 2/2, 3 8-10 2/2
+    NTSC t0..9 5=-/M/@0:00 | 1 3-4 2/2, 2 5-6 -1/0 || m0x2999 B m1x2999 B m3x3000 | 0 1-3000 1/1, 1 3001-5999 1/1
+    b1..20 5=B 10=B -14 21:22=B 23=B
+        | 2 3-5 2/2, 3 6-6 2/2, 5 9-10 2/2, 7 13-13? 2/2, 8 14-15 2/2, 11 20-21 2/2, 12 22-23 -1/0, 20 38-39 2/2
+"""
+
+
+@pytest.mark.parametrize("text, wanted", cells_of(PLACES))
+def test_places(text, wanted):
+    found = ["%d %d-%d%s %d/%d" % (one.number, one.field, one.last, "?" * (not one.is_whole), one.lines, one.sure)
+             for one in capture_of(made(text, side), "a").places]
+    assert not set(wanted.split(", ")) - set(found)
 
 
 # What may show of which disc a side is: chapters and programme statuses beside numbers; which numbers last two fields,
@@ -242,31 +175,44 @@ def test_texts():
         "lacking in all: none", "disagreements: none", "as one file: yes"]
 
 
-# What is asked, captures, and whether they are whole together, whichever comes first: at an open end, if lead-out has
-# to be seen, by a strict judge, or with a given last number. Each may fill what the other lost. A picture of which both
-# lost another field isn't whole. One that is whole alone says it all. A time that the clock may have left out is so in
-# both.
+# What is asked, captures, and whether they are whole together, whichever comes first, with the words of the reasons: at
+# an open end, if lead-out has to be seen, by a strict judge, or with a given last number. Each may fill what the other
+# lost. A picture of which both lost another field isn't whole. One that is whole alone says it all. A time that the
+# clock may have left out is so in both.
 WHOLE = """
-    open | 1..40 -41:46 ; 1..40 -61:62 | yes || open | 1..40 -42 ; 1..40 -42 | no: 1 picture lacks fields (21)
-    open | 1..10 21..40 ; 1..10 21..40 | no: 10 pictures lost; .. || open | 1..40 ; 1..20 Lx5 1..20 | yes
-    open | 5..40 ; 7..44 | no: begins at picture 5 || open | 5..40 ; 1..9 | yes
-    open | 1..15 ; 1..20 Lx5 1..20 | no: b: lead-in again in field 41 (two sides joined)
-    open | 1..10 Bx20 ; 21..40 | can't tell: 10 pictures may have another's field (11 to 20)
-    open | NTSC t0..59!31 ; NTSC t0..59!31 | can't tell: in all of them fields may be lost at the same place
-    open | NTSC t0..59!31 ; NTSC t0..59!41 | yes || open | m0..1x3000 ; m0..1x3000 | can't tell: no minute is between ..
-    open | NTSC t3..39 ; NTSC t3..39 | can't tell: numbers before time 0:00:00.03 may be lost
-    open | 1..40 -41:46 Bx150 ; 1..40 -71:72 Bx150 | can't tell: numbers after picture 40 may be lost
-    end | 1..40 -41:46 O ; 1..40 -61:62 | yes || end | 1..40 -41:46 ; 1..40 -61:62 | can't tell: no lead-out after ..
-    strict | L 1..40 -42:47 ; 1..40 -61:62 O | yes || strict | L 1..40 42=? O ; 1..40 41=? | no: 1 picture unread
-    strict | L 1..40 42=? O ; 1..40 | yes || strict | 1..40 -41:46 ; 1..40 -61:62 | no: no lead-in; no lead-out after ..
-    42 | 1..40 ; 1..38 | no: 2 pictures lost || 42 | 1..40 Bx4 ; 1..38 | can't tell: 2 pictures undecided
-    40 | 1..40 -41:46 ; 1..40 -61:62 | yes || 38 | 1..40 ; 1..38 | can't tell: a: it ends at 40, after 38 that was ..
-    0:00:34 | NTSC t0..1019!31%100 ; NTSC t0..99 | no: 1 time lost; .. || 5 | t0..39 ; t0..9 | can't tell: no lead-..
+    open | 1..40 -41:46 ; 1..40 -61:62 | - | yes
+    open | 1..40 -42 ; 1..40 -42 | lost | no: 1 picture lacks fields (21)
+    open | 1..10 21..40 ; 1..10 21..40 | missing, unsure | no: 10 pictures lost; 1 picture may have another's field (10)
+    open | 1..40 ; 1..20 Lx5 1..20 | - | yes || open | 5..40 ; 1..9 | - | yes
+    open | 5..40 ; 7..44 | begins | no: begins at picture 5
+    open | 1..15 ; 1..20 Lx5 1..20 | joined | no: b: lead-in again in field 41 (two sides joined)
+    open | 1..10 Bx20 ; 21..40 | unsure | can't tell: 10 pictures may have another's field (11 to 20)
+    open | NTSC t0..59!31 ; NTSC t0..59!31 | open | can't tell: in all of them fields may be lost at the same place
+    open | NTSC t0..59!31 ; NTSC t0..59!41 | - | yes || open | 1 ; 1 | numbers | can't tell: too few numbers to judge by
+    open | m0..1x3000 ; m0..1x3000 | minutes | can't tell: no minute is between two others
+    open | NTSC t3..39 ; NTSC t3..39 | ends | can't tell: numbers before time 0:00:00.03 may be lost
+    open | 1..40 -41:46 Bx150 ; 1..40 -71:72 Bx150 | ends | can't tell: numbers after picture 40 may be lost
+    open | 1..20 Bx120 81..100 ; 1..20 Bx120 81..100 | unseen | can't tell: no number in fields 40 to 160
+    open | 1..20 Bx120 81..100 -5:6 ; 1..100 -11:12 | - | yes
+    open | 1..40 t0..4 -9:12 ; 1..40 -41:44 | format | no: a: codes of CLV in 10 fields, from field 77 on
+    end | 1..40 -41:46 O ; 1..40 -61:62 | - | yes
+    end | 1..40 -41:46 ; 1..40 -61:62 | lead-out | can't tell: no lead-out after picture 40
+    end | 1..40 -41:46 ; 1..38 -5:6 O | unsure, lead-out
+        | can't tell: 1 picture may have another's field (40); no lead-out after picture 40
+    strict | L 1..40 -42:47 ; 1..40 -61:62 O | - | yes || strict | L 1..40 42=? O ; 1..40 | - | yes
+    strict | L 1..40 42=? O ; 1..40 41=? | unread | no: 1 picture unread
+    strict | 1..40 -41:46 ; 1..40 -61:62 | lead-in, lead-out | no: no lead-in; no lead-out after picture 40
+    42 | 1..40 ; 1..38 | missing | no: 2 pictures lost || 40 | 1..40 -41:46 ; 1..40 -61:62 | - | yes
+    42 | 1..40 Bx4 ; 1..38 | undecided | can't tell: 2 pictures undecided
+    38 | 1..40 ; 1..38 | last | can't tell: a: it ends at 40, after 38 that was given as the last
+    0:00:34 | NTSC t0..1019!31%100 ; NTSC t0..99 | missing, unsure
+        | no: 1 time lost; 1 time may have another's field (0:00:33.29)
+    5 | t0..39 ; t0..9 | lead-out, last | can't tell: no lead-out after time 0:00:01.14; ..
 """
 
 
-@pytest.mark.parametrize("asked, texts, wanted", cells_of(WHOLE))
-def test_whole_together(asked, texts, wanted):
+@pytest.mark.parametrize("asked, texts, words, wanted", cells_of(WHOLE))
+def test_whole_together(asked, texts, words, wanted):
     ones = []
     for text in texts.split(" ; "):
         ones.append(made(text, side))
@@ -274,9 +220,9 @@ def test_whole_together(asked, texts, wanted):
         ones[-1].given_last = asked if asked[0].isdigit() else None
     captures_of = [capture_of(one, name) for one, name in zip(ones, "ab")]
     for found in (join(captures_of), join(captures_of[::-1])):
-        said = next(joined_text(found))
-        head = "together: whole: " + wanted
-        assert said.startswith(head[:-2]) if wanted.endswith("..") else said == head
+        said = next(joined_text(found))[len("together: whole: "):]
+        assert said.startswith(wanted[:-2]) if wanted.endswith("..") else said == wanted
+        assert ", ".join(one.why for one in found.reasons) == words.strip("-")
         assert found.whole == wanted.split(":")[0]
 
 
@@ -292,6 +238,10 @@ def test_chapters_and_stops_together():
         ("stop", 11, 22, 11, "read", "b")]
     assert chapters_text("PAL", joined_spans(found), "x.txt") == (
         "0.020000\t0.620000\tChapter 1\n0.620000\t1.600000\tChapter 2\n")
+    # what stands before the first field of 1 in a is in that of b
+    assert together("-/c1/c1 1..40 3:81/2=-/c1/c1 62=?/#31/#31", "1..40 2:80/2=-/c1/c1").chapters == [
+        (1, 1, "b", 1, 1, 1)]
+    assert together("S/-/- 1..40 62=?/#31/#31", "1..40").stops == [(1, "b", 1, 1, "read")]
     assert together("1..9", "B 1..9 1:9=B").stops == []
     worn = together("1..9 3=S^/#2/#2 5=S^/#3/#3 7=S/#4/#4 -11:14", "1..9 3=S^/#2/#2 5=S/#3/#3 7=S^/#4/#4")
     assert [row for row in joined_rows(worn, ()) if row[0] == "stop"] == [

@@ -1,5 +1,5 @@
-"""The plan by which a side is written: which field of which capture stands where, beside the truth of how the captures
-were made; and what is refused before that."""
+"""The plan by which a side is written: which field of which capture stands where, by rows of plans.txt and beside the
+truth of how captures were made; and what is refused before that."""
 
 import json
 import os
@@ -8,7 +8,7 @@ import re
 from collections import Counter, defaultdict
 from types import SimpleNamespace
 
-from compact import cells_of, made, rows
+from compact import cells_of, made, rows, table_in
 from discs import LEAD_IN, LEAD_OUT, pictures, plain, side
 from ldvbi_side.answer.analysis import analyse
 from ldvbi_side.join.captures import capture_of
@@ -27,90 +27,7 @@ from simulate import captures
 
 NAMES = {"DETOUR": "1..50 151..170 71..100", "CUT": "NTSC f1..60 61..90 f91..120", "SIDE": "L 1..20 O",
          "ODD": "lost=1 B 5..20", "LACKS": "lost=21..24 1..40"}
-# Why it is so, captures (`source`) and what is asked of the plan of them, and its stretches: numbers, and the first
-# field of a capture or the count of padding; or why there is none. And other members of the plan.
-PLANS = """
-    a detour | DETOUR ; 1..100 | 1-100 b1 || whichever comes first | 1..100 ; DETOUR | 1-100 a1
-    as long as what is around it | 1..10 151..170 31..40 ; 1..40 | 1-40 b1
-    its numbers are elsewhere | DETOUR ; 1..100 ; 121..180 | 1-100 b1, 101-120 x40, 121-180 c1
-    lost, and back by as much: no detour | 1 4..40 39..60 ; 1..20 | 1-3 b1, 4-38 a3, 39-59 a77,
-        60? a119
-    both fields have numbers | b1..20 39=B Bx4 ; b1 | 1-20 a1 || and others go on | b1..10 ; b1..20 | 1-20 b1
-    a swapped pair | 1..100 ~41 ; 1..10 | 1-20 a1, 21 a42, 21 a41, 22-100 a43
-    each has lost others | 1..40 -61:62 ; 1..40 -41:46 | 1-23 a1, 24-40 b41
-    back | 1..30 11..40 ; 1..20 | 1-10 a1, 11-40 a61 || a still | 1..20 21x4 22..40 ; 1..10 | 1-20 a1, 21-40 a47
-    minutes | m59x3000 ; m58..59x3000 | 0:58-0:59 b1 || one in part | m58x3000 m59x10 ; m59x3000 | 0:58 a1, 0:59 b1
-    minutes that none has | m57x3000 ; m59x3000 | 0:57 a1, 0:58 x3000, 0:59 b1
-    a minute that isn't shorter than any | NTSC m57x3600 m58x3590 m59x3600 | 0:57-0:59 a1 | unsure=
-    one that is | NTSC m57x3600 m58x3589 m59x3600 | 0:57 a1, 0:58? a3601, 0:59 a7190 | unsure=58
-    whole frames are lost, so that the last picture is sure | LACKS | 1-9 a1, 10? a19, 11-12 x4, 13-40 a21 | unsure=10
-    frames are lost in part | lost=22..25 1..40 | 1-11 a1, 11-13 x4, 13? a22, 14-39 a23, 40? a75
-        | unsure=13,40 partial=11,13 padded=12
-    of film, in part | lost=52..55 NTSC f1..40 | 1-21 a1, 21-22 x4, 23-39 a52, 40? a95 | unsure=40 partial=21 padded=22
-    of film, whole | lost=51..55 NTSC f1..40 | 1-19 a1, 20? a49, 21-22 x5, 23-40 a51 | unsure=20 padded=21,22
-    another one has what is lost | lost=39..42 NTSC 1..40 ; lost= NTSC 15..30 | 1-14 a1, 15-21 b1, 22-40 a39 | unsure=
-    of film a third field is lost | lost=53 NTSC f1..40 | 1-20 a1, 21? a51, 21 x1, 22-39 a53, 40? a98 | partial=21
-    a jump ahead to what is lost | 1..10 30 11..29 31..40 | 1-9 a1, 10? a19, 11-28 a23, 29? a59, 30? a21, 31-39 a61,
-        40? a79 | unsure=10,29,30,40 || it cut no frame | lost= 1..10 30 11..29 31..40
-        | 1-9 a1, 10? a19, 11-28 a23, 29? a59, 30? a21, 31-40 a61
-    unread beside lead-in, and before lead-out, which may be its | L Bx5 3..20 Bx4 O | 1-20 a3, 21-22? a43
-    unread without either | lost= Bx4 3..20 Bx4 | 1-20 a1 || another one has them | L Bx4 3..20 Bx3 O ; 1..22 | 1-22 b1
-    unread on both fields | b1..10 Bx2 b12..20 | 1-20 a1 | 11@21
-    a minute that ends unread | m57x3000 m58x2900 Bx100 O | 0:57-0:58 a1 | unsure=
-    another one has more of it | m57x3000 m58x2900 ; m58x3000 | 0:57 a1, 0:58 b1
-    film, cut | CUT ; NTSC f1..120 | 1-120 b1 || a chapter's field | 1..40 41=-/c0/c0 ; 1..3 | 1-40 a1
-    film, of which pictures are lost: odd ones have three | NTSC f1..20 f26..40
-        | 1-19 a1, 20? a49, 21-25 x13, 26-39 a51, 40? a86
-    even ones have three | NTSC e1..20 e26..40 | 1-19 a1, 20? a48, 21-25 x12, 26-39 a51, 40? a86
-    none has three | NTSC f1 1..20 26..40 | 1-19 a4, 20? a42, 21-25 x10, 26-39 a44, 40? a72
-    only the frames and the colour say how many | lost=51..60 NTSC f1..40
-        | 1-19 a1, 20? a49, 21-24 x10, 25-40 a51 | unsure=20
-    film and its lead-out | NTSC L f1..5 O & ends=1 | 1-5 a2, None a15
-    padding of an older output ends what goes on | lost= pad=11,12 1..5 Bx2 7..20
-        | 1-4 a1, 5? a9, 6 x2, 7-20 a13
-    set aside, below all others | 30..60 21=-/#7/#7 | 30-38 a1, 39-40? a19, 41-60 a23
-    lead-in and lead-out | SIDE | 1-20 a2 || the first one unread | L 1..20 O 2=B | 1-20 a2
-    the clock may leave 20 out: the fields go on | lost= NTSC t0..40!20 | 0:00:00.00-0:00:01.10 a1 | left_out=20 padded=
-    no clock leaves out three | lost=41..46 NTSC t0..40 | 0:00:00.00-0:00:00.18 a1, 0:00:00.19? a39,
-        0:00:00.20-0:00:00.22 x6, 0:00:00.23-0:00:01.10 a41 | padded=20,21,22
-    of two times the colour says that one is left out, but not which | lost=41,42 NTSC t0..40!20
-        | 0:00:00.00-0:00:00.18 a1, 0:00:00.19? a39, 0:00:00.20-0:00:00.21 x4, 0:00:00.22-0:00:01.10 a41
-    inside a loss | NTSC t0..4499!7%1000 -1991:2028 | 0:00:00.00-0:00:33.04 a1, 0:00:33.05? a1989,
-        0:00:33.06-0:00:33.25 x38, 0:00:33.26-0:02:29.28 a1991, 0:02:29.29? a8951
-        | left_out=7,1007,2007,3007,4007 padding=38
-    numbers on both fields go on: of 9 the second one is lost | lost=18 NTSC b1..20 | 1-8 a1, 9? a17, 9 x1, 10-20 a18
-        | fields=40 padding=1 partial=9 unsure=9
-    and one field isn't read | b1..5 5=B | 1-5 a1 | 3@5 4@7
-    film that goes on to have three on even ones, of which a field is lost | lost=52 NTSC f1..20 e21..40
-        | 1-21 a1, 21 x1, 22-39 a52, 40? a97 | partial=21
-    the whole first one and a field | lost=51..53 NTSC f1..20 e21..40
-        | 1-19 a1, 20? a49, 21-22 x3, 22? a51, 23-39 a53, 40? a95 | padded=21 partial=22
-    two fields of one, and one of the next | lost=52..54 NTSC f1..40 | 1-21 a1, 21-22 x3, 22? a52, 23-39 a53, 40? a96
-        | padded= partial=21,22
-    film, from 1 on | NTSC f3..20 & start=1 | 1-2 x5, 3-20 a1
-    no picture is sure: each was played at another speed | 1..99/2 & sure=1 | no number is sure enough to be taken
-    numbers at another speed are padding; so is the last field, of which nothing says whose it is
-        | 1..20 21..40/2 41..60 & sure=1 | 1-20 a1, 21-41 x42, 42-60 a63, 60 x1
-    a change costs as much as its dropouts | dropouts=21..40 1..40 ; dropouts=41..60 1..40 & change=18000 | 1-40 a1
-    it costs less | dropouts=21..40 1..40 ; dropouts=41..60 1..40 & change=17999 | 1-20 b1, 21-40 a41
-    a bad line stands for dropouts | 1..40 33.16=? ; 1..40 & change=499 | 1-40 b1
-    frame 5 has picture 5 | 5..20 & start=1 | 1-4 x8, 5-20 a1 | 5@9 padded=1,2,3,4
-    the first one begins with a second field | ODD | None x1, 5-20 a1 | 5@2 fields=33
-    an even count of lead-in | Lx3 1..20 Ox5 & ends=1 | None a2, 1-20 a4, None a44 | fields=47
-    padding before it instead | Lx3 5..20 Ox5 & ends=1 start=1 | 1-4 x8, 5-20 a4, None a36 | fields=45
-    padding that is there already | pad=11,12 1..20 11:12=B ; 4..8 | 1-3 a1, 4-6 b1, 7-20 a13
-    lead-in between | 1..20 Lx5 1..20 & one_side=0 | a: lead-in or lead-out stands between its numbers: two sides?
-        (--one-side says that it is one)
-    both formats | 1..20 t0..4 | a has codes of CAV and of CLV || two systems | 1..20 ; NTSC 1..20
-        | a has pictures of PAL, b has pictures of NTSC: two discs?
-    a thousand fields aren't too many | 1..20 521..540 & most_padding=
-        | 1-19 a1, 20? a39, 21-520 x1000, 521-539 a41, 540? a79
-    more are | 1..20 522..541 & most_padding= | 1002 of 1082 fields would be padding; see --most-padding
-    a tenth isn't | 1..4500 5051..5500 & most_padding= | 1-4499 a1, 4500? a8999, 4501-5050 x1100, 5051-5499 a9001,
-        5500? a9899
-    more is | 1..4499 5050..5499 & most_padding= | 1100 of 10998 fields would be padding; see --most-padding
-    more than is asked | 1..20 22 & most_padding=1 | 2 of 44 fields would be padding; see --most-padding
-"""
+PLANS = list(table_in(os.path.join(os.path.dirname(__file__), "plans.txt")))
 OPTION = re.compile(r"(lost|pad|dropouts)=(\S*) ")
 
 
@@ -161,6 +78,18 @@ def planned(text):
     return plan(sources, Wanted(**wanted)), sources
 
 
+def check_members(found, why=None):
+    """What a plan says of its numbers is as its stretches have them."""
+    padded, taken, unsure = ({number for one in found.stretches if is_so(one) for number in one.numbers()}
+                             - {*found.left_out} for is_so in (
+                                 lambda one: one.source is None, lambda one: one.source is not None,
+                                 lambda one: one.how == UNSURE))
+    assert (found.padded, found.partial, found.unsure) == (
+        sorted(padded - taken), sorted(padded & taken), sorted(unsure)), why
+    assert {*found.first_field} <= padded | taken, why  # of film what is unread has none
+    assert found.fields == sum(one.fields for one in found.stretches), why
+
+
 def member(found, name):
     """A member of a plan as a text; 5@ is the field in which 5 begins."""
     if name.endswith("@"):
@@ -169,7 +98,7 @@ def member(found, name):
     return ",".join(map(str, value)) if isinstance(value, list) else str(value() if callable(value) else value)
 
 
-@pytest.mark.parametrize("why, sides, wanted, members", [(*row, "")[:4] for row in cells_of(PLANS)])
+@pytest.mark.parametrize("why, sides, wanted, members", [(*row, "")[:4] for row, _ in PLANS])
 def test_plans(why, sides, wanted, members):
     """Each that is made is one that may be written."""
     try:
@@ -179,8 +108,9 @@ def test_plans(why, sides, wanted, members):
         return
     assert stretches_text(found) == wanted, why
     refuse_wrong(found, sources)
+    check_members(found, why)
     numbers = {number for one in found.stretches for number in one.numbers()} - {*found.left_out}
-    assert numbers - {*found.padded} <= {*found.first_field} <= numbers, why
+    assert numbers - {*found.padded} <= {*found.first_field}, why
     for one in members.split():
         name, value = re.fullmatch(r"(\w+@|\w+)=?(\S*)", one).groups()
         assert member(found, name) == value, (why, name)
@@ -219,6 +149,7 @@ class Drawn:
         """How many stretches show another picture than they say, how many of these are said to be unsure, and how many
         pictures are padding that a capture has in full."""
         counts = Counter(sets=1)
+        check_members(found)
         refuse_wrong(found, self.sources)
         for one in found.stretches:
             if one.source is None:
@@ -275,6 +206,7 @@ def test_random_sets(seed):
         sources.append(Source(capture_of(read, str(place)), Facts(
             read.first, [at % PHASES[system] + 1 for at in one.order])))
     found = plan(sources, Wanted(one_side=True, most_padding=1 << 30))
+    check_members(found)
     refuse_wrong(found, sources)
     places = [None if one.source is None else ones[one.source].order[one.field - 1 + step]
               for one in found.stretches for step in range(one.fields)]
@@ -346,9 +278,13 @@ def test_a_wrong_plan_is_refused(said, sides, stretches):
         "the plan is wrong: " + said)
 
 
-def test_padding_hides_no_number():
+def test_what_a_plan_says_of_itself_is_so():
     found, sources = planned("LACKS")
     refuse_wrong(found, [*sources, source("1..10", "b")])
+    late = found._replace(
+        stretches=stretches_of("1+20 1-10 a1, 21+6 11-12 x, 27+56 13-40 a21"), fields=82,
+        first_field={number: field + 2 * (number > 12) for number, field in found.first_field.items()})
+    assert reason(refuse_wrong, late, sources) == "the plan is wrong: a number of fields 27 to 82 is out of its place"
     hidden = found._replace(padded=[*found.padded, 13])
     assert reason(refuse_wrong, hidden, sources) == "the plan is wrong: 13 is padding"
     other = found._replace(first_field={number: field for number, field in found.first_field.items() if number != 5})

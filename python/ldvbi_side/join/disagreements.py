@@ -123,17 +123,18 @@ def _is_told(before: Place, after: Place, told: List[int]) -> bool:
 
 
 def _told_before(capture: Capture) -> List[int]:
-    """Of each field how many before it the capture says something of: a break, a loss, a still, a repetition, another
+    """Of each field how many before it the capture says something of: a break, a loss, numbers shown again, another
     speed, swapped fields, or a number that the clock leaves out."""
     answer, told = capture.answer, [0] * (capture.answer.fields + 2)
     spans = [(lost.after, lost.before) for lost in answer.lost]
     spans += [(one.after, one.before) for one in capture.breaks]
     spans += [(out.after, out.before) for out in answer.left_out]
-    spans += [(still.first, still.last + 1) for still in answer.stills]
-    spans += [(speed.first, speed.last + 1) for speed in answer.speeds]
-    spans += [(again.field, again.last_field + 1) for again in answer.repeated]
-    spans += [(pair.field - 1, pair.field + 2) for pair in answer.swapped]
+    spans += [(speed.first, speed.last) for speed in answer.speeds]
     for first, last in spans:
-        for field in range(max(first, 0) + 1, min(last, answer.fields + 1) + 1):
+        for field in range(first + 1, last + 1):
             told[field] = 1
+    for again in answer.repeated:
+        told[again.field] = 1
+    for pair in answer.swapped:
+        told[pair.field + 1] = 1
     return list(itertools.accumulate(told))

@@ -12,7 +12,7 @@ from ..judge.paces import Unit
 from ..near import says
 from .captures import NEIGHBOURS, Capture
 
-# Of a unit the lines that are taken together; minutes alone aren't asked for
+# Of a unit the lines that are taken together; of minutes alone none is due in a field
 _LINES: Dict[Optional[str], Tuple[int, ...]] = {"picture": (17, 18), "time": (16,)}
 
 
@@ -35,8 +35,6 @@ def read_together(captures: List[Capture], disputed: Set[Tuple[str, int]]) -> Se
     """The numbers that no capture reads, but that the lines of the fields in which they are due say together. A field
     that is disputed isn't asked."""
     unit = captures[0].unit()
-    if unit.name not in _LINES:
-        return set()
     read: Set[int] = set()
     due: Dict[int, List[Due]] = {}
     for capture in captures:

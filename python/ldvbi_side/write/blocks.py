@@ -85,9 +85,9 @@ def _told_before(source: Source) -> List[int]:
     for field, is_pad in enumerate(source.facts.pad or (), 1):
         counts[field] += is_pad
     for one in capture.breaks:
-        counts[min(one.before, fields + 1)] += 1
+        counts[one.before] += 1
     for stretch in capture.answer.lead_in + capture.answer.lead_out:
-        counts[min(stretch.last + 1, fields + 1)] += 1
+        counts[stretch.last + 1] += 1
     first, pairs = source.facts.first, straightened(capture.answer)
     if first and capture.answer.pace == "both":  # whose numbers don't show the loss of one field
         for field in range(2, fields + 1):
@@ -110,8 +110,11 @@ def _fits(answer: Answer, one: Anchor, other: Anchor, told: List[int]) -> bool:
 
 
 def _is_next(source: Source, one: Anchor, other: Anchor) -> bool:
-    """Whether two fields have the next picture each and go on, so that a break between them is one of the clock."""
+    """Whether two fields have the next picture each and go on, so that a break between them is one of the clock. They
+    don't over padding."""
+    pad = source.facts.pad
     return (source.answer.pace == "video" and (other.rank - one.rank, other.field - one.field) == (1, 2)
+            and not (pad and pad[one.field])
             and all(source.goes_on(field, field + 1) for field in (one.field, one.field + 1)))
 
 

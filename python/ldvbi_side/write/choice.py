@@ -46,53 +46,44 @@ class Choice:
         """The nodes of the cheapest way through these ranks."""
         for rank in ranks:
             self._step(rank)
-        node = self._cheapest(ranks.stop)[1]
+        node = self._cheapest(ranks.stop).node
         nodes: List[Node] = []
         while node is not None:
             nodes.append(node)
             node = node.before
         return nodes[::-1]
 
-    def _cheapest(self, rank: int) -> Tuple[Optional[int], Optional[Node]]:
-        """What the cheapest way costs that comes to a rank between two blocks, and its node."""
-        best = None
-        for one in self._ways.values():
-            if one.end <= rank and (best is None or one.cost < best.cost):
-                best = one
-        return (best.cost, best.node) if best else (None, None)
+    def _cheapest(self, rank: int) -> _Way:
+        """The cheapest way that comes to a rank between two blocks. One that ends in padding always does."""
+        return min((one for one in self._ways.values() if one.end <= rank), key=lambda one: one.cost)
 
     def _step(self, rank: int) -> None:
         """Goes on over a rank."""
         for place in self._begins.get(rank, ()):
             self._next[place] = 0
-        cost, node = self._cheapest(rank)
-        ways: Dict[Optional[int], _Way] = {}
-        if cost is not None:
-            is_padding = node is not None and node.run is None
-            ways[None] = _Way(cost + self._padding, node if is_padding else Node(None, rank, node), rank + 1)
+        cost, node, _ = cheapest = self._cheapest(rank)
+        is_padding = node is not None and node.run is None
+        ways: Dict[Optional[int], _Way] = {
+            None: _Way(cost + self._padding, node if is_padding else Node(None, rank, node), rank + 1)}
         for place in list(self._next):
             blocks, index = self._runs[place].blocks, self._next[place]
-            way = self._ways.get(place)
             if index < len(blocks) and blocks[index].rank == rank:
-                way = self._entered(place, blocks[index], way, cost, node)
+                ways[place] = self._entered(place, blocks[index], cheapest)
                 self._next[place] += 1
-            if way:
-                ways[place] = way
+            else:
+                ways[place] = self._ways[place]
             if rank + 1 >= self._runs[place].end():
                 del self._next[place]
         self._ways = ways
 
-    def _entered(self, place: int, block: Block, way: Optional[_Way], cost: Optional[int],
-                 node: Optional[Node]) -> Optional[_Way]:
+    def _entered(self, place: int, block: Block, cheapest: _Way) -> _Way:
         """The cheapest way that ends in this block of a run: from within the run, or from the cheapest way."""
-        price = self._price(self._runs[place], block)
-        found = way
-        if cost is not None:
-            is_first = node is None or node.run is None and node.before is None
-            enter = cost + (0 if is_first else self._change)
-            if way is None or enter < way.cost:
-                found = _Way(enter, Node(place, block.rank, node), 0)
-        return _Way(found.cost + price, found.node, block.end()) if found else None
+        node, way = cheapest.node, self._ways.get(place)
+        is_first = node is None or node.run is None and node.before is None
+        enter = cheapest.cost + (0 if is_first else self._change)
+        if way is None or enter < way.cost:
+            way = _Way(enter, Node(place, block.rank, node), 0)
+        return _Way(way.cost + self._price(self._runs[place], block), way.node, block.end())
 
     def _price(self, run: Run, block: Block) -> int:
         sums = self._damage[run.source]

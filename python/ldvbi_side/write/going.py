@@ -13,7 +13,7 @@ class Going:
         self._source, self._pairs = source, straightened(source.answer)
         self._ends = {field for one in source.answer.lead_in + source.answer.lead_out
                       for field in range(one.first, one.last + 1)}
-        self._pad = source.facts.pad or ()
+        self._pad = source.facts.pad
         self._fields = source.answer.fields
 
     def count(self, field: int, step: int, most: int) -> int:
@@ -47,7 +47,7 @@ class Going:
 
     def is_pad(self, field: int) -> bool:
         """Whether a field of the capture is padding."""
-        return bool(self._pad) and self._pad[field - 1]
+        return self._pad is not None and self._pad[field - 1]
 
     def is_marked(self, field: int) -> bool:
         """Whether lead-in or lead-out stands in a field."""

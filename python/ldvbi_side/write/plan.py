@@ -179,6 +179,8 @@ class _Making:
         answer, number = self._sources[0].answer, self._known.ranks.number
         padded, partial, unsure = ([number(rank) for rank in ones]
                                    for ones in (self._padded, self._partial, self._unsure))
+        padding = {one for stretch in layout.stretches if stretch.source is None for one in stretch.numbers()}
+        partial = [one for one in partial if one in padding]  # what frames and the colour leave no room for isn't lost
         first_field = {number(rank): field + off for rank, field in self._first_field.items()}
         return Plan(answer.system, str(answer.unit), layout.stretches, seams_of(layout.stretches, self._sources),
                     padded, partial, unsure, self._known.ranks.left_out(), first_field, layout.out - 1)
