@@ -20,7 +20,7 @@ from coverage.numbits import numbits_to_nums
 from planted import TOP
 
 RECORD = pathlib.Path(tempfile.gettempdir(), "ldvbi-mutants%s.json" % str(TOP).replace("/", "-"))
-LEFT_ASIDE = "test_archive.py", "test_browser.py", "test_mutants.py", "test_package.py"  # they take long, or run no line
+LEFT_ASIDE = "test_browser.py", "test_mutants.py", "test_package.py"  # they take long, or run no line
 # How a file of tests is run, besides what coverage is told
 SETTINGS = """[run]
 source = %s/python
