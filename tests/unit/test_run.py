@@ -193,6 +193,7 @@ sys.exit(main())"""
 CLOSED = (
     ((1,), "side.tbc --svg side.svg", 0, b"", "ldvbi-side: side.tbc: black16bIre is 16383.5, rounded to 16384\n"),
     ((0, 1, 2), "side.tbc --csv --map side.map", 2, b"", ""),
+    ((1,), "side.vbi.json --seek 3", 2, b"", "ldvbi-side: standard output: Bad file descriptor\n"),
     ((2,), "side.tbc --seek 3 --map side.map", 0, b"field 4, frame 2\n", ""), ((2,), "absent", 2, b"", ""),
     ((2,), "side.vbi.json --\udcff", 2, b"", ""), ((2,), "ü\udcff", 2, b"", ""),
     ((0, 2), "scan --csv absent", 2, b"SIDES\nabsent,fault,,,,,,,,,,,No such file or directory,,\n", ""),

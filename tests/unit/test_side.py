@@ -28,6 +28,7 @@ SOUGHT = """
         | 0:00:00.00: the side counts pictures, not times | 0:00: the side counts pictures, not minutes
     t103450..103549 | 1:08:59.25: no clock shows it | 1:08:60: no clock shows it | 1:60: no clock shows it
         | 1:9:1.3: 157 79 | 1:10: the numbers end at 1:09:01.24, in field 199
+        | 1:59: the numbers end at 1:09:01.24, in field 199 | 1:10:59: the numbers end at 1:09:01.24, in field 199
         | 69: the side counts times, not pictures
         | 0:01:09.00: lost before field 1; time 1:08:58.00 is in field 1
     t1500..1529 t1510..1539 31=?/?/? | 0:01:00.15: 71 36 | 0:01:00: 1 1
@@ -41,6 +42,9 @@ SOUGHT = """
         | chapter 2: chapter 3 follows chapter 0 in field 22
     1..10 31..40 2:20/2=-/c1/c1 22:40/2=-/c3/c3 | chapter 0: the chapters begin at 1, in field 2
         | chapter 2: chapter 3 follows chapter 1 in field 22, and fields are lost before it
+    1..5 11..20 31..40 2:20/2=-/c1/c1 22:50/2=-/c3/c3 | chapter 2: chapter 3 follows chapter 1 in field 22
+    1..11 31..40 2:20/2=-/c1/c1 21=-/#11/c3 22:42/2=-/c3/c3 | chapter 2: chapter 3 follows chapter 1 in field 21
+    1..10 31..40 2:20/2=-/c1/c1 21=-/#31/c1 22:40/2=-/c3/c3 | chapter 2: chapter 3 follows chapter 1 in field 22
     Lx2 1..40 4:82/2=-/c5/c5 Ox2 Lx2 1..40 88:166/2=-/c3/c3 | chapter 4: no field shows it
     PAL/1 1..20 -1 | 2: 2 1 | chapter 0: 1 0
     1..11 14..30 41=-/c0/c0 | 12: lost after field 21; picture 11 is in field 21, picture 14 in field 23
@@ -52,10 +56,11 @@ SOUGHT = """
         time 0:00:13.09 is in field 799, time 0:00:13.11 in field 801
     m0x3000 m5..6x3000 | 0:03: lost after field 1; minute 0:00 is in field 1, minute 0:05 in field 3001
     Lx2 1..20 Ox2 Lx2 41..60 | 30: no field shows it; picture 20 is in field 41, picture 41 in field 47
+    1..10 21..30 1..5 | 15: lost after field 19; picture 10 is in field 19, picture 21 in field 21
     Bx10 | 3: no number of the side is believed | chapter 1: no chapter of the side is believed
 """
 
-# The same of sides with fields of padding, from one to another
+# The same of sides with fields of padding, from one to another. Metadata of others may call so what shows numbers.
 PADDED = """
     7:8 | 1..3 Bx2 5..8 Bx2 10..12 | 4: padding in fields 7 to 8, between 3 in field 5 and 5 in field 9
         | 9: 17 9, by the numbers around it: no number was read there
@@ -69,6 +74,15 @@ PADDED = """
         field 15
     2:4 | Bx4 3..8 | 2: the numbers begin at 3, in field 5
     1:1 | B 3..8 | 2: padding in field 1, beside 3 in field 2
+    1:4+9:10 | Bx4 3..4 Bx2 6..8 | 2: the numbers begin at 3, in field 5, after padding in fields 1 to 4
+    5:6+11:12 | 1..2 Bx2 4..5 Bx2 7..9 | 3: padding in fields 5 to 6, between 2 in field 3 and 4 in field 7
+        | 6: padding in fields 11 to 12, between 5 in field 9 and 7 in field 13
+    27:28 | 41..50 11..13 Bx2 15..18 1..5 | 14: padding in fields 27 to 28, between 13 in field 25 and 15 in field 29
+    7:7 | b1..3 Bx2 b5..8 | 4: padding in field 7, between 3 in field 5 and 5 in field 9
+    4:5 | b1..3 b5..8 | 4: lost after field 5; picture 3 is in field 5, picture 5 in field 7
+    5:6 | b1..3 b5..8 | 4: padding in fields 5 to 6, between 3 in field 5 and 5 in field 7
+    6:6 | b1..3 b5..8 | 4: padding in field 6, between 3 in field 5 and 5 in field 7
+    6:7 | b1..3 b5..8 | 4: padding in fields 6 to 7, between 3 in field 5 and 5 in field 7
     1:1 | B t103450..103549 | 0:01:09.00: padding in field 1, beside 1:08:58.00 in field 2
 """
 
@@ -79,15 +93,17 @@ def test_texts():
                          ("1:9:3.7", ("time", (1, 9, 3, 7))), ("1:09:30", ("time", (1, 9, 30)))):
         assert wanted_of(text) == wanted
     for text in ("", "x", "-1", "1:2", "1:02:3", "1:02:03.", "chapter", "chapter  3", "1.5", " 1", "1:09:30.12.1"):
-        assert reason(wanted_of, text) is not None
+        assert reason(wanted_of, text) == (
+            "neither a picture number, nor a time h:mm, h:mm:ss or h:mm:ss.pp, nor chapter n: %r" % text)
 
 
 @pytest.mark.parametrize("pads, text, asked", [(pads, text, asked) for pads, text, *asked in (
-    *(("0:0", *cells) for cells in cells_of(SOUGHT)), *cells_of(PADDED))])
+    *(("", *cells) for cells in cells_of(SOUGHT)), *cells_of(PADDED))])
 def test_what_is_found(pads, text, asked):
-    first, last = map(int, pads.split(":"))
     given = made(text, side)
-    given.pad = [first <= field <= last for field in range(1, len(given.readings) + 1)] if last else None
+    ends = [tuple(map(int, pad.split(":"))) for pad in pads.split("+") if pad]
+    given.pad = [any(first <= field <= last for first, last in ends)
+                 for field in range(1, len(given.readings) + 1)] if ends else None
     known = given.analysis.answer
     for number, _, wanted in (one.partition(": ") for one in asked):
         asked_for = wanted_of(number)
