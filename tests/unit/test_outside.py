@@ -71,6 +71,8 @@ def test_how_much_is_read():
     for data in (b"", b" \n", b'\n{"version":2', b"[]" + b" " * 100000):
         assert read_document(data) == data
     assert len(read_document(bytes(100000000))) < 1000000  # it begins as none
+    long = mock.Mock(**{"read.return_value": b"{}"})
+    assert (bytes_of_document(long, b"{"), long.read.mock_calls) == (b"{}", [mock.call((512 << 20) + 1)])
     with mock.patch.object(outside, "MOST_BYTES", 1000):
         assert len(read_document(b"{" + bytes(999))) == 1000
         assert reason(read_document, b"{" + bytes(1000)) == "it is longer than any document"
