@@ -149,6 +149,8 @@ FIELD_ROWS = (
     ("t1498..1501 6=-/-/@0:01 7=8AE001/?/?", """1|1|clv|||0:00:59.23  2|1|clv||0||||cx off 000  3|2|clv|||0:00:59.24
         4|2|clv||0||||cx off 000  5|3|clv|||0:01:00.00  6|3|clv|||0:01  7|4|clv|||0:01:00.01
         8|4|clv||0||||cx off 000"""),
+    ("t1498..1499 3=-/F0DD75/-", """1|1|clv|||0:00:59.23  2|1|clv||0||||cx off 000
+        3|2|clv|||||time on line 17, pass 1: clock  4|2|clv||0||||cx off 000"""),
     ("m9 -/M/- -/@0:09/-", "1|1|clv|||0:09  2|1|clv  3|2|clv|||0:09"),
     ("b4..5", "1|1|cav|4  2|1|cav|4  3|2|cav|5  4|2|cav|5"), ("B", ""))
 
@@ -273,7 +275,9 @@ def test_levels():
     for expected, cut, is_other in ((4, None, False), (None, None, False), (3, None, True), (None, Cut(5, 7), True)):
         one = made("Bx4", side, cut=cut)
         one.expected = expected
-        assert (list(summary(one.analysis.answer))[7] == "try: another system, or this file's own metadata") == is_other
+        found = list(summary(one.analysis.answer))
+        assert found[2] == "fields: 4, cut: " + ("field 5, of 7 bytes" if cut else "none")
+        assert (found[7] == "try: another system, or this file's own metadata") == is_other
 
 
 def test_what_metadata_counts():
