@@ -19,6 +19,7 @@ from unittest import mock
 
 import discs
 from ldvbi_side import outside
+from ldvbi_side.__main__ import main
 from ldvbi_side.command import outputs
 from ldvbi_side.command.outputs import whole_file, whole_files, whole_path
 from ldvbi_side.draw.index import head_of, index_of, PART
@@ -114,6 +115,17 @@ def test_one_that_is_dropped(signals):
     with pytest.raises(outside.Stopped) as sent:
         time.sleep(10)
     assert sent.value.status == 129
+
+
+def test_one_that_is_dropped_before_the_command_ends(signals):
+    """It isn't sent again while Python ends."""
+    def command(_):
+        dropped(signal.SIGTERM)
+        raise KeyboardInterrupt
+
+    signals()
+    with mock.patch("ldvbi_side.command.main.main", command), mock.patch("ldvbi_side.__main__.drop_standard_output"):
+        assert (main([]), signal.getitimer(signal.ITIMER_REAL)) == (130, (0, 0))
 
 
 @pytest.mark.parametrize("write", WRITERS)
