@@ -120,11 +120,10 @@ def _why_padding(answer, one):
     pad = next((pad for pad in answer.padding if one.after < pad.last and pad.first < one.before), None)
     if not pad:
         return None
-    before = max((shown for shown in answer.showings if shown[1] < pad.last), key=lambda shown: shown[1], default=None)
-    after = min((shown for shown in answer.showings if shown[1] > pad.first), key=lambda shown: shown[1], default=None)
-    names = ["%s in field %d" % (shown[0], shown[1]) for shown in (before, after) if shown]
-    return "padding in %s, %s" % (_fields_of(pad), "between %s and %s" % (*names,) if len(names) == 2 else
-                                  "beside %s" % names[0])
+    before = [shown for shown in answer.showings if shown[1] < pad.last][-1:]
+    after = [shown for shown in answer.showings if shown[1] > pad.first][:1]
+    names = ["%s in field %d" % shown[:2] for shown in before + after]
+    return "padding in %s, %s %s" % (_fields_of(pad), "between" if len(names) == 2 else "beside", " and ".join(names))
 
 
 def _why_missing(answer, one):

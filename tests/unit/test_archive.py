@@ -54,6 +54,9 @@ def test_captures_of_one_disc_are_written(archive):
     assert archive.run_words("write out/again.tbc sides/a.tbc sides/b.tbc")[0] == 0
     assert written == {name: archive.read("out/" + name.replace("a.", "again.", 1)) for name in written}
     assert archive.run_words("scan -j1 --csv sides --write out")[0] == 0  # over the older file
+    os.unlink(archive.named("sides/b.efm"))
+    assert archive.run_words("scan -j1 --csv sides --write less")[0] == 0
+    assert archive.names("less") == ["a.pcm", "a.stretches.csv", "a.tbc", "a.tbc.json"]
     os.unlink(archive.named("sides/b.tbc"))
     assert archive.run_words("scan -j1 --csv sides --write none")[0] == 1 and archive.names("none") == []
 

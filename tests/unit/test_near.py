@@ -10,7 +10,7 @@ import ldvbi
 from ldvbi.metadata import read_metadata
 from ldvbi_side.answer.analysis import analyse, analysed
 from ldvbi_side.command.map import map_rows
-from ldvbi_side.near import measured, nearest_word_in
+from ldvbi_side.near import measured, nearest_word_in, stop_lead_in
 from ldvbi_side.seek import seek, wanted_of
 from ldvbi_side.side import side_of_tbc
 import pytest
@@ -117,23 +117,33 @@ def test_each_call(room, setup):
         assert {tuple((line.word, line.pass_) for line in one) for one in readings} == {wanted}
 
 
+def with_sample(line, column, level):
+    return line[:2 * column] + level.to_bytes(2, "little") + line[2 * column + 2:]
+
+
 def test_erased_columns_cost_nothing(room):
     """Of 13 and 16 columns, each of which counts 70. A row of another word differs in 28 columns of a line, one with a
     cell more in 14. Of cell 5 half of the 28 columns are turned, 297 among them: another word is as near. A signal goes
     on for one more cell after the word: this row is nearer by 14 columns, without 9 of them by 5, which count 3.5, and
-    without 8 by 4.2. Up to 4 the nearest word counts."""
+    without 8 by 4.2. Up to 4 the nearest word counts: so it does if the sixth one counts 0.5, as one does that is 0.2
+    short of white, but not with a step more. A step by which another word is nearer counts, if white - black is even."""
     write_stream(room.path, NTSC, [[0, worn(NTSC), worn(NTSC)], [0, worn(NTSC), 0]])
     with ldvbi.Stream(room.path, *NTSC, True, [(0, 17, 411, 414), (0, 17, 413, 417), (0, 18, 838, 2000)]) as side:
         assert [measured(side, *place) for place in ((1, 17), (1, 18), (2, 17))] == [
             (WORD, 420, 1120), (WORD, 910, 1120), (WORD, 910, 1120)]
+        assert [stop_lead_in(side, 1, line) for line in (16, 17)] == [None, None]  # of no word, and of a picture
     column = 24372  # seven tenths of white - black, rounded up
     assert ldvbi.nearest(2 * line_with(WORD, NTSC, [(0, 0, True)]), *NTSC) == (
         WORD, 150, 2 * column, 58 * column, 30 * column)
     half = ((500, 520), None), ((297, 298), WORD), ((296, 297), None), ((295, 297), WORD ^ 0x40000)
     goes_on = ((500, 540), None), ((837, 845), WORD), ((837, 844), None)
-    odd = ("NTSC", 16384, 51201)
-    for setup, line, rows in ((NTSC, worn_line(WORD, NTSC, 5, 14), half), (odd, worn_line(WORD, odd, 5, 14), half),
-                              (NTSC, line_with(WORD, NTSC, [(837, 850, True)]), goes_on)):
+    odd, even = ("NTSC", 16384, 51201), ("NTSC", 16384, 51206)
+    longer = line_with(WORD, NTSC, [(837, 850, True)])
+    for setup, line, rows in (
+            (NTSC, worn_line(WORD, NTSC, 5, 14), half), (odd, worn_line(WORD, odd, 5, 14), half),
+            (even, with_sample(worn_line(WORD, even, 5, 14), 297, 16385), [((500, 500), WORD)]),
+            (NTSC, longer, goes_on), (NTSC, with_sample(longer, 845, 51200 - 6968), [((837, 844), WORD)]),
+            (NTSC, with_sample(longer, 845, 51200 - 6967), [((837, 844), None)])):
         write_stream(room.path, setup, [[0, line, 0]])
         for columns, nearest in rows:
             with ldvbi.Stream(room.path, *setup, True, [(0, 17, *columns)]) as side:

@@ -19,6 +19,7 @@ from unittest import mock
 
 import discs
 from ldvbi_side import outside
+from ldvbi_side.__main__ import main
 from ldvbi_side.command import outputs
 from ldvbi_side.command.outputs import whole_file, whole_files, whole_path
 from ldvbi_side.draw.index import head_of, index_of, PART
@@ -71,6 +72,8 @@ def test_how_much_is_read():
     for data in (b"", b" \n", b'\n{"version":2', b"[]" + b" " * 100000):
         assert read_document(data) == data
     assert len(read_document(bytes(100000000))) < 1000000  # it begins as none
+    long = mock.Mock(**{"read.return_value": b"{}"})
+    assert (bytes_of_document(long, b"{"), long.read.mock_calls) == (b"{}", [mock.call((512 << 20) + 1)])
     with mock.patch.object(outside, "MOST_BYTES", 1000):
         assert len(read_document(b"{" + bytes(999))) == 1000
         assert reason(read_document, b"{" + bytes(1000)) == "it is longer than any document"
@@ -112,6 +115,17 @@ def test_one_that_is_dropped(signals):
     with pytest.raises(outside.Stopped) as sent:
         time.sleep(10)
     assert sent.value.status == 129
+
+
+def test_one_that_is_dropped_before_the_command_ends(signals):
+    """It isn't sent again while Python ends."""
+    def command(_):
+        dropped(signal.SIGTERM)
+        raise KeyboardInterrupt
+
+    signals()
+    with mock.patch("ldvbi_side.command.main.main", command), mock.patch("ldvbi_side.__main__.drop_standard_output"):
+        assert (main([]), signal.getitimer(signal.ITIMER_REAL)) == (130, (0, 0))
 
 
 @pytest.mark.parametrize("write", WRITERS)
@@ -314,14 +328,17 @@ def test_which_are_refused(room):
             assert reason(outputs.refuse_inputs, written_to, inputs) == (name and IN_PLACE % name)
 
 
-def test_a_process_that_heeds_no_signal_ends_without_its_parts(room):
-    """Once it has had the time that it may take; another one is heeded meanwhile."""
+@pytest.mark.parametrize("share, waits", ((0, 500), (0.04, 500), (0.0625, 400), (1, 25)))
+def test_a_process_that_heeds_no_signal_ends_without_its_parts(room, share, waits):
+    """Once it has had half a second of a processor, of which it gets such a share, or ten seconds. It looks fifty times
+    a second. Another signal is heeded meanwhile."""
     part, (ours, theirs) = room.write("part", "old"), os.pipe()
-    handlers = iter((outside._stop, signal.SIG_IGN, signal.SIG_IGN, *[outside._stop] * 100))
+    handlers = iter((outside._stop, signal.SIG_IGN, signal.SIG_IGN, *[outside._stop] * 1000))
     os.write(theirs, bytes([signal.SIGINT, signal.SIGTERM]))
-    with mock.patch.object(outputs, "_own", [part]), mock.patch.multiple(outside, _UNHEEDED=0.05, _HELD=9), \
-            mock.patch.object(signal, "getsignal", lambda _: next(handlers)), \
+    with mock.patch.object(outputs, "_own", [part]), mock.patch.object(signal, "getsignal", lambda _: next(handlers)), \
+            mock.patch("time.sleep") as wait, mock.patch("time.monotonic", lambda: wait.call_count / 50), \
+            mock.patch("time.process_time", lambda: share * wait.call_count / 50), \
             mock.patch.object(os, "_exit", side_effect=SystemExit) as end, pytest.raises(SystemExit):
         outside._watch(ours)
     end.assert_called_once_with(128 + signal.SIGTERM)
-    assert room.names() == []
+    assert (wait.mock_calls, room.names()) == ([mock.call(0.02)] * (1 + waits), [])

@@ -6,11 +6,13 @@ import struct
 
 from discs import times
 import ldvbi
+from ldvbi import field_bytes, System
 from ldvbi.readings import Levels
+from ldvbi_side import levels
 from ldvbi_side.command.join import NOTHING_SHOWS
 from ldvbi_side.join.captures import capture_of
 from ldvbi_side.join.piles import _levelled
-from ldvbi_side.levels import options_of
+from ldvbi_side.levels import Best, options_of
 from ldvbi_side.side import side_of_tbc
 from ldvbi_side.write.joined import join
 import pytest
@@ -197,3 +199,64 @@ def test_of_which_fields_lines_are_tried(room):
             (DIM["NTSC"], [[0, 0, 0]] * 20 + pictures(1), [0, 42, None, None]),
             (NTSC, [[0, 0, 0]], [0, 2, None, None])):
         assert best(room, NTSC, drawn, fields) == wanted
+
+
+class Trial:
+    """A stream of so many fields, of which each one's number stands for its lines."""
+    system, black, white = System.NTSC, 16000, 40000
+
+    def __init__(self, fields):
+        self.size = fields * field_bytes(System.NTSC)
+
+    def rows_as(self, system, field):
+        return field
+
+
+def test_which_fields_are_tried():
+    """All of 100; of more 50 pairs, from the first one to the last."""
+    assert list(levels._rows(Trial(100), System.NTSC)) == [*range(100)]
+    for count, begin, end in ((101, [0, 1, 2, 3, 4, 5], [96, 97, 99, 100]), (1001, [0, 1, 20, 21, 40, 41, 61, 62],
+                                                                        [978, 979, 999, 1000])):
+        found = list(levels._rows(Trial(count), System.NTSC))
+        assert (len(found), found[:len(begin)], found[-4:]) == (100, begin, end)
+
+
+def test_which_levels_are_tried(monkeypatch):
+    """A fifth of a word's columns is below its low level, and a fifth above the high one. Levels are those of the lines
+    with half as wide a span as the widest one, or more."""
+    for system, width, wanted in ((System.NTSC, 910, (287, 699)), (System.PAL, 1135, (360, 871))):
+        samples = [2000 * line + column for line in range(3) for column in range(width)]
+        field = struct.pack("<%dH" % len(samples), *samples)
+        assert [levels._span(field, system, line) for line in (1, 2)] == [
+            (2000 * line + wanted[0], 2000 * line + wanted[1]) for line in (1, 2)]
+    for spans, wanted in (((0, 999, 0, 0), None), ((0, 1000, 0, 0), (0, 1000)), ((499, 4501, 1501, 3500), (0, 5000)),
+                          ((0, 4000, 2000, 4000), (1000, 4000)), ((0, 4000, 2001, 4000), (0, 4000)),
+                          ((30000, 65535, 30000, 65535), (30000, 65535))):
+        monkeypatch.setattr(levels, "_span", lambda field, _, line, spans=spans: spans[2 * line - 2:2 * line])
+        assert levels._levels_in([0], System.NTSC) == wanted
+
+
+def test_which_trial_is_named(monkeypatch):
+    """Of those that read as many lines the first: each level alone, then both, then the other system's. Black is below
+    white. More lines have to be read than by the side's own, and one of twenty."""
+    own, other = (16000, 40000), System.PAL
+    for fields, found, own_read, reads, wanted in (
+            (50, (2000, 30000), 0, {}, (None, None, None, 0)),
+            (50, (2000, 30000), 0, {(16000, 30000): 60, (2000, 40000): 60}, (None, None, 30000, 60)),
+            (50, (2000, 30000), 0, {(2000, 40000): 60, (2000, 30000): 60}, (None, 2000, None, 60)),
+            (50, (2000, 30000), 0, {(2000, 30000): 60, (other, *own): 60}, (None, 2000, 30000, 60)),
+            (50, (2000, 30000), 0, {(2000, 30000): 59, (other, *own): 60}, ("PAL", None, None, 60)),
+            (50, (2000, 9000), 0, {(16000, 9000): 60}, (None, None, None, 0)),
+            (50, (2000, 16000), 0, {(16000, 16000): 60}, (None, None, None, 0)),
+            (50, None, 0, {(other, *own): 60}, ("PAL", None, None, 60)),
+            (50, (2000, 30000), 60, {(2000, 30000): 60}, (None, None, None, 0)),
+            (50, (2000, 30000), 0, {(2000, 30000): 5}, (None, 2000, 30000, 5)),
+            (51, (2000, 30000), 0, {(2000, 30000): 5}, (None, None, None, 0))):
+        counts = {(System.NTSC, *own): own_read, **{
+            one if len(one) == 3 else (System.NTSC, *one): count for one, count in reads.items()}}
+        monkeypatch.setattr(levels, "_levels_in", lambda rows, system, found=found: found and Levels(*found))
+        monkeypatch.setattr(levels, "_read", lambda rows, setup, counts=counts: counts.get(
+            (setup.system, *setup.levels), 0))
+        tried = levels.tried_on(Trial(fields))
+        assert tried[:4] == (2 * fields, own_read, *own)
+        assert tried.best == (Best(*wanted) if wanted[-1] else None)

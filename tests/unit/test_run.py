@@ -193,6 +193,7 @@ sys.exit(main())"""
 CLOSED = (
     ((1,), "side.tbc --svg side.svg", 0, b"", "ldvbi-side: side.tbc: black16bIre is 16383.5, rounded to 16384\n"),
     ((0, 1, 2), "side.tbc --csv --map side.map", 2, b"", ""),
+    ((1,), "side.vbi.json --seek 3", 2, b"", "ldvbi-side: standard output: Bad file descriptor\n"),
     ((2,), "side.tbc --seek 3 --map side.map", 0, b"field 4, frame 2\n", ""), ((2,), "absent", 2, b"", ""),
     ((2,), "side.vbi.json --\udcff", 2, b"", ""), ((2,), "ü\udcff", 2, b"", ""),
     ((0, 2), "scan --csv absent", 2, b"SIDES\nabsent,fault,,,,,,,,,,,No such file or directory,,\n", ""),
@@ -207,6 +208,13 @@ def test_closed_streams(drawn, numbers, words, wanted):
     assert (status, re.sub(b"^side,.*", b"SIDES", text), said) == wanted
     for name, begin in (("side.svg", b"<svg"), ("side.map", b"kind,number")):
         assert name not in words or drawn.read(name).startswith(begin)
+
+
+def test_what_is_in_the_place_of_closed_streams(room):
+    """Processes that the command starts have it, too."""
+    asked = "import os; from ldvbi_side import outside; outside.open_streams()\n" \
+            "os._exit(sum(os.get_inheritable(number) << number for number in range(3)))"
+    assert room.run_command("-c", asked, command=[sys.executable], preexec_fn=lambda: os.closerange(0, 3))[0] == 7
 
 
 @pytest.mark.parametrize("words, more", (("absent", {}), ("absent", {"PYTHONUNBUFFERED": "1"}), ("--black", {})))
@@ -224,10 +232,14 @@ def test_while_python_ends(drawn, number, is_stopped, wanted):
 
 
 def test_ctrl_c_in_a_call():
-    """A program that calls the command may heed signals as Python does."""
+    """A program that calls the command may heed signals as Python does, and have a timer."""
+    before = [*map(signal.getsignal, (signal.SIGINT, signal.SIGTERM, signal.SIGHUP))]
+    signal.setitimer(signal.ITIMER_REAL, DEADLINE)
     with mock.patch("ldvbi_side.command.main.main", side_effect=KeyboardInterrupt), \
             mock.patch("ldvbi_side.__main__.drop_standard_output") as drop:
         assert (main([]), drop.call_count) == (130, 1)
+    assert signal.setitimer(signal.ITIMER_REAL, 0)[0] > 0
+    assert [*map(signal.getsignal, (signal.SIGINT, signal.SIGTERM, signal.SIGHUP))] == before
 
 
 @pytest.mark.parametrize("name, number, status, more", (
@@ -262,10 +274,14 @@ SCRIPT = os.path.join(TOP, "python", "ldvbi-side")
     ("import os, signal\nos.kill(os.getpid(), signal.SIGINT)\n", [SCRIPT, "--help"], 0),
     (STOPS_AT % "ldvbi_side.__main__", [sys.executable, "-m", "ldvbi_side", "side.vbi.json", "--seek", "3"], 130),
     (STOPS_AT % "ldvbi_side.outside", [sys.executable, "-m", "ldvbi_side"], 130),
-    (STOPS_AT % "ldvbi_side.outside", [sys.executable, "./ldvbi-side"], 130),  # the script that pip makes
+    (STOPS_AT % "ldvbi_side.outside", [sys.executable, "./ldvbi-side", "x"], 130),  # the script that pip makes
     # as a part of another program the package leaves signals as they are
-    (STOPS_AT % "ldvbi_side.near", [sys.executable, "-m", "other", "ldvbi_side"], 7),
-    (STOPS_AT % "ldvbi_side.near", [sys.executable, "-c", "import other", "ldvbi_side"], 7)))
+    (STOPS_AT % "ldvbi_side.near", [sys.executable, "-m", "other.part", "ldvbi_side"], 7),
+    (STOPS_AT % "ldvbi_side.near",
+     [sys.executable, "-c", "import sys; del sys.argv[0]; import other", "ldvbi_side"], 7),
+    # and so it does where Ctrl-C is ignored
+    (STOPS_AT % "ldvbi_side.outside", ["sh", "-c", 'trap "" INT; exec "$@"', "sh", sys.executable, "-m", "ldvbi_side",
+                                       "--help"], 0)))
 def test_while_first_modules_are_loaded(room, begin, words, wanted):
     """Python's own, or those of the package."""
     room.write("sitecustomize.py", begin)

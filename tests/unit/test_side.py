@@ -2,13 +2,10 @@
 
 import gc
 import re
-import struct
 
 from compact import cells_of, made
 from discs import side, typed
-from ldvbi import field_bytes, System
 from ldvbi.readings import Cut, Levels
-from ldvbi_side import levels
 from ldvbi_side.answer.entries import FewWords, Numbered
 from ldvbi_side.answer.lines import SIZES
 from ldvbi_side.as_json import as_json
@@ -28,9 +25,9 @@ SOUGHT = """
         | 0:00:00.00: the side counts pictures, not times | 0:00: the side counts pictures, not minutes
     t103450..103549 | 1:08:59.25: no clock shows it | 1:08:60: no clock shows it | 1:60: no clock shows it
         | 1:9:1.3: 157 79 | 1:10: the numbers end at 1:09:01.24, in field 199
-        | 69: the side counts times, not pictures
+        | 69: the side counts times, not pictures | 1:59:59: the numbers end at 1:09:01.24, in field 199
         | 0:01:09.00: lost before field 1; time 1:08:58.00 is in field 1
-    t1500..1529 t1510..1539 31=?/?/? | 0:01:00.15: 71 36 | 0:01:00: 1 1
+    t1500..1529 t1510..1539 31=?/?/? | 0:01:00.15: 71 36 | 0:01:00: 1 1 || PAL/1 1..20 -1 | 2: 2 1 | chapter 0: 1 0
     t103450..103549 101=?/?/? | 1:09: 101 51, by the numbers around it: no number was read there
     m69..70x3000 | 1:10: 3001 1501 | 1:11: the numbers end at 1:10, in field 3001
         | 1:09:00: the side counts minutes, not seconds
@@ -41,8 +38,10 @@ SOUGHT = """
         | chapter 2: chapter 3 follows chapter 0 in field 22
     1..10 31..40 2:20/2=-/c1/c1 22:40/2=-/c3/c3 | chapter 0: the chapters begin at 1, in field 2
         | chapter 2: chapter 3 follows chapter 1 in field 22, and fields are lost before it
+    1..5 11..20 31..40 2:20/2=-/c1/c1 22:50/2=-/c3/c3 | chapter 2: chapter 3 follows chapter 1 in field 22
+    1..11 31..40 2:20/2=-/c1/c1 21=-/#11/c3 22:42/2=-/c3/c3 | chapter 2: chapter 3 follows chapter 1 in field 21
+    1..10 31..40 2:20/2=-/c1/c1 21=-/#31/c1 22:40/2=-/c3/c3 | chapter 2: chapter 3 follows chapter 1 in field 22
     Lx2 1..40 4:82/2=-/c5/c5 Ox2 Lx2 1..40 88:166/2=-/c3/c3 | chapter 4: no field shows it
-    PAL/1 1..20 -1 | 2: 2 1 | chapter 0: 1 0
     1..11 14..30 41=-/c0/c0 | 12: lost after field 21; picture 11 is in field 21, picture 14 in field 23
         | 23: unread after field 39; picture 22 is in field 39, picture 24 in field 43
     f1..30 24=-/c0/c0 | 10: lost or unread after field 21; picture 9 is in field 21, picture 11 in field 26
@@ -52,10 +51,11 @@ SOUGHT = """
         time 0:00:13.09 is in field 799, time 0:00:13.11 in field 801
     m0x3000 m5..6x3000 | 0:03: lost after field 1; minute 0:00 is in field 1, minute 0:05 in field 3001
     Lx2 1..20 Ox2 Lx2 41..60 | 30: no field shows it; picture 20 is in field 41, picture 41 in field 47
+    1..10 21..30 1..5 | 15: lost after field 19; picture 10 is in field 19, picture 21 in field 21
     Bx10 | 3: no number of the side is believed | chapter 1: no chapter of the side is believed
 """
 
-# The same of sides with fields of padding, from one to another
+# The same of sides with fields of padding, from one to another. Metadata of others may call so what shows numbers.
 PADDED = """
     7:8 | 1..3 Bx2 5..8 Bx2 10..12 | 4: padding in fields 7 to 8, between 3 in field 5 and 5 in field 9
         | 9: 17 9, by the numbers around it: no number was read there
@@ -67,8 +67,16 @@ PADDED = """
     8:8 | 1..3 B 5..8 | 4: lost or unread after field 5; picture 3 is in field 5, picture 5 in field 8
     1:4 | Bx4 3..8 | 2: the numbers begin at 3, in field 5, after padding in fields 1 to 4 | 9: the numbers end at 8, in
         field 15
-    2:4 | Bx4 3..8 | 2: the numbers begin at 3, in field 5
-    1:1 | B 3..8 | 2: padding in field 1, beside 3 in field 2
+    2:4 | Bx4 3..8 | 2: the numbers begin at 3, in field 5 || 1:1 | B 3..8 | 2: padding in field 1, beside 3 in field 2
+    1:4+9:10 | Bx4 3..4 Bx2 6..8 | 2: the numbers begin at 3, in field 5, after padding in fields 1 to 4
+    5:6+11:12 | 1..2 Bx2 4..5 Bx2 7..9 | 3: padding in fields 5 to 6, between 2 in field 3 and 4 in field 7
+        | 6: padding in fields 11 to 12, between 5 in field 9 and 7 in field 13
+    27:28 | 41..50 11..13 Bx2 15..18 1..5 | 14: padding in fields 27 to 28, between 13 in field 25 and 15 in field 29
+    7:7 | b1..3 Bx2 b5..8 | 4: padding in field 7, between 3 in field 5 and 5 in field 9
+    4:5 | b1..3 b5..8 | 4: lost after field 5; picture 3 is in field 5, picture 5 in field 7
+    5:6 | b1..3 b5..8 | 4: padding in fields 5 to 6, between 3 in field 5 and 5 in field 7
+    6:6 | b1..3 b5..8 | 4: padding in field 6, between 3 in field 5 and 5 in field 7
+    6:7 | b1..3 b5..8 | 4: padding in fields 6 to 7, between 3 in field 5 and 5 in field 7
     1:1 | B t103450..103549 | 0:01:09.00: padding in field 1, beside 1:08:58.00 in field 2
 """
 
@@ -79,15 +87,15 @@ def test_texts():
                          ("1:9:3.7", ("time", (1, 9, 3, 7))), ("1:09:30", ("time", (1, 9, 30)))):
         assert wanted_of(text) == wanted
     for text in ("", "x", "-1", "1:2", "1:02:3", "1:02:03.", "chapter", "chapter  3", "1.5", " 1", "1:09:30.12.1"):
-        assert reason(wanted_of, text) is not None
+        assert reason(wanted_of, text).endswith(", nor a time h:mm, h:mm:ss or h:mm:ss.pp, nor chapter n: %r" % text)
 
 
 @pytest.mark.parametrize("pads, text, asked", [(pads, text, asked) for pads, text, *asked in (
-    *(("0:0", *cells) for cells in cells_of(SOUGHT)), *cells_of(PADDED))])
+    *(("", *cells) for cells in cells_of(SOUGHT)), *cells_of(PADDED))])
 def test_what_is_found(pads, text, asked):
-    first, last = map(int, pads.split(":"))
     given = made(text, side)
-    given.pad = [first <= field <= last for field in range(1, len(given.readings) + 1)] if last else None
+    pads = [range(int(first), int(last) + 1) for first, last in re.findall(r"(\d+):(\d+)", pads)]
+    given.pad = [any(field in pad for pad in pads) for field in range(1, len(given.readings) + 1)] if pads else None
     known = given.analysis.answer
     for number, _, wanted in (one.partition(": ") for one in asked):
         asked_for = wanted_of(number)
@@ -141,6 +149,8 @@ FIELD_ROWS = (
     ("t1498..1501 6=-/-/@0:01 7=8AE001/?/?", """1|1|clv|||0:00:59.23  2|1|clv||0||||cx off 000  3|2|clv|||0:00:59.24
         4|2|clv||0||||cx off 000  5|3|clv|||0:01:00.00  6|3|clv|||0:01  7|4|clv|||0:01:00.01
         8|4|clv||0||||cx off 000"""),
+    ("t1498..1499 3=-/F0DD75/-", """1|1|clv|||0:00:59.23  2|1|clv||0||||cx off 000
+        3|2|clv|||||time on line 17, pass 1: clock  4|2|clv||0||||cx off 000"""),
     ("m9 -/M/- -/@0:09/-", "1|1|clv|||0:09  2|1|clv  3|2|clv|||0:09"),
     ("b4..5", "1|1|cav|4  2|1|cav|4  3|2|cav|5  4|2|cav|5"), ("B", ""))
 
@@ -195,7 +205,7 @@ SUMMARIES = """
     n0..3x3000 -3002:6000 | lost fields: at least 2999 (at least 2999, between fields 3001 and 3001)
     n0..3x3000 -3001:6000 | lost fields: at least 3000 (at least 3000 after field 3000)
     m9..11x3000 | lost: 9 (minutes 0:00 to 0:08 before field 1) | lost fields: at least 27000 (at least 27000
-        before field 1)
+        before field 1) || B m9..11x3000 | lost fields: at least 26999 (at least 26999 before field 2)
     NTSC f1..60 f66..120 | lost fields: at least 12 (at least 12 after field 149)
     b1..60 b66..120 | whole: no: at least 10 fields lost; 5 pictures lost | lost fields: at least 10 (at least 10 after
         field 120)
@@ -208,6 +218,19 @@ SUMMARIES = """
     1..9 3=S/#2/#2 5=S^/#3/#3 | picture stops: 1 (picture 2 in field 3), unsure: 1 (picture 3 in field 5)
         | codes out of place: none
     Bx9 | system: PAL, no code of CAV or CLV
+        | line 17: 0 words, 0 of them read only after smoothing; 0 bad (0.00 %), 9 blank
+    1..30 3=? 7=? 11=? 15=? | unread: 4 (picture 2 after field 1, picture 4 after field 5, picture 6 after field 9,
+        picture 8 after field 13)
+    1..30 5=-/#70/#80 8=-/c0/c3 9=-/#5/#15 | lines 17 and 18 differ: 3 (field 5: picture 70 and 80, none taken,
+        field 8: chapter 0 and 3, 0 taken, field 9: picture 5 and 15, 5 taken)
+    1..30 5=-/#3/#13 7=-/#4/#14 9=-/#5/#15 11=-/#6/#16 13=-/#7/#17 15=-/#8/#18 | lines 17 and 18 differ: 6 (field 5:
+        picture 3 and 13, 3 taken, field 7: picture 4 and 14, 4 taken, field 9: picture 5 and 15, 5 taken, field 11:
+        picture 6 and 16, 6 taken and 2 more)
+    t103450..103549 21=?/@1:08/@1:09 | lines 17 and 18 differ: 1 (field 21: time 1:08 and 1:09, none taken)
+    1..8 13=-/8DC000/- | codes out of place: 1 (cx on in field 13 line 17) || PAL/1 S/-/- B | picture stops: 1
+        (field 1)
+    1..60 40061..40070 71..140 | jumps: 1 (fields 121 to 140 show pictures 40061 to 40070, misread or played in the
+        place of others)
     NTSC f1..30 | whole: yes | system: NTSC, CAV, film (2 and 3 fields a picture)
     NTSC t0..1 t3..4 | system: NTSC, CLV | unread: none, undecided: 1 (time 0:00:00.02 after field 3)
     NTSC t0..5999!400%1001 | skipped by the disc itself: 6
@@ -252,74 +275,15 @@ def test_levels():
     for expected, cut, is_other in ((4, None, False), (None, None, False), (3, None, True), (None, Cut(5, 7), True)):
         one = made("Bx4", side, cut=cut)
         one.expected = expected
-        assert (list(summary(one.analysis.answer))[7] == "try: another system, or this file's own metadata") == is_other
-
-
-class Trial:
-    """A stream of so many fields, of which each one's number stands for its lines."""
-    system, black, white = System.NTSC, 16000, 40000
-
-    def __init__(self, fields):
-        self.size = fields * field_bytes(System.NTSC)
-
-    def rows_as(self, system, field):
-        return field
-
-
-def test_which_fields_are_tried():
-    """All of 100; of more 50 pairs, from the first one to the last."""
-    assert list(levels._rows(Trial(100), System.NTSC)) == [*range(100)]
-    for count, begin, end in ((101, [0, 1, 2, 3, 4, 5], [96, 97, 99, 100]), (1001, [0, 1, 20, 21, 40, 41, 61, 62],
-                                                                        [978, 979, 999, 1000])):
-        found = list(levels._rows(Trial(count), System.NTSC))
-        assert (len(found), found[:len(begin)], found[-4:]) == (100, begin, end)
-
-
-def test_which_levels_are_tried(monkeypatch):
-    """A fifth of a word's columns is below its low level, and a fifth above the high one. Levels are those of the lines
-    with half as wide a span as the widest one, or more."""
-    for system, width, wanted in ((System.NTSC, 910, (287, 699)), (System.PAL, 1135, (360, 871))):
-        samples = [2000 * line + column for line in range(3) for column in range(width)]
-        field = struct.pack("<%dH" % len(samples), *samples)
-        assert [levels._span(field, system, line) for line in (1, 2)] == [
-            (2000 * line + wanted[0], 2000 * line + wanted[1]) for line in (1, 2)]
-    for spans, wanted in (((0, 999, 0, 0), None), ((0, 1000, 0, 0), (0, 1000)), ((499, 4501, 1501, 3500), (0, 5000)),
-                          ((0, 4000, 2000, 4000), (1000, 4000)), ((0, 4000, 2001, 4000), (0, 4000)),
-                          ((30000, 65535, 30000, 65535), (30000, 65535))):
-        monkeypatch.setattr(levels, "_span", lambda field, _, line, spans=spans: spans[2 * line - 2:2 * line])
-        assert levels._levels_in([0], System.NTSC) == wanted
-
-
-def test_which_trial_is_named(monkeypatch):
-    """Of those that read as many lines the first: each level alone, then both, then the other system's. Black is below
-    white. More lines have to be read than by the side's own, and one of twenty."""
-    own, other = (16000, 40000), System.PAL
-    for fields, found, own_read, reads, wanted in (
-            (50, (2000, 30000), 0, {}, (None, None, None, 0)),
-            (50, (2000, 30000), 0, {(16000, 30000): 60, (2000, 40000): 60}, (None, None, 30000, 60)),
-            (50, (2000, 30000), 0, {(2000, 40000): 60, (2000, 30000): 60}, (None, 2000, None, 60)),
-            (50, (2000, 30000), 0, {(2000, 30000): 60, (other, *own): 60}, (None, 2000, 30000, 60)),
-            (50, (2000, 30000), 0, {(2000, 30000): 59, (other, *own): 60}, ("PAL", None, None, 60)),
-            (50, (2000, 9000), 0, {(16000, 9000): 60}, (None, None, None, 0)),
-            (50, (2000, 16000), 0, {(16000, 16000): 60}, (None, None, None, 0)),
-            (50, None, 0, {(other, *own): 60}, ("PAL", None, None, 60)),
-            (50, (2000, 30000), 60, {(2000, 30000): 60}, (None, None, None, 0)),
-            (50, (2000, 30000), 0, {(2000, 30000): 5}, (None, 2000, 30000, 5)),
-            (51, (2000, 30000), 0, {(2000, 30000): 5}, (None, None, None, 0))):
-        counts = {(System.NTSC, *own): own_read, **{
-            one if len(one) == 3 else (System.NTSC, *one): count for one, count in reads.items()}}
-        monkeypatch.setattr(levels, "_levels_in", lambda rows, system, found=found: found and Levels(*found))
-        monkeypatch.setattr(levels, "_read", lambda rows, setup, counts=counts: counts.get(
-            (setup.system, *setup.levels), 0))
-        tried = levels.tried_on(Trial(fields))
-        assert tried[:4] == (2 * fields, own_read, *own)
-        assert tried.best == (Best(*wanted) if wanted[-1] else None)
+        found = list(summary(one.analysis.answer))
+        assert found[2] == "fields: 4, cut: " + ("field 5, of 7 bytes" if cut else "none")
+        assert (found[7] == "try: another system, or this file's own metadata") == is_other
 
 
 def test_what_metadata_counts():
     """A line, if numberOfSequentialFields isn't the count of its fields, or that of the file."""
     for sequential, fields, text in ((8, 8, None), (None, 9, None), (9, 8, "9, and it has 8"),
-                                     (9, 9, "9, and it has 9"), (8, 9, "8, and it has 9")):
+                                     (9, 9, "9, and it has 9"), (8, 9, "8, and it has 9"), (8, None, "8, and it has 0")):
         one = made("1..4", side)
         one.sequential, one.expected = sequential, fields
         assert [line for line in summary(one.analysis.answer) if line.startswith("metadata: ")] == (
@@ -332,7 +296,7 @@ def test_at_most_27_lines():
                             swapped=[Numbered(1, "2:20:00.00")])
     lines = list(summary(known))
     assert (len(lines), MOST_LINES) == (27, 27)
-    assert [line for line in lines if line.startswith("a second row of numbers, not taken: 2:20:")]
+    assert "a second row of numbers, not taken: 2:20:00.00 to 2:20:59.29 in fields 1 to 17971" in lines
 
 
 # What the JSON has of a side with two worn words, a bad line, and some codes

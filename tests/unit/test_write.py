@@ -240,7 +240,8 @@ REFUSED = (
     ({}, "--from 0 --most-padding 1", "2 of 50 fields would be padding; see --most-padding"),
     ({}, "p.tbc", "system of a.tbc is NTSC, of p.tbc PAL: decode both in one way"),
     ({}, "d.tbc", "metadata of one form is needed: a.tbc.json, b.tbc.json, d.tbc.db"),
-    ({}, "side.vbi.json", "side.vbi.json is a document: fields are taken from TBC files"))
+    ({}, "side.vbi.json", "side.vbi.json is a document: fields are taken from TBC files"),
+    ({"b.tbc": lambda _: b" " * 99 + b'{"version":2}'}, "", "b.tbc is a document: fields are taken from TBC files"))
 
 
 def test_refused(room):

@@ -170,7 +170,7 @@ def _opened(path: str, settings: argparse.Namespace, has_recovered: bool) -> _Op
 
 def _refuse_document(path):
     with open(path, "rb") as file:
-        if is_document(path, file.read(64)):
+        if is_document(path, file.peek()):
             raise ValueError("%s is a document: fields are taken from TBC files" % path)
 
 
