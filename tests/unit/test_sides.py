@@ -90,6 +90,9 @@ LASTS = """
     90 | 1..90 Bx300 | said yes || 90 | 1..90 | said yes | givenLast 90 || 90 | 1..89 90x10 Ox4 | said yes
     90 | 1..90 -180 | said no: 1 field lost | lost 179-180 1 number | no missing || 90 | 1..90 180=O Ox3 | said yes
     90 | 1..90 180=O | said yes || 0:00:60 | t0..59 | reasons last || 0:60:00 | t0..59 | reasons last
+    0:59:59 | t0..59 | missing 0:00:02.10-0:59:59.00 lost || 1:01 | t0..59 | missing 0:00:02.10-1:01:00.00 lost
+    1:01:01 | t0..59 | missing 0:00:02.10-1:01:01.00 lost || 1:00 | m0..1x9 | missing 0:02-1:00 lost
+    100 | 1..90 51..60 -193:194 | lost 180-181 20 number, 191-193 2 number
     90 | 1..93 | said can't tell: it ends at 93, after 90 that was given as the last | no missing lost
     0:03 | 1..93 | said can't tell: 0:03, given as the last, is none of its numbers || 93 | t0..59 | reasons last
     0:00:00.25 | t0..59 | reasons last || 7 | Bx9 | reasons numbers
