@@ -243,7 +243,7 @@ def test_what_else_is_known():
                        ({"expected": 69}, "no: 68 fields of 69 that the metadata has"),
                        ({"cut": Cut(69, 5)}, "yes")):
         check_row("known", "Lx4 1..30 Ox4", "said " + said, **more)
-    for text, said in (("Lx4 1..30", "no: field 65 is cut"), ("1..9 Ox5 10..28", "..(two sides joined); field 65 is cut")):
+    for text, said in (("Lx4 1..30", "no: field 65 is cut"), ("1..9 Ox5 10..28", "..sides joined); field 65 is cut")):
         check_row("cut before lead-out", text, "said " + said, cut=Cut(65, 5))
     for text, pad, said in (("B 1..30", [1], "yes"), ("Bx2 1..30", [1, 2], "no: 2 fields are padding"),
                             ("1..30 5=B", [5], "no: 1 picture is padding"), ("1..30", [6], "no: 1 field is padding"),
