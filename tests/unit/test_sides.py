@@ -46,6 +46,9 @@ DETOURS = """
     inserted | t0..299 t400..599 t300..699 | no lost breaks missing unread
         | said no: 1 detour (fields 601 to 1000 show times 0:00:16.00 to 0:00:23.24)
     inserted | NTSC f1..100 f41..60 f101..200 | said no: 1 detour (fields 251 to 300 show pictures 41 to 60) | no lost
+    inserted | NTSC f1..100 f41..60 f101..112 B e113..135 f135x3 f136..144 B | no breaks lost
+        | said no: 1 detour (fields 251 to 300 show pictures 41 to 60); fields 1 to 418 are 2 fields more than their..
+    inserted | b1..200 b41..60 b201..219 b220 -/#220/#220 b221..400 | no breaks lost | reasons detours, off
     replaced | 1..60 40061..40070 71..140 | no lost breaks unread | missing 61-70 undecided | doubtful x20 | count 130
         | said can't tell: fields 121 to 140 show pictures 40061 to 40070, misread or played in the place of others; 1..
     replaced | 1..60 <61..70 -/-/#N+40000^ B> 71..140 | no lost breaks | missing 61-70 unread | doubtful x10
@@ -63,6 +66,7 @@ DETOURS = """
         | repeated 139-140@277-279 after 273 | detours replaced 201-276 103-140
     replaced | 1..100 98..130 134..200 | no lost breaks doubtful | missing 131-133 undecided | count 197
     replaced | 1..100 111..120 111..200 | no lost breaks repeated | missing 101-110 undecided | doubtful x20
+        | reasons replaced, undecided
     replaced | 1..100 110..119 111..200 | no lost breaks doubtful | missing 101-109 undecided
     replaced | 1..100 91..100 111..200 | no lost breaks repeated | missing 101-110 undecided | doubtful x20
     replaced | 1..100 92..101 111..200 | no lost breaks doubtful | missing 102-110 undecided
@@ -88,9 +92,13 @@ LASTS = """
     100 | Lx4 1..90 Ox4 | said no: 20 fields lost; 10 pictures lost | lost 184-185 20 number
     90 | 1..90 Bx300 | said yes || 90 | 1..90 | said yes | givenLast 90 || 90 | 1..89 90x10 Ox4 | said yes
     90 | 1..90 -180 | said no: 1 field lost | lost 179-180 1 number | no missing || 90 | 1..90 180=O Ox3 | said yes
+    90 | 1..90 180=O | said yes || 0:00:60 | t0..59 | reasons last || 0:60:00 | t0..59 | reasons last
+    0:59:59 | t0..59 | missing 0:00:02.10-0:59:59.00 lost || 1:01 | t0..59 | missing 0:00:02.10-1:01:00.00 lost
+    1:01:01 | t0..59 | missing 0:00:02.10-1:01:01.00 lost || 1:00 | m0..1x9 | missing 0:02-1:00 lost
+    100 | 1..90 51..60 -193:194 | lost 180-181 20 number, 191-193 2 number
     90 | 1..93 | said can't tell: it ends at 93, after 90 that was given as the last | no missing lost
     0:03 | 1..93 | said can't tell: 0:03, given as the last, is none of its numbers || 93 | t0..59 | reasons last
-    0:75:00 | t0..59 | reasons last || 0:00:00.25 | t0..59 | reasons last || 7 | Bx9 | reasons numbers
+    0:00:00.25 | t0..59 | reasons last || 7 | Bx9 | reasons numbers
     0:00:02 | t0..59 | said yes || 0:00 | t0..59 | said yes || 0:00:01 | t0..59 | reasons last
     0:00:03 | t0..59 | said no: at least 32 fields lost; 16 times lost | missing 0:00:02.10-0:00:03.00 lost
     100 | 1..90 Bx20 | said can't tell: 10 pictures undecided | no lost || 100 | 1..90 ?x20 | said yes
@@ -235,7 +243,7 @@ def test_what_else_is_known():
                        ({"expected": 69}, "no: 68 fields of 69 that the metadata has"),
                        ({"cut": Cut(69, 5)}, "yes")):
         check_row("known", "Lx4 1..30 Ox4", "said " + said, **more)
-    for text, said in (("Lx4 1..30", "no: field 65 is cut"), ("1..9 Ox5 10..28", "no: lead-out in field 19, and ..")):
+    for text, said in (("Lx4 1..30", "no: field 65 is cut"), ("1..9 Ox5 10..28", "..sides joined); field 65 is cut")):
         check_row("cut before lead-out", text, "said " + said, cut=Cut(65, 5))
     for text, pad, said in (("B 1..30", [1], "yes"), ("Bx2 1..30", [1, 2], "no: 2 fields are padding"),
                             ("1..30 5=B", [5], "no: 1 picture is padding"), ("1..30", [6], "no: 1 field is padding"),

@@ -75,8 +75,9 @@ def gaps_of(places: Places, shown: ByField, lead_out: Set[int]) -> Gaps:
     found["open"] += [one for one in places.breaks if is_outside(judged, one)]
     more = None
     if judged.reasons & Reason.is_off and not judged.reasons & _BY_GAPS:
-        opened = Between((one.after, one.before) for one in found["open"])
-        off = [one for one in _off_in(places, judged) if not opened.hold(one.after, one.before)]
+        explained = Between([(one.after, one.before) for one in found["open"]] +
+                            [(gap.after + 1, gap.before + 1) for gap in away])
+        off = [one for one in _off_in(places, judged) if not explained.hold(one.after, one.before)]
         found["breaks"] += off
         more = None if off or _is_explained(places, judged, lead_out) else _more(places.numbers)
     for name in ("breaks", "open"):

@@ -54,7 +54,7 @@ def _in_order(sure):
     numbers = list(sure.values())
     late = {field for field, before, one, after in zip(list(sure)[1:], numbers, numbers[1:], numbers[2:])
             if not before <= one <= after and before <= after}
-    return {field: number for field, number in sure.items() if field not in late} if late else sure
+    return {field: number for field, number in sure.items() if field not in late}
 
 
 def _inside(found, sure):
