@@ -175,7 +175,8 @@ DRAWN = """
       | run 0:00:58.00 to 0:00:59.29 in fields 1 to 119; 0:01:00.05 to 0:01:00.29 in fields 121 to 169
     | empty no picture number and no time
     Bx40 | empty no picture number and no time; lines 17 and 18 have 0 words, 0 are bad, 80 blank: are black and ..
-    -/#9/#9 | run 9 in field 1 || NTSC f1..39 | system NTSC, CAV, film (2 and 3 fields a picture), 98 ..
+    -/#9/#9 | run 9 in field 1 | @run 1-1 1 630 368 630 368
+    NTSC f1..39 | system NTSC, CAV, film (2 and 3 fields a picture), 98 ..
     NTSC 8AE001/@0:01/@0:02 | +count doubtful: 3 | empty no picture number and no time is believed | #run 0 | #doubt 0
     10..19 1 21..29 | number-label 10; 15; 20; 25 | doubt doubtful: picture 1 in .. | +count doubtful: 2
     m59x20 m60x28 9=-/M/@2:10 | doubt doubtful: time 2:10 in .. || t0..57 9=s7.12/M/- | doubt
@@ -186,9 +187,12 @@ DRAWN = """
       | +line-17 line 17, field 61: hold 200
     t0..57/3 | +count other speeds: 1 | -count swapped || 1 | +count lost: 0 | -count undecided
     1..9 ?x4 14..30 | +count undecided: 4 || PAL/8 1..3 6..9 | +count lost fields: 4 || 1..30 21=? | +count unread: 1
-    1..600!0%8 | +count lost: 74 | #lost 74 | #lost-fields 74 | #upright 0 || 1..399!0%8 | #upright 98
-    <1..60 -/#N/#N -/cN/cN> | #chapter 60 | #chapter-line 60 || <1..70 -/#N/#N -/cN/cN> | #chapter 70 | #chapter-line 0
-    <1..30 -/#N/#N -/cN/cN> | disc-label 1; 2; 3; 4; 5; 6; 7; 8; 9
+    1..495!0%8 | +count lost: 61 | #lost 61 | #lost-fields 61 | #upright 0 || 1..487!0%8 | #upright 120
+    <1..60 -/#N/#N -/cN/cN> | #chapter 60 | #chapter-line 60 || <1..61 -/#N/#N -/cN/cN> | #chapter 61 | #chapter-line 0
+    <1..30 -/#N/#N -/cN/cN> | disc-label 1; 2; 3; 4; 5; 6; 7; 8; 9 || Lx6 1..45 | disc-label lead-in; chapter 0
+    <1..35 -/#N/#N -/cN/cN> | disc-label 2; 4; 5; 6; 7; 9 || 1..480 102.16=S 104.16=S | #stop 2
+    1..10 1.16=S 3.16=? | +line-16 line 16, field 3: change || 1..10 B 1.16=S 3.16=? | +line-16 field 3: noise
+    MANY B | @line-18 1-4840 124-366 blank 28; 4841-4841 366-367 blank 28
 """
 MANY = "NTSC 1..2420 1:4840/2.18=- 2:4840/2=B"  # 20 fields to a pixel of the narrow drawing
 
@@ -203,7 +207,8 @@ def parts_of(text, **more):
     (text, asked) for text, *asked in cells_of(DRAWN.replace("MANY", MANY))))
 def test_drawn(text, asked):
     """Marks that fall together are one. Doubtful numbers beyond the scale stand on both lines, which is one mark on the
-    curve. A strip of 16 pixels has room for one digit, but not for `chapter 5` nor for two."""
+    curve. A strip of 14 pixels has room for one digit, but not one of 13, and one of 16 neither for `chapter 5` nor
+    for two; one of 60 has it for `lead-in`. A last column that has less than a pixel has one."""
     limits = dict(one[1:].split() for one in asked if one[0] == "=")
     with mock.patch.object(bands, "MOST_BOXES", int(limits.get("MOST_BOXES", bands.MOST_BOXES))), \
             mock.patch.object(curve, "MOST_RINGS", int(limits.get("MOST_RINGS", curve.MOST_RINGS))):
@@ -230,6 +235,24 @@ def test_padding():
     assert re.findall('fill="#1e293b" class="(.*?)" data-shown="padding" data-fields="(.*?)" .*<title>(.*)</title>',
                       drawing_of(one, "")) == [
         ("line-%d" % line, "11-12", "line %d, fields 11 to 12: padding" % line) for line in (16, 17, 18)]
+
+
+def test_how_much_is_drawn():
+    """Of a band 2000 boxes, each by itself; 1000 rings by three pixels, and more by twelve; of a field's axis 11 labels
+    in the broad form, and 5 in the narrow one; of a title what has room at 11.05 pixels to a letter."""
+    for count, wanted in ((2000, 2000), (2001, 2)):
+        assert len(bands._few_columns((["word", "blank"] * 1001)[:count], 1)) == wanted
+    for count, wanted in ((1000, 321), (1001, 80)):
+        svg, fields = Svg(20, 10, ""), range(961 - count, 961)
+        doubts = [ENTRIES["doubtful"]._replace(field=max(field, 1)) for field in fields]
+        curve.draw_doubts(svg, Axis(960), Scale("picture", "PAL", Extent(9, 1, 240), 0, 240),
+                          EMPTY._replace(doubtful=doubts))
+        assert len(svg.parts) == wanted
+    for form, count, labels in ((BROAD, 21, "1 2 4 6 8 10 12 14 16 18 20"), (BROAD, 22, "1 5 10 15 20"),
+                                (NARROW, 21, "1 5 10 15 20"), (NARROW, 22, "1 10 20")):
+        text = drawing_of(made("Bx%d" % count, side), "", form)
+        assert re.findall(r'text-anchor="middle">(\d+)<', text) == labels.split(" ")
+    assert [count for count in (86, 87) if "\u2026" in drawing_of(made("B", side), count * "x")] == [87]
 
 
 def test_heads():

@@ -20,7 +20,7 @@ from ldvbi_side.draw.axis import BROAD, NARROW
 from ldvbi_side.draw.bars import bars_of
 from ldvbi_side.draw.drawing import drawing_of
 from ldvbi_side.draw.folds import LISTS
-from ldvbi_side.draw.index import Fault, index_of
+from ldvbi_side.draw.index import Fault, faults_in, index_of
 from ldvbi_side.draw.page import page_of
 from ldvbi_side.draw.plotting import plot_line
 from ldvbi_side.draw.svg import breakable
@@ -40,8 +40,7 @@ SHORT = (("</td><td>", " | "), ("</th><th>", " | "), ("</td></tr>\n<tr><td>", " 
 HEAD = """<!DOCTYPE html>
 <html lang="en"><head><meta charset="utf-8"><title>%s</title>
 <meta http-equiv="Content-Security-Policy" content="default-src 'none'; style-src 'unsafe-inline'; base-uri 'none'; \
-form-\
-action 'none'%s">
+form-action 'none'%s">
 <meta name="viewport" content="width=device-width, initial-scale=1">
 """
 
@@ -78,18 +77,14 @@ BROADNARROW
 required="required"/></label> <output></output></p>
 <p>nothing lost, unread, repeated</p>
 <dl><dt>system: PAL, CAV ; fields: 6 ; line 16: 1 words, 0 of them read only after smoothing; 0 bad (0.00 %), 5 blank \
-; \
-line 17: 4 words, 0 of them read only after smoothing; 1 bad (20.00 %), 1 blank ; line 18: 5 words, 0 of them read \
-only \
-after smoothing; 0 bad (0.00 %), 1 blank ; pictures: 2, from 1 to 2 ; doubtful, set aside: 1 (picture 5 in field 5 \
-line \
-18) ; chapters: 1 (chapter 0 in field 2) ; codes out of place: 1 (chapter in field 4 line 16)</dd></dl>
+; line 17: 4 words, 0 of them read only after smoothing; 1 bad (20.00 %), 1 blank ; line 18: 5 words, 0 of them read \
+only after smoothing; 0 bad (0.00 %), 1 blank ; pictures: 2, from 1 to 2 ; doubtful, set aside: 1 (picture 5 in field \
+5 line 18) ; chapters: 1 (chapter 0 in field 2) ; codes out of place: 1 (chapter in field 4 line 16)</dd></dl>
 <details id="doubtful"><summary>doubtful, set aside: 1 [ field | line | word | kind | pass | why | number | before | \
 after ] 5 | 18 | F00005 | picture | 1 | alone | 5 | 2 in field 3 | \
 <details id="chapters"><summary>chapters: 1 [ chapter | field | last | after | number | frame ] 0 | 2 | 6 |  | 1 | 1\
 <details id="stray"><summary>codes out of place: 1 [ field | line | word | kind | pass | why ] 4 | 16 | 801DDD | \
-chapter \
-| 1 | line\
+chapter | 1 | line\
 <details id="badLines"><summary>bad lines: 1 [ field | line | cause | column | offset | bytes ] 5 | 17 | change 170 | \
 170 | 2878360 | 2270\
 <details id="showings"><summary>numbers as they come by: 2 [ number | first | last ] 1 | 1 | 1 ; 2 | 3 | 3\
@@ -192,6 +187,13 @@ def test_a_whole_index(room):
     folder = os.path.basename(room.folder)
     assert short(text.replace(room.folder, "FOLDER").replace('"%s/' % folder, '"pages/'),
                  ("STYLE", style.STYLE + looks), ("SCRIPT", sorting.SCRIPT)) == INDEX.split("\n")
+
+
+def test_how_much_of_a_page_is_read(room):
+    """Its head is within 64 parts: one of 2048 characters, and each next one of twice as many, up to 65536."""
+    head = '<meta name="ldvbi-faults" content=\'[["a", "b", "c"]]\'>'
+    for more, wanted in ((0, [Fault("a", "b", "c")]), (1, [])):
+        assert faults_in(room.write("index.html", head.rjust(31 * 2048 + 59 * 65536 + more))) == wanted
 
 
 JOINED_PAGE = HEAD % ("&lt;a&gt;.tbc, b.tbc", "") + """\
@@ -341,15 +343,19 @@ def test_long_lists():
         assert read.texts["p"][1:].count("In groups:") == 2 and (
             "The first 500 of %d rows. This page leaves out the others; " % count in read.texts["p"])
     assert "<code>ldvbi-side --json</code> prints all.</p>" in page("1..501")
-    for text, more in (("1..1300 3:2600/4=B", ["150"]), ("1..998 3:1996/4=B", []), ("1..500", [])):
+    for text, more in (("1..1300 3:2600/4=B", ["150"]), ("1..998 3:1996/4=B 999..1000", []),
+                       ("1..998 3:1996/4=B 999..1000 1002", ["1"]), ("1..500", [])):
         assert re.findall("<p>and (.*) more groups</p>", page(text)) == more
     assert "In groups" not in page("1..500")
 
 
 @pytest.mark.parametrize("text, count, size, heads", (
     ("1", 0, 1, []), ("?/-/-", 1, 1, ["drawn"]), ("?/?/?x66 ?", 200, 1, ["drawn"]),
-    ("?/?/?x67", 200, 1, ["the first 200 of 201, drawn"]), ("?/?/?x67", 3, 600000, ["the first 3 of 201, drawn"])))
+    ("?/?/?x67", 200, 1, ["the first 200 of 201, drawn"]), ("?/?/?x67", 3, 600000, ["the first 3 of 201, drawn"]),
+    ("?/?/?x67", 2, 1500000 - 82, ["the first 2 of 201, drawn"]),
+    ("?/?/?x67", 1, 1500001 - 82, ["the first 1 of 201, drawn"])))
 def test_bad_lines_are_drawn_up_to_a_count_and_a_size(text, count, size, heads):
+    """The first one has a head and an end of 82 characters."""
     plot = mock.Mock(return_value="x" * size)
     assert re.findall("<h2>Bad lines, (.*)</h2>", page(text, plot)) == heads
     bad = made(text, side).analysis.answer.bad_lines
