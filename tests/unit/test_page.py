@@ -20,7 +20,7 @@ from ldvbi_side.draw.axis import BROAD, NARROW
 from ldvbi_side.draw.bars import bars_of
 from ldvbi_side.draw.drawing import drawing_of
 from ldvbi_side.draw.folds import LISTS
-from ldvbi_side.draw.index import Fault, faults_in, index_of
+from ldvbi_side.draw.index import Fault, index_of
 from ldvbi_side.draw.page import page_of
 from ldvbi_side.draw.plotting import plot_line
 from ldvbi_side.draw.svg import breakable
@@ -145,15 +145,12 @@ INDEX = HEAD % ("LaserDisc sides", digest(sorting.SCRIPT)) + """\
 <th>lead-out</th><th>scanned on</th></tr></thead>
 <tbody role="rowgroup"><tr role="row"><td role="cell"><a href="pages/p%263.html">a_<wbr/>3.<wbr/>tbc</a></td>\
 <td role="cell" class="no" data-key="0">no | 4 fields lost; 2 pictures lost</td><td role="cell" data-key="2">2 \
-pictures, \
-4 fields | 0 |  | PAL | cav | 1 | 14 | 0 | 0 | 2023-11-14</td></tr>
+pictures, 4 fields | 0 |  | PAL | cav | 1 | 14 | 0 | 0 | 2023-11-14</td></tr>
 <tr role="row"><td role="cell">b&lt;.<wbr/>tbc</td><td role="cell" class="fault" data-key="1">not read | no \
-&lt;such&gt; \
-file</td><td role="cell" data-key="-1"> |  |  |  |  |  |  |  |  | </td></tr>
+&lt;such&gt; file</td><td role="cell" data-key="-1"> |  |  |  |  |  |  |  |  | </td></tr>
 <tr role="row"><td role="cell"><a href="pages/p%261.html">a_<wbr/>1.<wbr/>tbc</a></td>\
 <td role="cell" class="yes" data-key="3">yes | </td><td role="cell" data-key="0">none | 1 |  | PAL | clv | 0:00:00.00 \
-| \
-0:00:00.09 | 0 | 0 | 2023-11-14</td></tr>
+| 0:00:00.09 | 0 | 0 | 2023-11-14</td></tr>
 <tr role="row"><td role="cell"><a href="pages/p%262.html">a_<wbr/>2.<wbr/>tbc</a></td>\
 <td role="cell" class="yes" data-key="3">yes | </td><td role="cell" data-key="0">none | 0 |  | PAL | cav | 1 | 11 | 1 \
 | \
@@ -189,13 +186,6 @@ def test_a_whole_index(room):
                  ("STYLE", style.STYLE + looks), ("SCRIPT", sorting.SCRIPT)) == INDEX.split("\n")
 
 
-def test_how_much_of_a_page_is_read(room):
-    """Its head is within 64 parts: one of 2048 characters, and each next one of twice as many, up to 65536."""
-    head = '<meta name="ldvbi-faults" content=\'[["a", "b", "c"]]\'>'
-    for more, wanted in ((0, [Fault("a", "b", "c")]), (1, [])):
-        assert faults_in(room.write("index.html", head.rjust(31 * 2048 + 59 * 65536 + more))) == wanted
-
-
 JOINED_PAGE = HEAD % ("&lt;a&gt;.tbc, b.tbc", "") + """\
 <style>STYLE</style></head><body>
 <p><a href="index.html">all sides</a></p>
@@ -210,14 +200,13 @@ tbc</a> | no | 21 | 2 | 1 ; b.<wbr/>tbc | no | 22 | 1 | 2</td></tr></tbody></tab
 <details id="lacks"><summary>numbers that one capture lacks and another has: 3 [ capture | first | last | count | in ] \
 &lt;a&gt;.tbc | 11 | 11 | 1 | b.tbc ; &lt;a&gt;.tbc | 13 | 13 | 1 | b.tbc ; b.tbc | 6 | 6 | 1 | &lt;a&gt;.tbc\
 <details id="alone"><summary>numbers that one capture alone has: 3 [ capture | first | last | count ] &lt;a&gt;.tbc | \
-6 \
-| 6 | 1 ; b.tbc | 11 | 11 | 1 ; b.tbc | 13 | 13 | 1\
+6 | 6 | 1 ; b.tbc | 11 | 11 | 1 ; b.tbc | 13 | 13 | 1\
 <details id="better"><summary>numbers that several captures have, and one shows better than the others: 2 [ capture | \
 first | last | count ] &lt;a&gt;.tbc | 5 | 5 | 1 ; b.tbc | 10 | 10 | 1\
 <details id="missing"><summary>numbers that no capture has: 1 [ first | last | count | why ] 12 | 12 | 1 | lost\
 <details id="ranges"><summary>what the file of them takes from which capture: 4 [ first | last | count | source | \
-field \
-| lastField | how ] 1 | 6 | 6 | &lt;a&gt;.tbc | 1 | 12 | whole ; 7 | 10 | 4 | b.tbc | 11 | 18 | whole ; 11 | 11 | 1 | \
+field | \
+lastField | how ] 1 | 6 | 6 | &lt;a&gt;.tbc | 1 | 12 | whole ; 7 | 10 | 4 | b.tbc | 11 | 18 | whole ; 11 | 11 | 1 | \
 b.tbc | 19 | 20 | unsure ; 13 | 24 | 12 | b.tbc | 21 | 44 | whole\
 </body></html>
 """
@@ -312,7 +301,9 @@ def test_bad_lines_of_a_page():
     assert [row[:3] for row in read.rows["badLines"]] == [
         ["41", "17", "change 170"], ["41", "18", "change 170"], ["51", "17", "change 170"], ["7", "17", "change 170"],
         ["42", "18", "hold 200"]]
-    assert read.facts()["line 16"] == "bears no code on this disc: 0 words, 3 fields with noise, 57 blank"
+    assert [read.facts()["line %d" % line] for line in (16, 17)] == [
+        "bears no code on this disc: 0 words, 3 fields with noise, 57 blank",
+        "56 words, 0 of them read only after smoothing; 3 bad (5.08 %), 1 blank"]
     assert [row[1] for row in Page(page("?/?/-x9")).rows["badLines"][:2]] == ["16", "17"]
     assert [row[1] for row in Page(page("t0..20 9=?/M/-")).rows["badLines"]] == ["16"]
 
@@ -340,13 +331,15 @@ def test_long_lists():
     assert read.rows["showings"][:3] == [["1", "501", "1", "1001", "501"], ["4", "9", "1003", "1013", "6"], []]
     for name, count in (("badLines", 503), ("showings", 507)):
         assert len(read.rows[name]) - read.rows[name].index([]) - 1 == 500
-        assert read.texts["p"][1:].count("In groups:") == 2 and (
-            "The first 500 of %d rows. This page leaves out the others; " % count in read.texts["p"])
-    assert "<code>ldvbi-side --json</code> prints all.</p>" in page("1..501")
-    for text, more in (("1..1300 3:2600/4=B", ["150"]), ("1..998 3:1996/4=B 999..1000", []),
-                       ("1..998 3:1996/4=B 999..1000 1002", ["1"]), ("1..500", [])):
-        assert re.findall("<p>and (.*) more groups</p>", page(text)) == more
-    assert "In groups" not in page("1..500")
+    for text, rows, more in (("1..1300 3:2600/4=B", 650, "<p>and 150 more groups</p>"), ("1..500", 500, None),
+                             ("1..998 3:1996/4=B 999..1000", 501, ""),
+                             ("1..998 3:1996/4=B 999..1000 1002", 502, "<p>and 1 more groups</p>")):
+        fold, = re.findall('<details id="showings">(.*?)</details>', page(text), re.S)
+        head = "" if more is None else (
+            "<p>In groups:</p>TABLE%s<p>The first 500 of %d rows. This page leaves out the others; <code>ldvbi-side "
+            "--json</code> prints all.</p>" % (more, rows))
+        assert re.sub('<div class="wide"><table>.*?</table></div>', "TABLE", fold, flags=re.S) == (
+            "<summary>numbers as they come by: %d</summary>%sTABLE" % (rows, head))
 
 
 @pytest.mark.parametrize("text, count, size, heads", (
