@@ -89,7 +89,8 @@ def test_texts_and_ticks_that_fit():
     for width, text, wanted in (
             (46, "0123456789", "012\u2026789"), (65.1, "0123456789", "0123456789"),
             (64.9, "0123456789", "0123\u20266789"), (58.6, "ab/cd_ef.tbc", "ab/\u2026tbc"),
-            (65.1, "ab/cd_ef.tbc", "ab/cd_\u2026tbc"), (65, "abc-defghijklmno", "abc-\u2026")):
+            (65.1, "ab/cd_ef.tbc", "ab/cd_\u2026tbc"), (65, "abc-defghijklmno", "abc-\u2026"),
+            (39.1, "ab/cd_ef.tbc", "ab/\u2026")):
         assert shortened(text, width, 10) == wanted
     svg = Svg(20, 10, "<a>")
     svg.text(1, 2.5, "a < b", "\"&\"", font_size=None, class_="x")

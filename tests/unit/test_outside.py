@@ -21,7 +21,7 @@ import discs
 from ldvbi_side import outside
 from ldvbi_side.command import outputs
 from ldvbi_side.command.outputs import whole_file, whole_files, whole_path
-from ldvbi_side.draw.index import Fault, faults_in, head_of, index_of, PART
+from ldvbi_side.draw.index import faults_in, head_of, index_of, PART
 from ldvbi_side.draw.page import MARK
 from ldvbi_side.join.heads import said_of
 from ldvbi_side.outside import bytes_of_document, legible, printable, shown, uncontrolled
@@ -194,10 +194,12 @@ def refused(room, page, why="no page that --html wrote"):
 
 
 def test_how_much_of_a_page_is_read(room):
-    """Its head is within 64 parts: one of 2048 characters, and each next one of twice as many, up to 65536."""
+    """Its head is within 64 parts: one of 2048 characters, and each next one of twice as many, up to 65536. After one
+    in which its body begins nothing is read."""
     head = '<meta name="ldvbi-faults" content=\'[["a", "b", "c"]]\'>'
-    for more, wanted in ((0, [Fault("a", "b", "c")]), (1, [])):
-        assert faults_in(room.write("index.html", head.rjust(31 * 2048 + 59 * 65536 + more))) == wanted
+    for text, wanted in ((head.rjust(31 * 2048 + 59 * 65536), ["a"]), (head.rjust(31 * 2048 + 59 * 65536 + 1), []),
+                         ((head + "<body>").ljust(2048) + head.replace('"a"', '"d"'), ["a"])):
+        assert [one.side for one in faults_in(room.write("index.html", text))] == wanted
 
 
 def test_pages_of_one_name(room, said):
