@@ -271,11 +271,11 @@ def test_how_much_is_drawn():
 def test_heads():
     """Of groups of rows, which may have no place, and of a side that ends inside a field."""
     assert folds._alike([{"by": "x"}], ["by"]) == (["by", "count", "first row", "last row"], [["x", 1, None, None]])
-    row = {"first": 5, "after": 4, "field": 3, "by": "b", "pass": 1, "why": "w", "kind": "k", "cause": "hold 9", "line": 7}
+    row = {"first": 5, "after": 4, "field": 3, "by": "b", "pass": 1, "why": "w", "kind": "k", "cause": "a 9", "line": 7}
     for place in ("field", "after", "first"):
-        assert folds._alike([row, {**row, "cause": "hold 7", place: 8}], ["word", *row]) == (
+        assert folds._alike([row, {**row, "cause": "a b", place: 8}], ["word", *row]) == (
             ["line", "cause", "kind", "why", "pass", "by", "count", "first " + place, "last " + place],
-            [[7, "hold", "k", "w", 1, "b", 2, row[place], 8]])
+            [[7, "a", "k", "w", 1, "b", 2, row[place], 8]])
         del row[place]
     parts = parts_of("-/#9/#9", cut=Cut(2, 5))
     assert "PAL, CAV, 1 field, field 2 is cut: 5 bytes of it, 1 picture, 9 to 9" in [part.text for _, part in parts]

@@ -15,7 +15,7 @@ from compact import made
 from discs import side
 import ldvbi
 from ldvbi_side.command.summary import summary
-from ldvbi_side.draw import finding, sorting, style
+from ldvbi_side.draw import finding, sorting, style, together
 from ldvbi_side.draw.axis import BROAD, NARROW
 from ldvbi_side.draw.bars import bars_of
 from ldvbi_side.draw.drawing import drawing_of
@@ -255,7 +255,7 @@ def test_each_list_is_there_in_full():
     seen = set()
     for text in (
             "Lx2 1..40 21..40 L 7=83D0A1/?/88FFFB 9=8DC0A1/#79999/#4 11=8AE000/S/#5 -41:44",
-            "NTSC t0..2 t4..5 t0..2 t4..5 t0..2 t4..5 t0..2 t4..5", "m9x9", "", "Bx3"):
+            "NTSC t0..2 t4..5 t0..2 t4..5 t0..2 t4..5 t0..2 t4..5", "m9x9", "", "Bx3", "t1490..1509 15.18=@0:08"):
         answer, read = made(text, side).answer, Page(page(text))
         assert {name for name, value in answer.items() if isinstance(value, list)} == set(LISTS) | {"reasons"}
         for name in LISTS:
@@ -265,9 +265,13 @@ def test_each_list_is_there_in_full():
             assert read.rows.get(name, []) == [list(map(cell, item.values())) for item in items]
             seen |= {LISTS[name] for _ in items}
         assert {text.rpartition(":")[0] for text in read.texts.get("summary", [])} <= seen
-    assert seen >= {"numbers lost, undecided or unread", "lost fields", "unread, and their fields", "breaks",
-                    "bad lines", "doubtful, set aside", "lines 17 and 18 differ", "chapters", "numbers as they come by",
-                    "users' codes", "programme status", "unknown words"}
+    assert len(seen) == 17 and "; ".join([*LISTS.values(), together.LISTS["leftOut"]]) == (
+        "numbers lost, undecided or unread; lost fields; unread, and their fields; skipped by the disc itself; "
+        "breaks; detours; stills; shown again; padding; swapped fields; other speeds; doubtful, set aside; lines 17 "
+        "and 18 differ; chapters of lines 17 and 18 differ; second rows of numbers; chapters; picture stops; picture "
+        "stops that aren't sure; lead-in; lead-out; codes out of place; unknown words; programme status; users' "
+        "codes; bad lines; fields whose minute is another field's; fields whose due number is the nearest word of "
+        "their lines; numbers as they come by; numbers skipped by the disc itself")
 
 
 def test_what_is_said():
@@ -312,9 +316,10 @@ def test_names_are_escaped():
     """Those of a list, too, that a later answer has."""
     one, name = made("Bx60", side), '<b>"&\u00fc</b>.tbc'
     one.answer["<b>&later</b>"] = [{"<b>&first": "<b>&one</b>", "near": None, "is": False, "places": [1, 2]}]
+    one.answer["confirmed"] = [7]
     read = Page(page(one, title=name, more=["name: " + name]))
     assert [read.texts["h1"], read.texts["title"], read.texts["dd"][-1:]] == [[name]] * 3
-    assert read.heads["<b>&later</b>"][0] == "<b>&first"
+    assert (read.heads["<b>&later</b>"][0], read.heads["confirmed"]) == ("<b>&first", ["field"])
     assert read.rows["<b>&later</b>"] == [["<b>&one</b>", "", "no", "1, 2"]]
     assert "b" not in read.texts
     for name, wanted in (("a/lost_side-2.tbc", "a/|lost_|side-|2.|tbc"), ("/b  c", "/|b  |c"), ("", ""),
