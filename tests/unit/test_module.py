@@ -198,11 +198,14 @@ def test_an_older_one(anew):
 
 
 def test_what_the_loader_finds(room, anew):
-    shutil.copy(os.environ["LDVBI_LIBRARY"], room.named("other.so"))
-    code = "from ldvbi.library import library_text; print(library_text())"
+    """In a folder whose name isn't UTF-8."""
+    folder = room.named(os.fsdecode(b"\xff"))
+    os.mkdir(folder)
+    path = shutil.copy(os.environ["LDVBI_LIBRARY"], os.path.join(folder, "other.so"))
+    code = "from ldvbi.library import library_text; print(ascii(library_text()))"
     found = subprocess.run([sys.executable, "-c", code], stdout=subprocess.PIPE, text=True, check=True, env={
-        **os.environ, "LDVBI_LIBRARY": "other.so", "LD_LIBRARY_PATH": room.folder}).stdout
-    assert found.startswith("library %s (p" % ldvbi.__version__) and found.endswith("): %s\n" % room.named("other.so"))
+        **os.environ, "LDVBI_LIBRARY": "other.so", "LD_LIBRARY_PATH": folder}).stdout
+    assert found.startswith("'library %s (p" % ldvbi.__version__) and found.endswith("): %s\n" % ascii(path)[1:])
     anew("libc.so.6")
     assert re.fullmatch(r"no library to read and judge with \(.*undefined symbol: ldvbi_abi\): %s it, %s" % (
         MAKE, NAMES), reason(causes, kind=OSError))
