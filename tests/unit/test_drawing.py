@@ -89,7 +89,8 @@ def test_texts_and_ticks_that_fit():
     for width, text, wanted in (
             (46, "0123456789", "012\u2026789"), (65.1, "0123456789", "0123456789"),
             (64.9, "0123456789", "0123\u20266789"), (58.6, "ab/cd_ef.tbc", "ab/\u2026tbc"),
-            (65.1, "ab/cd_ef.tbc", "ab/cd_\u2026tbc"), (65, "abc-defghijklmno", "abc-\u2026")):
+            (65.1, "ab/cd_ef.tbc", "ab/cd_\u2026tbc"), (65, "abc-defghijklmno", "abc-\u2026"),
+            (39.1, "ab/cd_ef.tbc", "ab/\u2026")):
         assert shortened(text, width, 10) == wanted
     svg = Svg(20, 10, "<a>")
     svg.text(1, 2.5, "a < b", "\"&\"", font_size=None, class_="x")
@@ -130,12 +131,13 @@ def place_of(part):
     known, kind = part.attrib, part.tag[len(SPACE):]
     fields = [known[name] for name in ("data-fields", "data-field") if name in known]
     if kind == "rect":
-        shown = [known["data-shown"], "%.0f" % float(known["height"])] if "data-shown" in known else []
+        top, height = float(known["y"]), float(known["height"])
+        shown = [known["data-shown"], "%.0f-%.0f" % (top, top + height)] if "data-shown" in known else []
         return [*fields, "%.0f-%.0f" % (float(known["x"]), float(known["x"]) + float(known["width"])), *shown]
     if kind == "path":
         points = re.findall("[0-9.]+ [0-9.]+", known["d"])
         ends = ["%.0f" % float(end) for point in (points[0], points[-1]) for end in point.split(" ")]
-        return [*fields, str(len(points)), *ends] if known["class"] == "run" else [*fields, points[0]]
+        return [*fields, str(len(points)), *ends] if known["class"] == "run" else [*fields, known["d"]]
     place = ["%.0f" % float(known[name]) for name in PLACES[kind]]
     return {"text": [*place, text_in(part)], "line": place, "circle": [*fields, "ring", *place]}[kind]
 
@@ -149,33 +151,37 @@ DRAWN = """
     t89990..90005 t90009..90012 2:40/2=-/M/c3 9.18=@0:58 13.18=@9:59 17.18=@0:61 25.16=s0.25
       | @number-label 140 487 0:59:59.15; 140 435 0:59:59.20; 140 382 1:00:00; 140 330 1:00:00.05; 140 278 1:00:00.10
       | @axis 36 368 time; 630 710 field | @undecided 33-33 918-942 | @unread 24-26 702-774
-      | @doubtful 9-9 342-366; 13-13 438-462; 17-17 534-558; 25-25 726-750 | @doubt 9 354.0 493.0; 13 450.0 243.0
+      | @doubtful 9-9 342-366; 13-13 438-462; 17-17 534-558; 25-25 726-750
+      | @doubt 9 M354.0 493.0l-5 -9h10z; 13 M450.0 243.0l-5 9h10z
       | @run 1-23 12 162 483 690 368; 27-31 3 786 347 882 326; 33-39 4 930 284 1074 253
-    MANY 2401=-/?/#1201 | @line-16 1-4840 124-366 blank 28 | @run 1-4839 243 124 488 366 248
-      | @line-17 1-2400 124-244 word 14; 1-2400 124-244 blank 14; 2401-2420 244-245 change 4; 2401-2420 244-245 word 11;
-      2401-2420 244-245 blank 13; 2421-4840 245-366 word 14; 2421-4840 245-366 blank 14
-    NTSC S/S*/- ~/?/! | @line-16 1-1 150-630 word 28; 2-2 630-1110 unfinished 28 | @stop 1 390.0 224
-      | @line-17 1-1 150-630 read only after smoothing 28; 2-2 630-1110 change 28
-      | @line-18 1-1 150-630 blank 28; 2-2 630-1110 hold 28 | @empty 630 368 no picture number and no time
+    MANY 2401=-/?/#1201 | @line-16 1-4840 124-366 blank 94-122 | @run 1-4839 243 124 488 366 248
+      | @line-17 1-2400 124-244 word 128-142; 1-2400 124-244 blank 142-156; 2401-2420 244-245 change 128-132;
+      2401-2420 244-245 word 132-143; 2401-2420 244-245 blank 143-156; 2421-4840 245-366 word 128-142;
+      2421-4840 245-366 blank 142-156
+    NTSC S/S*/- ~/?/! | @line-16 1-1 150-630 word 94-122; 2-2 630-1110 unfinished 94-122
+      | @line-17 1-1 150-630 read only after smoothing 128-156; 2-2 630-1110 change 128-156
+      | @line-18 1-1 150-630 blank 162-190; 2-2 630-1110 hold 162-190 | @stop 1 M390.0 224l4 6l-4 6l-4 -6z
     NTSC m59x20 m60x28 | axis time; field
       | @number-label 140 432 0:59; 140 312 1:00 | @run 1-48 4 160 428 1100 308 | doubt
-    MANY 2401.16=? | @line-16 1-2400 124-244 blank 28; 2401-2420 244-245 noise 1; 2401-2420 244-245 blank 27;
-      2421-4840 245-366 blank 28 | +line-16 line 16, fields 2401 to 2420: noise in 5 % of these fields
+    MANY 2401.16=? | @line-16 1-2400 124-244 blank 94-122; 2401-2420 244-245 noise 94-95;
+      2401-2420 244-245 blank 95-122; 2421-4840 245-366 blank 94-122
+      | +line-16 line 16, fields 2401 to 2420: noise in 5 % of these fields
       | +line-16 line 16, fields 2401 to 2420: blank in 95 % of these fields
     MANY 95:4840/192=B 2403=B | #unread 25 | +@unread 2398-2404 244-246
     MANY 2401=B 2405=B 2409=B
       | @run 1-2399 121 124 488 244 369; 2403-2403 1 244 369 244 369; 2411-4839 123 244 368 366 248
     MANY 2401=-/?/#1201 | =MOST_BOXES 6 | +line-17 fields 1 to 2560: change in less than 1 % of these fields
-      | @line-17 1-2560 124-252 change 4; 1-2560 124-252 word 12; 1-2560 124-252 blank 12;
-      2561-4840 252-366 word 14; 2561-4840 252-366 blank 14
+      | @line-17 1-2560 124-252 change 128-132; 1-2560 124-252 word 132-144; 1-2560 124-252 blank 144-156;
+      2561-4840 252-366 word 128-142; 2561-4840 252-366 blank 142-156
     MANY 2461=-/#100/- 2463=-/#101/- 2601=-/#100/- | =MOST_RINGS 2 | @doubt 2461 ring 247 478
       | +doubt and 2 more near it
     NTSC t1740..1829!1800,1801,1802,1803,1804 | system NTSC, CLV, 170 fields, 85 times, 0:00:58.00 to 0:01:00.29
       | number-label 0:00:58; 0:00:59; 0:01:00
       | run 0:00:58.00 to 0:00:59.29 in fields 1 to 119; 0:01:00.05 to 0:01:00.29 in fields 121 to 169
     | empty no picture number and no time
-    Bx40 | empty no picture number and no time; lines 17 and 18 have 0 words, 0 are bad, 80 blank: are black and ..
-    -/#9/#9 | run 9 in field 1 || NTSC f1..39 | system NTSC, CAV, film (2 and 3 fields a picture), 98 ..
+    Bx40 | @empty 630 368 no picture number and no time; 630 392 lines 17 and 18 have 0 words, 0 are bad, 80 blank: ..
+    -/#9/#9 | run 9 in field 1 | @run 1-1 1 630 368 630 368
+    NTSC f1..39 | system NTSC, CAV, film (2 and 3 fields a picture), 98 ..
     NTSC 8AE001/@0:01/@0:02 | +count doubtful: 3 | empty no picture number and no time is believed | #run 0 | #doubt 0
     10..19 1 21..29 | number-label 10; 15; 20; 25 | doubt doubtful: picture 1 in .. | +count doubtful: 2
     m59x20 m60x28 9=-/M/@2:10 | doubt doubtful: time 2:10 in .. || t0..57 9=s7.12/M/- | doubt
@@ -186,16 +192,23 @@ DRAWN = """
       | +line-17 line 17, field 61: hold 200
     t0..57/3 | +count other speeds: 1 | -count swapped || 1 | +count lost: 0 | -count undecided
     1..9 ?x4 14..30 | +count undecided: 4 || PAL/8 1..3 6..9 | +count lost fields: 4 || 1..30 21=? | +count unread: 1
-    1..600!0%8 | +count lost: 74 | #lost 74 | #lost-fields 74 | #upright 0 || 1..399!0%8 | #upright 98
-    <1..60 -/#N/#N -/cN/cN> | #chapter 60 | #chapter-line 60 || <1..70 -/#N/#N -/cN/cN> | #chapter 70 | #chapter-line 0
-    <1..30 -/#N/#N -/cN/cN> | disc-label 1; 2; 3; 4; 5; 6; 7; 8; 9
+    1..495!0%8 | +count lost: 61 | #lost 61 | #lost-fields 61 | #upright 0 || 1..487!0%8 | #upright 120
+    <1..60 -/#N/#N -/cN/cN> | #chapter 60 | #chapter-line 60 || <1..61 -/#N/#N -/cN/cN> | #chapter 61 | #chapter-line 0
+    <1..30 -/#N/#N -/cN/cN> | disc-label 1; 2; 3; 4; 5; 6; 7; 8; 9 || Lx6 1..45 | disc-label lead-in; chapter 0
+    <1..35 -/#N/#N -/cN/cN> | disc-label 2; 4; 5; 6; 7; 9 || 1..480 102.16=S 104.16=S | #stop 2
+    1..10 1.16=S 3.16=? | +line-16 line 16, field 3: change || 1..10 B 1.16=S 3.16=? | +line-16 field 3: noise
+    1..31 1.16=S 3.16=? 5.16=S* 7.16=S^ | +line-16 field 1: word | +line-16 fields 8 to 62: blank
+      | +line-16 field 3: noise, change | +line-16 field 5: read only after | +line-16 field 7: recovered
+    MANY B | @line-18 1-4840 124-366 blank 162-190; 4841-4841 366-367 blank 162-190
+    NARROW Bx40 | @empty 245 368 no picture number and no time
 """
-MANY = "NTSC 1..2420 1:4840/2.18=- 2:4840/2=B"  # 20 fields to a pixel of the narrow drawing
+MANY = "NARROW NTSC 1..2420 1:4840/2.18=- 2:4840/2=B"  # 20 fields to a pixel of the narrow drawing
 
 
 def parts_of(text, **more):
     """The parts of a drawing, each with its class."""
-    picture = xml.fromstring(drawing_of(made(text, side, **more), "side.tbc", NARROW if MANY in text else BROAD))
+    form = NARROW if text.startswith("NARROW ") else BROAD
+    picture = xml.fromstring(drawing_of(made(text.removeprefix("NARROW "), side, **more), "side.tbc", form))
     return [(part.get("class"), part) for part in picture.iter()]
 
 
@@ -203,7 +216,8 @@ def parts_of(text, **more):
     (text, asked) for text, *asked in cells_of(DRAWN.replace("MANY", MANY))))
 def test_drawn(text, asked):
     """Marks that fall together are one. Doubtful numbers beyond the scale stand on both lines, which is one mark on the
-    curve. A strip of 16 pixels has room for one digit, but not for `chapter 5` nor for two."""
+    curve. A strip of 14 pixels has room for one digit, but not one of 13, and one of 16 neither for `chapter 5` nor
+    for two; one of 60 has it for `lead-in`. A last column that has less than a pixel has one."""
     limits = dict(one[1:].split() for one in asked if one[0] == "=")
     with mock.patch.object(bands, "MOST_BOXES", int(limits.get("MOST_BOXES", bands.MOST_BOXES))), \
             mock.patch.object(curve, "MOST_RINGS", int(limits.get("MOST_RINGS", curve.MOST_RINGS))):
@@ -232,11 +246,41 @@ def test_padding():
         ("line-%d" % line, "11-12", "line %d, fields 11 to 12: padding" % line) for line in (16, 17, 18)]
 
 
+def test_how_much_is_drawn():
+    """Of a band 2000 boxes, each by itself; 1000 rings by three pixels, and more by twelve; of a field's axis 11 labels
+    in the broad form, and 5 in the narrow one; of a title what has room at 11.05 pixels to a letter."""
+    for count, wanted in ((2000, 2000), (2001, 2)):
+        assert len(bands._few_columns((["word", "blank"] * 1001)[:count], 1)) == wanted
+    for count, wanted in ((1000, 321), (1001, 80)):
+        svg, fields = Svg(20, 10, ""), range(961 - count, 961)
+        doubts = [ENTRIES["doubtful"]._replace(field=max(field, 1)) for field in fields]
+        curve.draw_doubts(svg, Axis(960), Scale("picture", "PAL", Extent(9, 1, 240), 0, 240),
+                          EMPTY._replace(doubtful=doubts))
+        assert len(svg.parts) == wanted
+    heights = bands._heights({"change": 19, "hold": 1})
+    assert heights == pytest.approx({"change": 26.6 / 30.6 * 28, "hold": 4 / 30.6 * 28})
+    for others, wanted in ((1, "50 %"), (99, "1 %"), (100, "less than 1 %")):
+        assert bands._share_text("hold", {"hold": 1, "word": others}) == "hold in %s of these fields" % wanted
+    for form, count, labels in ((BROAD, 21, "1 2 4 6 8 10 12 14 16 18 20"), (BROAD, 22, "1 5 10 15 20"),
+                                (NARROW, 21, "1 5 10 15 20"), (NARROW, 22, "1 10 20")):
+        text = drawing_of(made("Bx%d" % count, side), "", form)
+        assert re.findall(r'text-anchor="middle">(\d+)<', text) == labels.split(" ")
+    assert [count for count in (86, 87) if "\u2026" in drawing_of(made("B", side), count * "x")] == [87]
+
+
 def test_heads():
-    """Of groups of rows that have no place, and of a side that ends inside a field."""
+    """Of groups of rows, which may have no place, and of a side that ends inside a field."""
     assert folds._alike([{"by": "x"}], ["by"]) == (["by", "count", "first row", "last row"], [["x", 1, None, None]])
-    assert "PAL, CAV, 1 field, field 2 is cut: 5 bytes of it, 1 picture, 9 to 9" in [
-        part.text for _, part in parts_of("-/#9/#9", cut=Cut(2, 5))]
+    row = {"first": 5, "after": 4, "field": 3, "by": "b", "pass": 1, "why": "w", "kind": "k", "cause": "a 9", "line": 7}
+    for place in ("field", "after", "first"):
+        assert folds._alike([row, {**row, "cause": "a b", place: 8}], ["word", *row]) == (
+            ["line", "cause", "kind", "why", "pass", "by", "count", "first " + place, "last " + place],
+            [[7, "a", "k", "w", 1, "b", 2, row[place], 8]])
+        del row[place]
+    parts = parts_of("-/#9/#9", cut=Cut(2, 5))
+    assert "PAL, CAV, 1 field, field 2 is cut: 5 bytes of it, 1 picture, 9 to 9" in [part.text for _, part in parts]
+    run, = [part.attrib for name, part in parts if name == "run"]
+    assert (run["d"], run["stroke-width"]) == ("M630.0 368.0h0", "5")
 
 
 def test_levels_of_another_file():

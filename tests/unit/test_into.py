@@ -444,7 +444,7 @@ def test_refused_runs(drawn):
 
 
 @pytest.mark.parametrize("old, new, other", (
-    ("15728641, 15728641", "15728641, 15728642", "words in field 2"), ('"believed"', '"as read"', "ldvbiWords"),
+    ("15728657, 15728657", "15728657, 15728658", "words in field 12"), ('"believed"', '"as read"', "ldvbiWords"),
     ('"fields": [', '"fields": [{"vbi": {"vbiData": [1, 2, 3]}}, ', "13 fields")))
 def test_the_copy_is_read_back(copies, old, new, other):
     """Nothing is left of one that isn't as it was to be written. What is no file isn't read back."""

@@ -109,7 +109,7 @@ def test_a_program_that_calls_the_command_keeps_its_collector(tmp_path, capsys):
 
 MAKE, NAMES = "`make lib` or `make rust` builds", "LDVBI_LIBRARY names its file"
 REFUSED = "the library's status is 99"
-LOADED = library.library_text
+LOADED, HERE = library.library_text, os.environ["LDVBI_LIBRARY"]
 HEADER = re.sub(r"/\*.*?\*/", "", pathlib.Path(TOP, "include", "ldvbi.h").read_text("ascii"), flags=re.S)
 # What a library is too old for that lacks one of these calls
 OLD = """
@@ -171,8 +171,7 @@ def state():
 @pytest.mark.parametrize("asked, one, wanted", (
     (causes, "/absent", "no library to read and judge with (/absent: cannot open shared object file: No such file or "
      "directory): " + MAKE + " it, " + NAMES),
-    (causes, other(1), "%s has the interface 1, not 2: %s the one that fits, %s" % (
-        os.environ["LDVBI_LIBRARY"], MAKE, NAMES)),
+    (causes, other(1), "HERE has the interface 1, not 2: %s the one that fits, %s" % (MAKE, NAMES)),
     # causes and states that a later library adds stay numbers, and its statuses are refusals
     (causes, other(cause=5), (5, 5)), (causes, other(cause=255), (255, 255)), (causes, other(status=99), REFUSED),
     (state, judging_as(4), (5, 4)), (state, judging_as(2 ** 31), (5, 2 ** 31)), (state, judging_as(0, 99), REFUSED),
@@ -184,7 +183,8 @@ def state():
 def test_what_is_loaded(anew, asked, one, wanted):
     anew(one)
     assert (ldvbi.classify(0xF12345).first, ldvbi.field_bytes("PAL")) == (12345, 710510)  # which need no library
-    assert (reason(asked, kind=(OSError, ValueError)) or asked()) == wanted
+    found = reason(asked, kind=(OSError, ValueError)) or asked()
+    assert (found.replace(HERE, "HERE") if isinstance(found, str) else found) == wanted
 
 
 def test_an_older_one(anew):
@@ -198,11 +198,14 @@ def test_an_older_one(anew):
 
 
 def test_what_the_loader_finds(room, anew):
-    shutil.copy(os.environ["LDVBI_LIBRARY"], room.named("other.so"))
-    code = "from ldvbi.library import library_text; print(library_text())"
+    """In a folder whose name isn't UTF-8."""
+    folder = room.named(os.fsdecode(b"\xff"))
+    os.mkdir(folder)
+    path = shutil.copy(os.environ["LDVBI_LIBRARY"], os.path.join(folder, "other.so"))
+    code = "from ldvbi.library import library_text; print(ascii(library_text()))"
     found = subprocess.run([sys.executable, "-c", code], stdout=subprocess.PIPE, text=True, check=True, env={
-        **os.environ, "LDVBI_LIBRARY": "other.so", "LD_LIBRARY_PATH": room.folder}).stdout
-    assert found.startswith("library %s (p" % ldvbi.__version__) and found.endswith("): %s\n" % room.named("other.so"))
+        **os.environ, "LDVBI_LIBRARY": "other.so", "LD_LIBRARY_PATH": folder}).stdout
+    assert found.startswith("'library %s (p" % ldvbi.__version__) and found.endswith("): %s\n" % ascii(path)[1:])
     anew("libc.so.6")
     assert re.fullmatch(r"no library to read and judge with \(.*undefined symbol: ldvbi_abi\): %s it, %s" % (
         MAKE, NAMES), reason(causes, kind=OSError))

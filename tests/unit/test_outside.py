@@ -22,7 +22,7 @@ from ldvbi_side import outside
 from ldvbi_side.__main__ import main
 from ldvbi_side.command import outputs
 from ldvbi_side.command.outputs import whole_file, whole_files, whole_path
-from ldvbi_side.draw.index import head_of, index_of, PART
+from ldvbi_side.draw.index import faults_in, head_of, index_of, PART
 from ldvbi_side.draw.page import MARK
 from ldvbi_side.join.heads import said_of
 from ldvbi_side.outside import bytes_of_document, legible, printable, shown, uncontrolled
@@ -178,7 +178,8 @@ MARKS = {"pace": "video", "said": {"chapter": [], "programme status": []}, "last
 # What a page of others says, by member
 WRONG = {
     "whole": ("perhaps", None, ["yes"]), "fields": (None, True, 1.5), "reasons": (None, ["lost"], [{"text": 1}], 5),
-    "numbers": (None, [], {"count": 1, "least": 1}, {"count": "1", "least": 1, "greatest": 1}), "lost": (None,),
+    "numbers": (None, [], {"count": 1, "least": 1}, {"count": 1, "greatest": 1},
+                {"count": "1", "least": 1, "greatest": 1}), "lost": (None,),
     "format": (1,), "counts": ([], {"lost": 1}), "leadIn": (None, True), "leadOut": ("1",), "try": (1, []),
     "side": (1,), "options": (None, 1, [1]), "system": (None,), "unit": (1,),
     "marks": (1, [], {}, *({**MARKS, **one} for one in (
@@ -204,6 +205,26 @@ def page_saying(room, said):
 
 def refused(room, page, why="no page that --html wrote"):
     assert reason(index_of, room.named("index.html"), [page]) == "%s is %s" % (page, why)
+
+
+def test_how_much_of_a_page_is_read(room):
+    """Its head is within 64 parts: one of 2048 characters, and each next one of twice as many, up to 65536. After one
+    in which its body begins nothing is read."""
+    head = '<meta name="ldvbi-faults" content=\'[["a", "b", "c"]]\'>'
+    for text, wanted in ((head.rjust(31 * 2048 + 59 * 65536), ["a"]), (head.rjust(31 * 2048 + 59 * 65536 + 1), []),
+                         ((head + "<body>").ljust(2048) + head.replace('"a"', '"d"'), ["a"])):
+        assert [one.side for one in faults_in(room.write("index.html", text))] == wanted
+
+
+def test_pages_of_one_name(room, said):
+    """An index has the paths of their sides, as far as they are known."""
+    pages = []
+    for name, path in (("a", None), ("b", "/x/side"), ("c", "/y/side")):
+        said["side"] = path
+        pages.append(room.write(name, room.read(page_saying(room, said))))
+    for some, names in ((pages, ["/x/side", "/y/side", "side"]), (pages[1:2], ["side"])):
+        text = index_of(room.named("index.html"), some).replace("<wbr/>", "")
+        assert re.findall("<a href=.*?>(.*?)</a>", text) == names
 
 
 def test_what_pages_of_others_say(room, said):

@@ -15,7 +15,7 @@ from compact import made
 from discs import side
 import ldvbi
 from ldvbi_side.command.summary import summary
-from ldvbi_side.draw import finding, sorting, style
+from ldvbi_side.draw import finding, sorting, style, together
 from ldvbi_side.draw.axis import BROAD, NARROW
 from ldvbi_side.draw.bars import bars_of
 from ldvbi_side.draw.drawing import drawing_of
@@ -40,8 +40,7 @@ SHORT = (("</td><td>", " | "), ("</th><th>", " | "), ("</td></tr>\n<tr><td>", " 
 HEAD = """<!DOCTYPE html>
 <html lang="en"><head><meta charset="utf-8"><title>%s</title>
 <meta http-equiv="Content-Security-Policy" content="default-src 'none'; style-src 'unsafe-inline'; base-uri 'none'; \
-form-\
-action 'none'%s">
+form-action 'none'%s">
 <meta name="viewport" content="width=device-width, initial-scale=1">
 """
 
@@ -78,18 +77,14 @@ BROADNARROW
 required="required"/></label> <output></output></p>
 <p>nothing lost, unread, repeated</p>
 <dl><dt>system: PAL, CAV ; fields: 6 ; line 16: 1 words, 0 of them read only after smoothing; 0 bad (0.00 %), 5 blank \
-; \
-line 17: 4 words, 0 of them read only after smoothing; 1 bad (20.00 %), 1 blank ; line 18: 5 words, 0 of them read \
-only \
-after smoothing; 0 bad (0.00 %), 1 blank ; pictures: 2, from 1 to 2 ; doubtful, set aside: 1 (picture 5 in field 5 \
-line \
-18) ; chapters: 1 (chapter 0 in field 2) ; codes out of place: 1 (chapter in field 4 line 16)</dd></dl>
+; line 17: 4 words, 0 of them read only after smoothing; 1 bad (20.00 %), 1 blank ; line 18: 5 words, 0 of them read \
+only after smoothing; 0 bad (0.00 %), 1 blank ; pictures: 2, from 1 to 2 ; doubtful, set aside: 1 (picture 5 in field \
+5 line 18) ; chapters: 1 (chapter 0 in field 2) ; codes out of place: 1 (chapter in field 4 line 16)</dd></dl>
 <details id="doubtful"><summary>doubtful, set aside: 1 [ field | line | word | kind | pass | why | number | before | \
 after ] 5 | 18 | F00005 | picture | 1 | alone | 5 | 2 in field 3 | \
 <details id="chapters"><summary>chapters: 1 [ chapter | field | last | after | number | frame ] 0 | 2 | 6 |  | 1 | 1\
 <details id="stray"><summary>codes out of place: 1 [ field | line | word | kind | pass | why ] 4 | 16 | 801DDD | \
-chapter \
-| 1 | line\
+chapter | 1 | line\
 <details id="badLines"><summary>bad lines: 1 [ field | line | cause | column | offset | bytes ] 5 | 17 | change 170 | \
 170 | 2878360 | 2270\
 <details id="showings"><summary>numbers as they come by: 2 [ number | first | last ] 1 | 1 | 1 ; 2 | 3 | 3\
@@ -150,15 +145,12 @@ INDEX = HEAD % ("LaserDisc sides", digest(sorting.SCRIPT)) + """\
 <th>lead-out</th><th>scanned on</th></tr></thead>
 <tbody role="rowgroup"><tr role="row"><td role="cell"><a href="pages/p%263.html">a_<wbr/>3.<wbr/>tbc</a></td>\
 <td role="cell" class="no" data-key="0">no | 4 fields lost; 2 pictures lost</td><td role="cell" data-key="2">2 \
-pictures, \
-4 fields | 0 |  | PAL | cav | 1 | 14 | 0 | 0 | 2023-11-14</td></tr>
+pictures, 4 fields | 0 |  | PAL | cav | 1 | 14 | 0 | 0 | 2023-11-14</td></tr>
 <tr role="row"><td role="cell">b&lt;.<wbr/>tbc</td><td role="cell" class="fault" data-key="1">not read | no \
-&lt;such&gt; \
-file</td><td role="cell" data-key="-1"> |  |  |  |  |  |  |  |  | </td></tr>
+&lt;such&gt; file</td><td role="cell" data-key="-1"> |  |  |  |  |  |  |  |  | </td></tr>
 <tr role="row"><td role="cell"><a href="pages/p%261.html">a_<wbr/>1.<wbr/>tbc</a></td>\
 <td role="cell" class="yes" data-key="3">yes | </td><td role="cell" data-key="0">none | 1 |  | PAL | clv | 0:00:00.00 \
-| \
-0:00:00.09 | 0 | 0 | 2023-11-14</td></tr>
+| 0:00:00.09 | 0 | 0 | 2023-11-14</td></tr>
 <tr role="row"><td role="cell"><a href="pages/p%262.html">a_<wbr/>2.<wbr/>tbc</a></td>\
 <td role="cell" class="yes" data-key="3">yes | </td><td role="cell" data-key="0">none | 0 |  | PAL | cav | 1 | 11 | 1 \
 | \
@@ -208,14 +200,13 @@ tbc</a> | no | 21 | 2 | 1 ; b.<wbr/>tbc | no | 22 | 1 | 2</td></tr></tbody></tab
 <details id="lacks"><summary>numbers that one capture lacks and another has: 3 [ capture | first | last | count | in ] \
 &lt;a&gt;.tbc | 11 | 11 | 1 | b.tbc ; &lt;a&gt;.tbc | 13 | 13 | 1 | b.tbc ; b.tbc | 6 | 6 | 1 | &lt;a&gt;.tbc\
 <details id="alone"><summary>numbers that one capture alone has: 3 [ capture | first | last | count ] &lt;a&gt;.tbc | \
-6 \
-| 6 | 1 ; b.tbc | 11 | 11 | 1 ; b.tbc | 13 | 13 | 1\
+6 | 6 | 1 ; b.tbc | 11 | 11 | 1 ; b.tbc | 13 | 13 | 1\
 <details id="better"><summary>numbers that several captures have, and one shows better than the others: 2 [ capture | \
 first | last | count ] &lt;a&gt;.tbc | 5 | 5 | 1 ; b.tbc | 10 | 10 | 1\
 <details id="missing"><summary>numbers that no capture has: 1 [ first | last | count | why ] 12 | 12 | 1 | lost\
 <details id="ranges"><summary>what the file of them takes from which capture: 4 [ first | last | count | source | \
-field \
-| lastField | how ] 1 | 6 | 6 | &lt;a&gt;.tbc | 1 | 12 | whole ; 7 | 10 | 4 | b.tbc | 11 | 18 | whole ; 11 | 11 | 1 | \
+field | \
+lastField | how ] 1 | 6 | 6 | &lt;a&gt;.tbc | 1 | 12 | whole ; 7 | 10 | 4 | b.tbc | 11 | 18 | whole ; 11 | 11 | 1 | \
 b.tbc | 19 | 20 | unsure ; 13 | 24 | 12 | b.tbc | 21 | 44 | whole\
 </body></html>
 """
@@ -264,7 +255,7 @@ def test_each_list_is_there_in_full():
     seen = set()
     for text in (
             "Lx2 1..40 21..40 L 7=83D0A1/?/88FFFB 9=8DC0A1/#79999/#4 11=8AE000/S/#5 -41:44",
-            "NTSC t0..2 t4..5 t0..2 t4..5 t0..2 t4..5 t0..2 t4..5", "m9x9", "", "Bx3"):
+            "NTSC t0..2 t4..5 t0..2 t4..5 t0..2 t4..5 t0..2 t4..5", "m9x9", "", "Bx3", "t1490..1509 15.18=@0:08"):
         answer, read = made(text, side).answer, Page(page(text))
         assert {name for name, value in answer.items() if isinstance(value, list)} == set(LISTS) | {"reasons"}
         for name in LISTS:
@@ -274,9 +265,13 @@ def test_each_list_is_there_in_full():
             assert read.rows.get(name, []) == [list(map(cell, item.values())) for item in items]
             seen |= {LISTS[name] for _ in items}
         assert {text.rpartition(":")[0] for text in read.texts.get("summary", [])} <= seen
-    assert seen >= {"numbers lost, undecided or unread", "lost fields", "unread, and their fields", "breaks",
-                    "bad lines", "doubtful, set aside", "lines 17 and 18 differ", "chapters", "numbers as they come by",
-                    "users' codes", "programme status", "unknown words"}
+    assert len(seen) == 17 and "; ".join([*LISTS.values(), together.LISTS["leftOut"]]) == (
+        "numbers lost, undecided or unread; lost fields; unread, and their fields; skipped by the disc itself; "
+        "breaks; detours; stills; shown again; padding; swapped fields; other speeds; doubtful, set aside; lines 17 "
+        "and 18 differ; chapters of lines 17 and 18 differ; second rows of numbers; chapters; picture stops; picture "
+        "stops that aren't sure; lead-in; lead-out; codes out of place; unknown words; programme status; users' "
+        "codes; bad lines; fields whose minute is another field's; fields whose due number is the nearest word of "
+        "their lines; numbers as they come by; numbers skipped by the disc itself")
 
 
 def test_what_is_said():
@@ -310,7 +305,9 @@ def test_bad_lines_of_a_page():
     assert [row[:3] for row in read.rows["badLines"]] == [
         ["41", "17", "change 170"], ["41", "18", "change 170"], ["51", "17", "change 170"], ["7", "17", "change 170"],
         ["42", "18", "hold 200"]]
-    assert read.facts()["line 16"] == "bears no code on this disc: 0 words, 3 fields with noise, 57 blank"
+    assert [read.facts()["line %d" % line] for line in (16, 17)] == [
+        "bears no code on this disc: 0 words, 3 fields with noise, 57 blank",
+        "56 words, 0 of them read only after smoothing; 3 bad (5.08 %), 1 blank"]
     assert [row[1] for row in Page(page("?/?/-x9")).rows["badLines"][:2]] == ["16", "17"]
     assert [row[1] for row in Page(page("t0..20 9=?/M/-")).rows["badLines"]] == ["16"]
 
@@ -319,9 +316,10 @@ def test_names_are_escaped():
     """Those of a list, too, that a later answer has."""
     one, name = made("Bx60", side), '<b>"&\u00fc</b>.tbc'
     one.answer["<b>&later</b>"] = [{"<b>&first": "<b>&one</b>", "near": None, "is": False, "places": [1, 2]}]
+    one.answer["confirmed"] = [7]
     read = Page(page(one, title=name, more=["name: " + name]))
     assert [read.texts["h1"], read.texts["title"], read.texts["dd"][-1:]] == [[name]] * 3
-    assert read.heads["<b>&later</b>"][0] == "<b>&first"
+    assert (read.heads["<b>&later</b>"][0], read.heads["confirmed"]) == ("<b>&first", ["field"])
     assert read.rows["<b>&later</b>"] == [["<b>&one</b>", "", "no", "1, 2"]]
     assert "b" not in read.texts
     for name, wanted in (("a/lost_side-2.tbc", "a/|lost_|side-|2.|tbc"), ("/b  c", "/|b  |c"), ("", ""),
@@ -338,18 +336,24 @@ def test_long_lists():
     assert read.rows["showings"][:3] == [["1", "501", "1", "1001", "501"], ["4", "9", "1003", "1013", "6"], []]
     for name, count in (("badLines", 503), ("showings", 507)):
         assert len(read.rows[name]) - read.rows[name].index([]) - 1 == 500
-        assert read.texts["p"][1:].count("In groups:") == 2 and (
-            "The first 500 of %d rows. This page leaves out the others; " % count in read.texts["p"])
-    assert "<code>ldvbi-side --json</code> prints all.</p>" in page("1..501")
-    for text, more in (("1..1300 3:2600/4=B", ["150"]), ("1..998 3:1996/4=B", []), ("1..500", [])):
-        assert re.findall("<p>and (.*) more groups</p>", page(text)) == more
-    assert "In groups" not in page("1..500")
+    for text, rows, more in (("1..1300 3:2600/4=B", 650, "<p>and 150 more groups</p>"), ("1..500", 500, None),
+                             ("1..998 3:1996/4=B 999..1000", 501, ""),
+                             ("1..998 3:1996/4=B 999..1000 1002", 502, "<p>and 1 more groups</p>")):
+        fold, = re.findall('<details id="showings">(.*?)</details>', page(text), re.S)
+        head = "" if more is None else (
+            "<p>In groups:</p>TABLE%s<p>The first 500 of %d rows. This page leaves out the others; <code>ldvbi-side "
+            "--json</code> prints all.</p>" % (more, rows))
+        assert re.sub('<div class="wide"><table>.*?</table></div>', "TABLE", fold, flags=re.S) == (
+            "<summary>numbers as they come by: %d</summary>%sTABLE" % (rows, head))
 
 
 @pytest.mark.parametrize("text, count, size, heads", (
     ("1", 0, 1, []), ("?/-/-", 1, 1, ["drawn"]), ("?/?/?x66 ?", 200, 1, ["drawn"]),
-    ("?/?/?x67", 200, 1, ["the first 200 of 201, drawn"]), ("?/?/?x67", 3, 600000, ["the first 3 of 201, drawn"])))
+    ("?/?/?x67", 200, 1, ["the first 200 of 201, drawn"]), ("?/?/?x67", 3, 600000, ["the first 3 of 201, drawn"]),
+    ("?/?/?x67", 2, 1500000 - 82, ["the first 2 of 201, drawn"]),
+    ("?/?/?x67", 1, 1500001 - 82, ["the first 1 of 201, drawn"])))
 def test_bad_lines_are_drawn_up_to_a_count_and_a_size(text, count, size, heads):
+    """The first one has a head and an end of 82 characters."""
     plot = mock.Mock(return_value="x" * size)
     assert re.findall("<h2>Bad lines, (.*)</h2>", page(text, plot)) == heads
     bad = made(text, side).analysis.answer.bad_lines

@@ -5,7 +5,7 @@ import xml.etree.ElementTree as xml
 
 from compact import cells_of, made
 from discs import side
-from ldvbi_side.draw.axis import NARROW
+from ldvbi_side.draw.axis import BROAD, NARROW
 from ldvbi_side.draw.bars import bars_of
 from ldvbi_side.draw.drawing import drawing_of
 from ldvbi_side.join.captures import capture_of
@@ -256,3 +256,11 @@ def test_whole_drawings():
         "otherwise)",
         "rect 1108-1110 160-182 #be185d .disagreement @151-170 (151 to 170: in fields 101 to 140 of a.tbc, and b.tbc "
         "otherwise)"]
+
+
+def test_names_of_captures_that_have_room():
+    """Letters have 8.45 of 138 pixels in the broad form, and 7.15 of 112 in the narrow one."""
+    for form, most in ((BROAD, 16), (NARROW, 15)):
+        for count in (most, most + 1):
+            text = bars_of(join([capture_of(made("1..9", side), name * count) for name in "ab"]), form)
+            assert text.count("\u2026") == 2 * (count > most)

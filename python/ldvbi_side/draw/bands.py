@@ -25,7 +25,7 @@ SHOWN = {
     "padding": TEXT,
 }
 _OF_PASSES = {2: "read only after smoothing", 3: "recovered"}
-_NO_DAMAGE = frozenset(["recovered", "read only after smoothing", "word", "blank", "padding"])
+_NO_DAMAGE = frozenset(["recovered", "read only after smoothing", "word", "blank"])
 HEIGHT, STEP = 28, 34  # of a band, and from band to band, in pixels
 LEAST_SHARE = 4  # pixels of a band for what is neither a word of pass 1, nor blank, nor noise
 MOST_BOXES = 2000  # of a band: of noise more fields share a column

@@ -54,9 +54,9 @@ def shortened(text: str, width: float, size: float) -> str:
     if len(text) <= most:
         return text
     words, begin, end = _WORDS.findall(text), "", ""
-    while words and len(begin + words[0] + end) < most:
+    while len(begin + words[0] + end) < most:  # all of the words are more than that
         begin += words.pop(0)
-        if words and len(begin + words[-1] + end) < most:
+        if len(begin + words[-1] + end) < most:
             end = words.pop() + end
     if not begin:
         begin, end = text[:(most - 1) // 2], text[len(text) - most // 2:]
