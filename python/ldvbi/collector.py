@@ -6,6 +6,7 @@ from typing import Iterator
 
 _FEW = 10000  # objects made meanwhile, which the collector may as well look through
 
+
 @contextlib.contextmanager
 def paused() -> Iterator[None]:
     """Pauses the collector, if it runs, for the time of a with block or of a function."""
