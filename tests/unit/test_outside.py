@@ -217,14 +217,16 @@ def test_how_much_of_a_page_is_read(room):
 
 
 def test_pages_of_one_name(room, said):
-    """An index has the paths of their sides, as far as they are known."""
+    """An index has the paths of their sides, as far as they are known, and what to try."""
     pages = []
     for name, path in (("a", None), ("b", "/x/side"), ("c", "/y/side")):
-        said["side"] = path
+        said["side"], said["try"] = path, path and "--black 5"
         pages.append(room.write(name, room.read(page_saying(room, said))))
-    for some, names in ((pages, ["/x/side", "/y/side", "side"]), (pages[1:2], ["side"])):
+    for some, *wanted in ((pages, ["/x/side", "/y/side", "side"], ["--black 5", "--black 5", ""]),
+                          (pages[1:2], ["side"], ["--black 5"])):
         text = index_of(room.named("index.html"), some).replace("<wbr/>", "")
-        assert re.findall("<a href=.*?>(.*?)</a>", text) == names
+        assert [re.findall("<a href=.*?>(.*?)</a>", text),
+                re.findall('role="cell">(--.*?|)</td><td role="cell">PAL<', text)] == wanted
 
 
 def test_what_pages_of_others_say(room, said):
