@@ -76,13 +76,15 @@ def _older(stretches: Sequence[Stretch], place: int, pads: Sequence[Pad]) -> Opt
     """The capture and the first field there, from 0, of padding that is padding there already, beside a field of the
     stretch before or after it; None if it is new."""
     count = stretches[place].fields
-    for one, is_before in ((stretches[place - 1:place], True), (stretches[place + 1:place + 2], False)):
-        if one and one[0].source is not None:
-            assert one[0].field is not None
-            begin = one[0].field - 1 + one[0].fields if is_before else one[0].field - 1 - count
-            pad = pads[one[0].source]
+    neighbours = [(one, True) for one in stretches[place - 1:place]]
+    neighbours += [(one, False) for one in stretches[place + 1:place + 2]]
+    for one, is_before in neighbours:
+        if one.source is not None:
+            assert one.field is not None
+            begin = one.field - 1 + one.fields if is_before else one.field - 1 - count
+            pad = pads[one.source]
             if pad and begin >= 0 and all(pad[begin:begin + count]) and len(pad) >= begin + count:
-                return one[0].source, begin
+                return one.source, begin
     return None
 
 
