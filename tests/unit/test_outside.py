@@ -63,6 +63,14 @@ def test_which_characters():
         0, 0x1F, 0x7F, 0x80, 0x9F]
 
 
+def test_what_is_printed_to_no_file():
+    """A program that takes it gets it as it is."""
+    with contextlib.redirect_stdout(io.StringIO()) as taken:
+        outside.open_streams()
+        print("\udcff")
+    assert taken.getvalue() == "\udcff\n"
+
+
 def read_document(data):
     file = io.BufferedReader(io.BytesIO(data))
     return bytes_of_document(file, file.peek(64))
@@ -312,9 +320,12 @@ def test_it_appears_at_the_end(room, write, older, mode):
 
 
 def test_faults_and_links(room):
-    """A fault is of the file that was asked for. A link stays one."""
-    with pytest.raises(OSError, match=r"No space.*side\.tbc"), whole_file(room.path):
-        raise OSError(28, "No space left on device")
+    """A fault of the system is of the file that was asked for, unless it names another one. A link stays one."""
+    for words, name in (((28, "No space left on device"), room.path), ((2, "No such file", "other"), "other"),
+                        (("a fault of ours",), None)):
+        with pytest.raises(OSError) as raised, whole_file(room.path):
+            raise OSError(*words)
+        assert raised.value.filename == name
     assert room.names() == []
     os.symlink("target", room.named("link"))
     with whole_file(room.named("link")) as file:
