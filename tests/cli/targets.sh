@@ -129,4 +129,9 @@ done
 stub python3 'exit 0'
 tools 'install test'
 judge 'nothing is missing' 0 empty ''
+
+# What compares the program of another machine
+does make -s -n -C "$top" rust-compare N=3 SEED=4 RUNNER='wine -x' TARGET=x86_64-pc-windows-gnu
+check 'make rust-compare' [ "$(tr -d '\\\n' < out | tr -s ' ')" = 'COMPARE_RUNS=3 COMPARE_SEED=4 COMPARE_RUNNER="wine -x"'\
+' SCRIPT_SECONDS=86400 HARNESS_VERBOSE=1 sh tests/scripts.sh rust/x86_64-pc-windows-gnu/ldvbi.exe rust_compare' ]
 finish

@@ -260,8 +260,17 @@ def test_how_much_memory_a_process_may_take(before, after):
 
 
 class Terminal(io.StringIO):
+    """It shows what is flushed: no message ends with a newline."""
+    flushed = ""
+
     def isatty(self):
         return True
+
+    def flush(self):
+        self.flushed = super().getvalue()
+
+    def getvalue(self):
+        return self.flushed
 
 
 def shown(*texts):
