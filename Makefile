@@ -40,9 +40,8 @@ SCHEMAS := ldvbi.schema.json ldvbi-join.schema.json ldvbi-recovered.schema.json 
 SHARED := $(addprefix share/schema/,$(SCHEMAS))
 DOCUMENTS := $(ROOT)/share/doc/ldvbi
 # Where the system's Python looks for modules below PREFIX. A file there names the folder that ours are in.
-SITE = $(shell /usr/bin/python3 -c 'import site, sys; print(*[place for place in site.getsitepackages() \
-    if place.startswith(sys.argv[1])][:1])' $(PREFIX)/lib/ 2> /dev/null)
-PTH = $(DESTDIR)$(SITE)/ldvbi.pth
+PTH = $(patsubst %,$(DESTDIR)%/ldvbi.pth,$(shell /usr/bin/python3 -c 'import site, sys; print(*[place for place in \
+    site.getsitepackages() if place.startswith(sys.argv[1])][:1])' $(PREFIX)/lib/ 2> /dev/null))
 PAGES := README.md CHANGELOG.md $(wildcard docs/*.md)
 # A page without the comments that say what in it is made from the source
 UNMARKED := sed '/^<!--.*-->$$/d; s/<!--[^>]*-->//g'
@@ -154,7 +153,7 @@ install: places said-from $(BUILT)ldvbi $(if $(wildcard $(BUILT)libldvbi.a),inst
 	install -m 644 $(SHARED) $(ROOT)/share/ldvbi
 	install -d $(patsubst %/,$(ROOT)/share/ldvbi/%,$(sort $(dir $(PYTHON))))
 	$(foreach module,$(PYTHON),install -m 644 $(module) $(ROOT)/share/ldvbi/$(module) &&) :
-	$(if $(SITE),install -d $(dir $(PTH)) && echo $(PREFIX)/share/ldvbi/python > $(PTH) && chmod 644 $(PTH))
+	$(foreach pth,$(PTH),install -d $(dir $(pth)) && echo $(PREFIX)/share/ldvbi/python > $(pth) && chmod 644 $(pth))
 	install -d $(DOCUMENTS)/docs/pictures $(DOCUMENTS)/examples/rust/src/bin
 	install -m 644 LICENSE $(DOCUMENTS)
 	$(foreach page,$(PAGES),$(UNMARKED) $(page) > $(DOCUMENTS)/$(page) && chmod 644 $(DOCUMENTS)/$(page) &&) :
@@ -198,7 +197,7 @@ install-lib: places $(if $(BUILT),rust/libldvbi.a rust/libldvbi.so.$(ABI),lib)
 uninstall: places
 	rm -f $(COMMANDS:%=$(ROOT)/bin/%) $(COMMANDS:%=$(MANUALS)/%.1) $(COMMANDS:%=$(BASH_COMPLETIONS)/%) \
 	    $(COMMANDS:%=$(ZSH_COMPLETIONS)/_%)
-	rm -rf $(ROOT)/share/ldvbi $(DOCUMENTS) $(if $(SITE),$(PTH))
+	rm -rf $(ROOT)/share/ldvbi $(DOCUMENTS) $(PTH)
 	rm -f $(ROOT)/include/ldvbi.h $(LIBRARIES)/libldvbi.a $(LIBRARIES)/libldvbi.so $(LIBRARIES)/libldvbi.so.$(ABI) \
 	    $(LIBRARIES)/pkgconfig/ldvbi.pc
 	rm -rf $(LIBRARIES)/cmake/ldvbi
@@ -263,7 +262,7 @@ dist:
 		$(call stripped,$(RUST_RELEASE)) && $(call packed,$(RUST_RELEASE),tar.gz) && \
 		cp -r rust/crate dist/$(RELEASE) && $(call packed,$(RELEASE),crate); \
 	fi
-	@if [ -e libldvbi.so ] && $(MAKE) -q ldvbi lib 2> /dev/null; then from=proved; \
+	@if $(MAKE) -q ldvbi lib 2> /dev/null; then from=proved; \
 	elif [ -e rust/libldvbi.so.$(ABI) ] && $(is_rust_current); then from=rust; \
 	else exit 0; fi; \
 	$(MAKE) -s wheel FROM=$$from WHEELS=dist && \

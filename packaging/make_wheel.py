@@ -9,9 +9,9 @@ certain age, where the rule of auditwheel holds, by what readelf says of the lib
 each distribution has, and no processor beyond the first of its kind. Else the tag is that of this machine's Linux."""
 
 import base64
-import glob
 import hashlib
 import os
+import pathlib
 import re
 import subprocess
 import sys
@@ -38,7 +38,7 @@ def manylinux_of(said):
     is_usual = all(ALLOWED.match(name) for name in needed) and {name for name, _ in versions} <= {"GLIBC", "GCC"}
     if not is_usual or re.search(r"ISA needed:.*-v[2-9]", said):
         return "linux"
-    glibc = [tuple(map(int, number.split(".")[:2])) for name, number in versions if name == "GLIBC"]
+    glibc = [tuple(map(int, number.split("."))) for name, number in versions if name == "GLIBC"]
     return "manylinux_%d_%d" % max(glibc + [OLDEST])
 
 
@@ -74,9 +74,9 @@ def description(name, version):
 def members(library, name, version, tag):
     """The wheel's files, each with its bytes."""
     files = {}
-    python = os.path.join(TOP, "python")
-    for path in glob.glob(os.path.join(python, "*", "**", "*.py"), recursive=True):
-        files[os.path.relpath(path, python)] = path
+    python = pathlib.Path(TOP, "python")
+    for path in python.rglob("*.py"):
+        files[str(path.relative_to(python))] = path
     files["ldvbi/" + os.path.basename(library)] = os.path.abspath(library)
     files["%s-%s.data/data/%s" % (name, version, MANUAL)] = MANUAL.replace("man1/", "")
     found = {}

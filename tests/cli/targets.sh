@@ -54,6 +54,8 @@ END
 stub tree/tests/scripts.sh 'echo "$COMPARE_RUNS, $COMPARE_SEED, <$COMPARE_RUNNER>"'
 ran tree make -s rust-compare N=3 SEED=7 RUNNER='qemu -L /usr'
 check 'the words of make rust-compare reach the script' [ "$status $(cat out)" = '0 3, 7, <qemu -L /usr>' ]
+ran tree make -s rust-compare
+check 'it compares ten runs, from the first on, of a program of this machine' [ "$status $(cat out)" = '0 10, 1, <>' ]
 # A file or folder with the name of a target doesn't stand for it.
 targets=$(sed -n 's/^\([a-z][a-z-]*\):.*/\1/p' "$top/Makefile" | grep -vx ldvbi | sort | paste -s -d ' ')
 sed -n 's/^\.PHONY: //p' "$top/Makefile" | tr ' ' '\n' | sort | paste -s -d ' ' > out

@@ -108,7 +108,7 @@ check 'it has these files, with these modes' cmp out wanted
 check 'its tag' grep -qx "Tag: $(echo ${wheel%.whl} | cut -d - -f 3-)" wheel/ldvbi-$version.dist-info/WHEEL
 check 'and the library' cmp wheel/ldvbi/libldvbi.so.2 "$built/libldvbi.so.2"
 if [ $from = rust ]; then
-    leave_out 31
+    leave_out 30
     finish
 fi
 check 'its record has the hash of each file' does /usr/bin/python3 -m wheel unpack -d unpacked wheels/$wheel
@@ -154,7 +154,7 @@ does env PATH="$work/venv/bin:/usr/bin:/bin" venv/bin/ldvbi-side cav.tbc --syste
 check 'without the program its page draws bad lines' grep -q '<h2>Bad lines, drawn' page.html
 
 # The tags of libraries that need more, each built here: what they are, the tag before the processor, and their options
-mkdir libraries tools
+mkdir libraries
 echo 'int nothing;' > nothing.c
 echo 'int pthread_create(void *, void *, void *, void *); int make(void) { return pthread_create(0, 0, 0, 0); }' > new.c
 bounded $cc -shared -fPIC -o libraries/libother.so nothing.c
@@ -168,9 +168,6 @@ that needs a newer one|manylinux_2_34|new.c
 that needs another one|linux|-Wl,--no-as-needed nothing.c -Llibraries -lother
 for later processors alone|linux|-Wl,-z,x86-64-v3 nothing.c
 END
-ln -s "$(python3 -c 'import sys; print(sys.executable)')" tools/python3
-check 'without readelf nothing is known of a library' prints 0 "tagged/ldvbi-$version-py3-none-linux_$processor.whl" \
-    env PATH="$work/tools" python3 "$top/packaging/make_wheel.py" "$built/libldvbi.so.2" tagged
 ! does python3 "$top/packaging/make_wheel.py" absent tagged
 check 'no library, no wheel' grep -q '^make_wheel: ' err
 

@@ -72,8 +72,9 @@ sort out > wanted
 check 'its record has the hash of each file' sh -c "sort $about/RECORD | cmp wanted -"
 does python3 -c 'import sys, zipfile
 for one in zipfile.ZipFile(sys.argv[1]).infolist():
-    print(*one.date_time, one.compress_type)' one/*.whl
-check 'its files are of one time, and deflated' [ "$(sort -u out)" = '2026 1 1 0 0 0 8' ]
+    print(*one.date_time, one.compress_type, "%o" % (one.external_attr >> 16), one.filename[-5:] == ".so.2")' one/*.whl
+check 'its files are of one time, deflated, and for all' [ "$(sort -u out)" = '2026 1 1 0 0 0 8 100644 False
+2026 1 1 0 0 0 8 100755 True' ]
 
 # The rule of auditwheel: what a library may need, by what readelf says of it. The last row is of no 64-bit processor.
 mkdir bin
@@ -106,6 +107,11 @@ stub bin/readelf 'exit 3'
 ! does env PATH="$work/bin:$PATH" python3 "$make_wheel" "$built/libldvbi.so.2" tagged
 check 'what readelf has failed at' [ "$status$(cut -c 1-19 err)" = '1make_wheel: Command' ]
 
+mkdir alone
+ln -s "$(python3 -c 'import sys; print(sys.executable)')" alone/python3
+check 'without readelf nothing is known of a library' prints 0 "tagged/ldvbi-$version-py3-none-linux_$processor.whl" \
+    env PATH="$work/alone" python3 "$make_wheel" "$built/libldvbi.so.2" tagged
+
 # What pip calls: of two libraries that of `make rust`
 mkdir -p source/rust
 (cd "$top" && cp -r LICENSE README.md packaging pyproject.toml python share "$work/source")
@@ -119,10 +125,13 @@ print(pip_backend.build_wheel("by_pip"))' "$work/source"
 printf '%s\n' "ldvbi: the library isn't built; in $work/source:" '    make rust && make wheel' \
     '    pip install dist/*.whl' > wanted
 check 'without a library two lines say how to get one' cmp wanted err
-cp "$built/libldvbi.so.2" source/rust
-echo none > source/libldvbi.so.2
+cp "$built/libldvbi.so.2" source
 asks_pip
 check 'the name of the wheel' [ "$status $(cat out)" = "0 $(basename one/*.whl)" ]
+check 'the library is that of the source' cmp one/*.whl by_pip/*.whl
+mv source/libldvbi.so.2 source/rust
+echo none > source/libldvbi.so.2
+asks_pip
 check 'the library of make rust is taken first' cmp one/*.whl by_pip/*.whl
 
 # ---- The package of Debian's
@@ -256,7 +265,10 @@ echo 'int ldvbi_one(void); int ldvbi_one(void) { return 1; } int main(void) { re
 bounded $cc -g -o known/usr/bin/ldvbi one.c
 bounded $cc -g -shared -fPIC -o known/usr/lib/multiarch/libldvbi.so.2 one.c
 bounded $cc -g -c one.c && rm known/usr/lib/multiarch/libldvbi.a && ar rc known/usr/lib/multiarch/libldvbi.a one.o
+cp -r known again
+umask 077
 does sh "$top/packaging/make_deb.sh" proved known $version to_known
+umask 022
 bounded dpkg-deb -R to_known/*.deb unpacked_known
 for file in bin/ldvbi lib/multiarch/libldvbi.so.2; do
     nm unpacked_known/usr/$file > found 2> err
@@ -264,10 +276,9 @@ for file in bin/ldvbi lib/multiarch/libldvbi.so.2; do
 done
 check 'the archive has names, and nothing for a debugger' [ "$(readelf -sSW unpacked_known/usr/lib/multiarch/libldvbi.a |
     grep -o 'debug_info\|ldvbi_one$' | sort -u)" = ldvbi_one ]
-folder again
 sleep 1
 does sh "$top/packaging/make_deb.sh" proved again $version to_again
-check 'the package of the same files is the same' cmp to_proved/*.deb to_again/*.deb
+check 'the package of the same files is the same, whatever mode new files get' cmp to_known/*.deb to_again/*.deb
 folder other
 ! does sh "$top/packaging/make_deb.sh" proved other 0.0.0 to_other
 check 'a version that the change log has not' \
