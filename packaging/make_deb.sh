@@ -28,13 +28,13 @@ depends() {
     sed -n 's/^requires-python = ">=\(.*\)"$/python3 (>= \1)/p' "$top/pyproject.toml"
 }
 
-strip --strip-unneeded "$folder/usr/bin/ldvbi" "$folder"/usr/lib/*/libldvbi.so.[0-9]
+strip --strip-unneeded "$folder/usr/bin/ldvbi" "$folder"/usr/lib/*/libldvbi.so.?
 strip -g --enable-deterministic-archives "$folder"/usr/lib/*/libldvbi.a
-chmod 644 "$folder"/usr/lib/*/libldvbi.so.[0-9]
+chmod 644 "$folder"/usr/lib/*/libldvbi.so.?
 gzip -9n "$folder"/usr/share/man/man1/*.1
 # In a package of Debian's this file stands for LICENSE.
 rm "$documents/LICENSE"
-cp "$top/packaging/copyright" "$documents"
+install -m 644 "$top/packaging/copyright" "$documents"
 gzip -9nc > "$documents/changelog.Debian.gz" << END
 ldvbi ($version) unstable; urgency=medium
 
@@ -42,9 +42,8 @@ ldvbi ($version) unstable; urgency=medium
 
  -- $maintainer  $(date -uR -d "$day")
 END
-mkdir -p "$folder/DEBIAN" "$folder/usr/share/lintian/overrides" "$4"
-cp "$top/packaging/lintian-overrides" "$folder/usr/share/lintian/overrides/ldvbi"
-chmod 644 "$documents/copyright" "$folder/usr/share/lintian/overrides/ldvbi"
+install -D -m 644 "$top/packaging/lintian-overrides" "$folder/usr/share/lintian/overrides/ldvbi"
+mkdir -p "$folder/DEBIAN" "$4"
 cat > "$folder/DEBIAN/control" << END
 Package: ldvbi
 Version: $version

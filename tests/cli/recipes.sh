@@ -149,14 +149,14 @@ touch -d @900000000 source/crates.txt
 
 # ---- What is packed: by commands that say what they are told
 commands=$work/packers:$work/tools
-holding .venv/old new/deb/old
+holding .venv/old dist/deb/old
 while IFS='|' read -r words said left; do
     made source $words
     echo "$said" | sed "s,SOURCE,$work/source,g" | tr + '\n' > wanted_text
     judge "make $words" 0 wanted_text ''
     check "make $words: what it leaves" [ "$(cd source && find ${left%%/*} -type f | sort | paste -s -d ' ')" = "$left" ]
 done << END
-wheel|python3 packaging/make_wheel.py libldvbi.so.2 dist|dist/ldvbi.whl
+wheel|python3 packaging/make_wheel.py libldvbi.so.2 dist|dist/deb/old dist/ldvbi.whl
 wheel FROM=rust WHEELS=w|python3 packaging/make_wheel.py rust/libldvbi.so.2 w|w/ldvbi.whl
 venv|python3 -m venv .venv+python3 packaging/make_wheel.py libldvbi.so.2 .venv/wheel+\
 python3 install --quiet --disable-pip-version-check --no-index .venv/wheel/ldvbi.whl+\
@@ -168,7 +168,7 @@ END
 cp places rows
 check 'a package of what is installed below /usr' placed what usr usr/lib/mips-linux-gnu '' '${pcfiledir}/../../..' \
     '${CMAKE_CURRENT_LIST_DIR}/../../../..' '${prefix}/lib/mips-linux-gnu' '' sites
-rm -rf source/dist source/w source/.venv source/new
+rm -rf source/w source/new
 
 # What `make dist` packs of a tree where files are newer than what is built, or gone; the library of wheel and package
 while IFS='|' read -r newer gone packed library; do

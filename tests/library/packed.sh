@@ -259,17 +259,20 @@ for page in ldvbi ldvbi-side; do
     gzip -dc < unpacked_proved/usr/share/man/man1/$page.1.gz > found
     check "the manual of $page" cmp "$top/share/man/$page.1" found
 done
-# A program and a library with all that a debugger wants
+# A program and a library with all that a debugger wants, of which the library alone unwinds
 folder known
 echo 'int ldvbi_one(void); int ldvbi_one(void) { return 1; } int main(void) { return 0; }' > one.c
 bounded $cc -g -o known/usr/bin/ldvbi one.c
-bounded $cc -g -shared -fPIC -o known/usr/lib/multiarch/libldvbi.so.2 one.c
+bounded $cc -g -shared -fPIC -o known/usr/lib/multiarch/libldvbi.so.2 one.c -Wl,--no-as-needed -lgcc_s
 bounded $cc -g -c one.c && rm known/usr/lib/multiarch/libldvbi.a && ar rc known/usr/lib/multiarch/libldvbi.a one.o
 cp -r known again
 umask 077
 does sh "$top/packaging/make_deb.sh" proved known $version to_known
 umask 022
 bounded dpkg-deb -R to_known/*.deb unpacked_known
+glibc=$(readelf -VW known/usr/bin/ldvbi | grep -o 'GLIBC_2[.][0-9]*' | sort -uV | tail -n 1 | cut -d _ -f 2)
+check 'both are asked what they need' grep -qx "Depends: libc6 (>= $glibc), libgcc-s1, python3 (>= 3.9)" \
+    unpacked_known/DEBIAN/control
 for file in bin/ldvbi lib/multiarch/libldvbi.so.2; do
     nm unpacked_known/usr/$file > found 2> err
     check "$file is stripped" grep -q 'no symbols' err
