@@ -1,6 +1,6 @@
 #!/bin/sh
 # Installs the built program, and the library where it is built, from a copy of the source without the toolchain, takes
-# both away again, and packs them: what is there has one list of files. recipes.sh tries in which other ways that is done.
+# both away again, and packs them: what is there has one list of files. recipes.sh tries how else that is done.
 # usage: sh tests/cli/packaging.sh PROGRAM
 # runs: everywhere
 # fails where: Makefile|/install.*MANUALS/d

@@ -32,10 +32,12 @@ umask 077
 # holding PATH..: makes these files in the tree
 mkdir source
 holding() {
-    (cd source && printf '%s\n' "$@" | sed -n 's,/[^/]*$,,p' | xargs mkdir -p && for path; do echo "$path" > "$path"; done)
+    (cd source && printf '%s\n' "$@" | sed -n 's,/[^/]*$,,p' | xargs mkdir -p &&
+        for path; do echo "$path" > "$path"; done)
 }
 holding $(sed 's/.* //; /^BUILT/d' places) rust/hand/a.rs rust/b.py rust/c.sh crates.txt packaging/make_wheel.py \
-    $(printf 'crates/%s/src/a.rt ' $program_crates $library_crates vbi_other) crates/vbi_near/b.antt crates/vbi_near/c.txt
+    $(printf 'crates/%s/src/a.rt ' $program_crates $library_crates vbi_other) crates/vbi_near/b.antt \
+    crates/vbi_near/c.txt
 cp "$top/Makefile" source
 for page in README.md CHANGELOG.md docs/A.md; do
     printf '<!-- made -->\n%s<!-- a --><!-- b -->\n' $page > source/$page
@@ -76,20 +78,27 @@ made() {
 }
 
 /usr/bin/python3 -c 'import site; print(*site.getsitepackages(), sep="\n")' > sites
-# placed ROOT PREFIX LIBDIR FROM PC CMAKE LIBRARY PRIVATE [SITES]: whether below this root are the files of `rows`, with
-# their modes, in folders for all; what describes the library says these places, and Python is told where the module is
+# placed ROOT PREFIX LIBRARIES BUILT UP LIBDIR [SITES]: whether below this root are the files of `rows`, with their
+# modes and in folders for all, those that are built from the folder BUILT. What describes the library has LIBDIR and
+# the prefix, which is UP from the libraries' folder or UP itself; in the first of the sites Python finds the module.
 placed() {
+    private=
+    [ -z "$4" ] || private='-lpthread -ldl'
     {
         sed "s, BUILT/, $4," rows | sed "s,^\(...\) LIB/,\1 $3/,; t; s,^... ,&$2/,"
         for path in $described; do
-            where=$6
-            [ $path != pkgconfig/ldvbi.pc ] || where=$5
-            echo "644 $3/$path $where $7 $version 2 ($8)"
+            case $5$path in
+                /..*.pc) where='${pcfiledir}/..'$5 ;;
+                /..*) where='${CMAKE_CURRENT_LIST_DIR}/../..'$5 ;;
+                *) where=$5 ;;
+            esac
+            echo "644 $3/$path $where $6 $version 2 ($private)"
         done
         echo "$3/libldvbi.so libldvbi.so.2"
     } > wanted_rows
     grep -q LIB rows || sed -i '/ldvbi[.]pc\|[.]cmake\|libldvbi/d' wanted_rows
-    [ -z "${9:-}" ] || sed -n "s,^/\($2/lib/.*\),644 \1/ldvbi.pth /$2/share/ldvbi/python,p" sites | head -n 1 >> wanted_rows
+    [ -z "${7:-}" ] ||
+        sed -n "s,^/\($2/lib/.*\),644 \1/ldvbi.pth /$2/share/ldvbi/python,p" sites | head -n 1 >> wanted_rows
     (cd "$1" && find . -type f -printf '%m %P\n' | awk '{ text = ""; getline text < $2; print $0, text }'
         find . -type l -printf '%P %l\n'; find . -mindepth 1 -type d ! -perm 755) | sort > found
     sort wanted_rows | diff - found > err
@@ -97,22 +106,22 @@ placed() {
 
 # ---- What is installed, and taken away
 sed "s,WORK,$work,g" > installs << 'END'
-|.|install DESTDIR=WORK/one|one|usr/local|usr/local/lib||${pcfiledir}/../..|${CMAKE_CURRENT_LIST_DIR}/../../..|${prefix}/lib||sites
-|.|install FROM=rust DESTDIR=WORK/two PREFIX=/usr LIBDIR=/usr/lib/a-b|two|usr|usr/lib/a-b|rust/|${pcfiledir}/../../..|${CMAKE_CURRENT_LIST_DIR}/../../../..|${prefix}/lib/a-b|-lpthread -ldl|sites
-ldvbi|^... [Li]|install-lib DESTDIR=WORK/three PREFIX=/usr LIBDIR=/lib|three|usr|lib|rust/|/usr|/usr|/lib|-lpthread -ldl|
-ldvbi rust/libldvbi.a|^... [bs]|install PREFIX=WORK/four/usr|four|usr|lib|rust/|||||
+|.|install DESTDIR=WORK/one|one|usr/local|usr/local/lib||/..|${prefix}/lib|sites
+|.|install FROM=rust DESTDIR=WORK/two PREFIX=/usr LIBDIR=/usr/lib/a|two|usr|usr/lib/a|rust/|/../..|${prefix}/lib/a|sites
+ldvbi|^... [Li]|install-lib DESTDIR=WORK/three PREFIX=/usr LIBDIR=/lib|three|usr|lib|rust/|/usr|/lib|
+ldvbi rust/libldvbi.a|^... [bs]|install PREFIX=WORK/four/usr|four|usr|lib|rust/|||
 END
-while IFS='|' read -r gone rows words root prefix lib from pc cmake libdir private sites; do
+while IFS='|' read -r gone rows words root prefix lib from up libdir sites; do
     grep "$rows" places > rows
     [ -z "$gone" ] || tar -C source -cf gone --remove-files $gone
     made source $words
     said=
     [ "$root" != four ] || said='make: takes what make rust built, which is tested and not proved'
     check "make $words: what it says" [ "$status$(cat out err)" = "0$said" ]
-    check "make $words: what is where" placed "$root" "$prefix" "$lib" "$from" "$pc" "$cmake" "$libdir" "$private" "$sites"
+    check "make $words: what is where" placed "$root" "$prefix" "$lib" "$from" "$up" "$libdir" "$sites"
     # Files of others, whose names begin as ours do
-    { cut -d ' ' -f 2 wanted_rows | sed '/[.]so/d; s,/ldvbi/.*,/ldvbi-other/file,; t; s,\([^/.]*\)\([^/]*\)$,\1-other\2,'
-        echo "$lib/libldvbi.so.0"; } | sort -u > others
+    sed '/[.]so[.]2 /d; s,[.]so .*,.so.0,; s,^... ,,; s, .*,,' wanted_rows |
+        sed '/[.]so/b; s,/ldvbi/.*,/ldvbi-other/file,; t; s,\([^/.]*\)\([^/]*\)$,\1-other\2,' | sort -u > others
     (cd "$root" && sed 's,[^/]*$,,' ../others | xargs mkdir -p && xargs touch < ../others)
     made source uninstall ${words#* }
     (cd "$root" && find . ! -type d -printf '%P\n') | sort | diff others - > left
@@ -154,7 +163,7 @@ while IFS='|' read -r words said left; do
     made source $words
     echo "$said" | sed "s,SOURCE,$work/source,g" | tr + '\n' > wanted_text
     judge "make $words" 0 wanted_text ''
-    check "make $words: what it leaves" [ "$(cd source && find ${left%%/*} -type f | sort | paste -s -d ' ')" = "$left" ]
+    check "make $words: what it leaves" [ "$(cd source && find ${left%%/*} -type f | sort | xargs)" = "$left" ]
 done << END
 wheel|python3 packaging/make_wheel.py libldvbi.so.2 dist|dist/deb/old dist/ldvbi.whl
 wheel FROM=rust WHEELS=w|python3 packaging/make_wheel.py rust/libldvbi.so.2 w|w/ldvbi.whl
@@ -166,17 +175,18 @@ deb FROM=rust DEBS=new|deb rust new/deb $version new|new/ldvbi.deb
 deb|deb proved dist/deb $version dist|dist/ldvbi.deb dist/ldvbi.whl
 END
 cp places rows
-check 'a package of what is installed below /usr' placed what usr usr/lib/mips-linux-gnu '' '${pcfiledir}/../../..' \
-    '${CMAKE_CURRENT_LIST_DIR}/../../../..' '${prefix}/lib/mips-linux-gnu' '' sites
+check 'a package of what is installed below /usr' \
+    placed what usr usr/lib/mips-linux-gnu '' /../.. '${prefix}/lib/mips-linux-gnu' sites
 rm -rf source/w source/new
 
 # What `make dist` packs of a tree where files are newer than what is built, or gone; the library of wheel and package
 while IFS='|' read -r newer gone packed library; do
     rm -rf state
     cp -a source state
-    (cd state && touch -d @1100000000 ldvbi $libraries rust/ldvbi rust/lib*; [ -z "$newer" ] || touch $newer; rm -rf $gone)
+    touch -d @1100000000 state/ldvbi state/lib* state/rust/ldvbi state/rust/lib*
+    (cd state && [ -z "$newer" ] || touch $newer; rm -rf $gone)
     made state dist
-    (cd state/dist && echo * | sed "s/ldvbi\(-$version\)\?//g"; cat ldvbi.whl; grep '^the' ../../out) > found 2> /dev/null
+    { (cd state/dist && echo * | sed "s/ldvbi\(-$version\)\?//g"; cat ldvbi.whl); grep ^the out; } > found 2> /dev/null
     said="the program isn't built, or is older than its source: it isn't packed"
     case $packed in *x86_64*) said= ;; esac
     printf '%s\n' "SHA256SUMS $packed" $library ${said:+"$said"} | diff - found > left
@@ -205,11 +215,8 @@ check 'the files in the archives are of root, and as old as the commit' \
 for from in x86_64: rust-mips:rust/; do
     release=ldvbi-$version-${from%:*}-linux
     tar -C packers -xpzf state/dist/$release.tar.gz
-    private=
-    [ "${from#*:}" = '' ] || private='-lpthread -ldl'
     mkdir $release && mv packers/$release $release
-    check "what $release has" placed $release $release $release/lib "${from#*:}" '${pcfiledir}/../..' \
-        '${CMAKE_CURRENT_LIST_DIR}/../../..' '${prefix}/lib' "$private"
+    check "what $release has" placed $release $release $release/lib "${from#*:}" /.. '${prefix}/lib'
 done
 for one in tar.gz:"$(cd source && git ls-files)" crate:Cargo.toml; do
     check "what the ${one%%:*} has" [ "$(tar -tzf state/dist/ldvbi-$version.${one%%:*} | grep -v '/$')" = \

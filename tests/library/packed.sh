@@ -72,7 +72,7 @@ sort out > wanted
 check 'its record has the hash of each file' sh -c "sort $about/RECORD | cmp wanted -"
 does python3 -c 'import sys, zipfile
 for one in zipfile.ZipFile(sys.argv[1]).infolist():
-    print(*one.date_time, one.compress_type, "%o" % (one.external_attr >> 16), one.filename[-5:] == ".so.2")' one/*.whl
+    print(*one.date_time, one.compress_type, "%o" % (one.external_attr >> 16), ".so" in one.filename)' one/*.whl
 check 'its files are of one time, deflated, and for all' [ "$(sort -u out)" = '2026 1 1 0 0 0 8 100644 False
 2026 1 1 0 0 0 8 100755 True' ]
 
