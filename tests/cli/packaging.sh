@@ -136,8 +136,12 @@ if [ "$library" ]; then
     { by_python /usr; printf 'share/%s\n' doc/ldvbi/changelog.Debian.gz doc/ldvbi/copyright lintian/overrides/ldvbi; } |
         grep -v /LICENSE > files_of_package
     check 'what is in the package' has package/usr files_of_package 's,^lib/x86_64-linux-gnu,lib,; s/[.]1[.]gz$/.1/'
+    made install-lib FROM=rust DESTDIR="$work/apart" PREFIX=/usr LIBDIR=/elsewhere/lib
+    for line in libdir=/elsewhere/lib 'Libs.private: -lpthread -ldl'; do
+        check "a library apart is described: $line" grep -qx "$line" apart/elsewhere/lib/pkgconfig/ldvbi.pc
+    done
 else
-    leave_out 1
+    leave_out 3
 fi
 path=$work/tools
 rm -rf tree/rust/crate tree/rust/ldvbi tree/rust/libldvbi.* tree/ldvbi tree/libldvbi.*

@@ -194,7 +194,7 @@ while IFS='|' read -r newer gone packed library; do
 done << END
 crates/vbi_cli/src/a.rt||.tar.gz|
 rust/hand/a.rs|$libraries|-x86_64-linux.tar.gz .tar.gz|
-rust/b.py||-x86_64-linux.tar.gz .tar.gz .deb .whl|libldvbi.so.2
+rust/b.py|ldvbi|.tar.gz|
 rust/c.sh|ldvbi|.tar.gz|
 crates.txt||-rust-mips-linux.tar.gz .crate .tar.gz .deb .whl|rust/libldvbi.so.2
 crates.txt|rust/libldvbi.so.2 rust/libldvbi.a|-rust-mips-linux.tar.gz .crate .tar.gz|
@@ -205,8 +205,8 @@ printf '%s\n' "strip --strip-unneeded dist/ldvbi-$version-x86_64-linux/bin/ldvbi
     "strip --strip-unneeded dist/ldvbi-$version-rust-mips-linux/bin/ldvbi" \
     'python3 packaging/make_wheel.py libldvbi.so.2 dist' "deb proved dist/deb $version dist" > wanted_text
 judge 'make dist tells the commands that pack' 0 wanted_text ''
-check 'the checksums' sh -c 'cd state/dist && sha256sum -c --quiet SHA256SUMS && ls ldvbi* | diff - names' \
-    "$(cut -c 67- state/dist/SHA256SUMS > state/dist/names)"
+cut -c 67- state/dist/SHA256SUMS > names
+check 'the checksums' sh -c 'cd state/dist && sha256sum -c --quiet SHA256SUMS && ls ldvbi* | cmp ../../names -'
 for archive in state/dist/*.tar.gz state/dist/*.crate; do
     TZ=UTC tar --numeric-owner --full-time -tvzf $archive >> archived
 done
