@@ -79,14 +79,17 @@ check 'its files are of one time, deflated, and for all' [ "$(sort -u out)" = '2
 # The rule of auditwheel: what a library may need, by what readelf says of it. The last row is of no 64-bit processor.
 mkdir bin
 stub bin/readelf 'printf "%b" "$SAID"'
+echo 'import sys
+sys.path.insert(0, sys.argv[1])
+import make_wheel
+print(make_wheel.tag_of(sys.argv[2]))' > tag.py
 while IFS='|' read -r tag needed versions isa; do
     SAID=
     for one in $needed; do SAID="$SAID 0x01 (NEEDED) Shared library: [$one]\n"; done
     for one in $versions; do SAID="$SAID 0x0010: Name: $one  Flags: none  Version: 2\n"; done
     export SAID="$SAID${isa:+      Properties: x86 ISA needed: $isa\n}"
-    rm -rf tagged
-    check "the tag is $tag: $needed $versions $isa" prints 0 "tagged/ldvbi-$version-py3-none-${tag}_$processor.whl" \
-        env PATH="$work/bin:$PATH" python3 "$make_wheel" "$built/libldvbi.so.2" tagged
+    check "the tag is $tag: $needed $versions $isa" prints 0 "py3-none-${tag}_$processor" \
+        env PATH="$work/bin:$PATH" python3 tag.py "${make_wheel%/*}" "$built/libldvbi.so.2"
 done << 'END'
 manylinux_2_17|||
 manylinux_2_17|libc.so.6 libm.so.6 librt.so.1 libdl.so.2 libpthread.so.0 libgcc_s.so.1 ld-linux-x86-64.so.2|GLIBC_2.2.5|
@@ -137,11 +140,11 @@ check 'the library of make rust is taken first' cmp one/*.whl by_pip/*.whl
 # ---- The package of Debian's
 
 architecture=$(dpkg --print-architecture)
-# folder NAME: what `make install` leaves, as far as the package changes it
+# folder NAME [ARCHIVE]: what `make install` leaves, as far as the package changes it
 folder() {
     mkdir -p "$1/usr/bin" "$1/usr/lib/multiarch" "$1/usr/share/man/man1" "$1/usr/share/doc/ldvbi"
     cp "$program" "$1/usr/bin/ldvbi"
-    cp "$built/libldvbi.so.2" "$built/libldvbi.a" "$1/usr/lib/multiarch"
+    cp "$built/libldvbi.so.2" "${2:-$built/libldvbi.a}" "$1/usr/lib/multiarch"
     cp "$top"/share/man/*.1 "$1/usr/share/man/man1"
     cp "$top/LICENSE" "$1/usr/share/doc/ldvbi"
     chmod -R go+rX,go-w "$1"
@@ -149,8 +152,10 @@ folder() {
 glibc=$(cat "$program" "$built/libldvbi.so.2" | grep -aoh 'GLIBC_2[.][0-9]*' | sort -uV | tail -n 1 | cut -d _ -f 2)
 unwinds=
 ! grep -aq 'libgcc_s[.]so[.]1' "$program" "$built/libldvbi.so.2" || unwinds='libgcc-s1, '
+echo 'int ldvbi_one(void); int ldvbi_one(void) { return 1; } int main(void) { return 0; }' > one.c
+bounded $cc -g -c one.c && ar rc libldvbi.a one.o
 for from in proved rust; do
-    folder $from
+    folder $from "$([ $from = proved ] || echo libldvbi.a)"
     umask 077
     maintained=
     [ $from = proved ] || maintained='MAINTAINER=A B <a@b>'
@@ -260,11 +265,9 @@ for page in ldvbi ldvbi-side; do
     check "the manual of $page" cmp "$top/share/man/$page.1" found
 done
 # A program and a library with all that a debugger wants, of which the library alone unwinds
-folder known
-echo 'int ldvbi_one(void); int ldvbi_one(void) { return 1; } int main(void) { return 0; }' > one.c
+folder known libldvbi.a
 bounded $cc -g -o known/usr/bin/ldvbi one.c
 bounded $cc -g -shared -fPIC -o known/usr/lib/multiarch/libldvbi.so.2 one.c -Wl,--no-as-needed -lgcc_s
-bounded $cc -g -c one.c && rm known/usr/lib/multiarch/libldvbi.a && ar rc known/usr/lib/multiarch/libldvbi.a one.o
 cp -r known again
 umask 077
 does sh "$top/packaging/make_deb.sh" proved known $version to_known
