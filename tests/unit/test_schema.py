@@ -44,6 +44,8 @@ SYSTEMS = {
 # What the first six lines of NTSC show
 FIRST_LINES = [(0x82CFFF, "word", 1), (0x82CFFF, "word", 2), (0, "blank", 0), (0, "unfinished", 0),
                (0, "change 170", 0), (0, "hold 200", 0)]
+# What a schema may say: an unknown word would say nothing
+KEYWORDS = {*Draft202012Validator.VALIDATORS, "$schema", "$id", "$comment", "$defs", "title", "description"}
 WRONG_CAUSES = ("Word %s", "%s", "%s ", "%s 0100", "%s 100.0", "%s  100", "%s 100 ", "%s100", "x%s 100")
 
 
@@ -51,7 +53,17 @@ def schema_of(kind):
     schema = json.loads(pathlib.Path(TOP, "share", "schema", "ldvbi%s.schema.json" % kind).read_text("ascii"))
     assert schema["$schema"] == Draft202012Validator.META_SCHEMA["$id"]
     Draft202012Validator.check_schema(schema)
+    all_known(schema)
     return schema
+
+
+def all_known(schema):
+    """Each word of a schema is a known one, at all depths; below some are names or values instead."""
+    assert {*schema} <= KEYWORDS
+    for word, value in schema.items():
+        for one in value.values() if word in ("properties", "$defs") else value if isinstance(value, list) else [value]:
+            if isinstance(one, dict):
+                all_known(one)
 
 
 def read_table(*kinds):
