@@ -89,7 +89,7 @@ def others(value, words):
         yield from (({other: value[other] for other in value if other != name}, False) for name in value)
         yield {**value, "more": 0}, False
     elif is_fixed:
-        yield from [(value + [0], False), (value[:-1], False)]
+        yield from [(value + value[-1:], False), (value[:-1], False)]
     elif isinstance(value, list):
         words = [*words, "[]"]
     for word in [] if is_fixed else words:
@@ -99,6 +99,7 @@ def others(value, words):
             found.update({str(least - 1): False, str(greatest + 1): not ends[2], str(least): True, str(greatest): True})
         else:
             text = word.lstrip("!")
+            text = text.replace("'", '"') if text[0] == "[" else text
             is_json = re.fullmatch(r'null|true|false|\[.*\]|[0-9]+|".*"', text)
             found[text if is_json else json.dumps(text)] = word[0] != "!"
     yield from ((json.loads(text), is_allowed) for text, is_allowed in found.items())
@@ -228,6 +229,8 @@ def test_documents(room, system, kind, version, options, passes):
     name = "cause" + system.title()
     if kind:
         assert schema["$defs"][name] == schema_of("")["$defs"][name]
+    too_far = json.dumps(documents[-1]).replace("change %d" % (width - 1), "change %d" % width)
+    assert not Draft202012Validator(schema).is_valid(json.loads(too_far))
     if system == "NTSC":
         each_line(schema, fields[0])
 
