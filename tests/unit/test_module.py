@@ -229,32 +229,6 @@ def test_the_header_says_so():
     assert [reason(library.check, status) for status in (0, *statuses)] == texts
 
 
-def of_header(given):
-    """The parameters of a call in the header, each with its type or, of what is pointed to, whether it is constant; and
-    the places, from 1, of pointers without a length."""
-    found, alone, words = [], [], [one.split() for one in given.split(",") if given]
-    for place, (kind, *_, name) in enumerate(words, 1):
-        is_pointer, is_length = name[0] == "*", kind == "size_t" and re.fullmatch(r"length|\w*count|gap_room", name)
-        name = "length" if is_length else {"*samples": "bytes", "*record": "written"}.get(name, name.strip("*"))
-        found.append((name, kind if not is_pointer or kind == "const" else "written"))
-        alone += [str(place)] * (is_pointer and not (place < len(words) and words[place][0] == "size_t"))
-    return found, alone
-
-
-def test_parameters():
-    """The header's calls take what the proved ones do; what is pointed to and has no length mustn't be null."""
-    source = "".join(path.read_text("utf-8") for path in pathlib.Path(TOP, "crates", "vbi_c", "src").glob("*.rt"))
-    proved, types_of = re.findall(r'extern "C" fn (\w+)\(([^)]*)\)', source), {"u32": "uint32_t", "usize": "size_t"}
-    for call, taken in proved:
-        wanted = []
-        for name, kind in re.findall(r"(\w+): ([^,]+)", taken):
-            wanted.append((name, types_of.get(kind.strip(), "written" if "&mut" in kind else "const")))
-            wanted += [("length", "size_t")] * ("[" in kind)
-        marks, given = re.search(r"^(.*)\b%s\((?:void|([^)]*))\);" % call, HEADER, re.M).groups("")
-        assert of_header(given) == (wanted, re.findall(r"POINTER\((\d+)\)", marks)), call
-    assert len(proved) > 30
-
-
 def test_all_that_is_public():
     names = {name for name, value in vars(ldvbi).items() if name[0] != "_" and not isinstance(value, types.ModuleType)}
     assert names == {*ldvbi.__all__, "BLOCK", "PACKED_FIELD"}
