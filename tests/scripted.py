@@ -33,7 +33,8 @@ LIBRARY = """for part in refusals judged plans lines worn; do
 LDVBI_LIBRARY=built/libldvbi.so.2 PYTHONPATH=python:tests/unit python3 tests/library/$part.py || exit; done"""
 BITS = "mkdir -p built && sh tests/cli/bits_above.sh built"
 WRITTEN, NAMED = "python3 texts/write.py --check", "python3 tests/documents.py"
-SCHEMA = "cd tests/unit && /usr/bin/python3 -m pytest -q -x test_schema.py"
+PYTEST = "cd tests/unit && /usr/bin/python3 -m pytest -q -x "
+SCHEMA, MODULE = PYTEST + "test_schema.py", PYTEST + "test_module.py test_classes.py"
 
 
 def script(name, program="$TRIED"):
@@ -49,7 +50,7 @@ ROWS = (
     ("rust/hand/src/clap.rs", HAND, ON_BUILT[:2]),
     ("rust/hand/src/", HAND, (TESTS,)),
     ("rust/hand/", CRATE + "cp -r rust/hand/. rust/crate", (script("cli/rust_crate"),)),
-    ("include/ldvbi.h", "", (WRITTEN, NAMED, script("library/library"), script("library/examples"))),
+    ("include/ldvbi.h", "", (WRITTEN, NAMED, MODULE, script("library/library"), script("library/examples"))),
     ("include/", "", (script("library/installed"), script("cli/packaging"))),
     ("Makefile", "make -n places",
      (script("cli/targets"), script("cli/recipes"), script("library/installed"), script("cli/packaging"))),

@@ -80,6 +80,8 @@ printf '%s\n' '#include <ldvbi.h>' 'int main(void) { ldvbi_read_line(1, 1, 2, NU
 $cc -std=c99 -Wall -I"$top/include" -c -o compiled.o call.c 2> err
 check 'a status that nobody looks at is warned of' grep -q warn_unused_result err
 check 'what is written is never null' [ "$(grep -c 'Wnonnull]' err)" = 1 ]
+$cc -std=c99 -Wall -DLDVBI_NO_ATTRIBUTES -I"$top/include" -c -o compiled.o call.c 2> err
+check 'who wants no attributes is warned of nothing' [ ! -s err ]
 
 PYTHONPATH=$PYTHONPATH:$tests/unit
 for part in refusals judged plans lines worn; do

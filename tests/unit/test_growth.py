@@ -17,7 +17,7 @@ from ldvbi_side.write.choice import CHANGE
 from ldvbi_side.write.joined import join
 import pytest
 
-EXPONENT, RUNS = 1.15, 8
+EXPONENT, RUNS = 1.15, 24
 BEYOND, AT_LEAST = 1.4, 4  # which no busy machine makes of less in so many runs
 # Each run in the place of others takes four passes over all numbers (include/ldvbi.h), quick ones.
 BOUNDS = {"replaced": 1.4}

@@ -44,6 +44,8 @@ SYSTEMS = {
 # What the first six lines of NTSC show
 FIRST_LINES = [(0x82CFFF, "word", 1), (0x82CFFF, "word", 2), (0, "blank", 0), (0, "unfinished", 0),
                (0, "change 170", 0), (0, "hold 200", 0)]
+# What a schema may say: an unknown word would say nothing
+KEYWORDS = {*Draft202012Validator.VALIDATORS, "$schema", "$id", "$comment", "$defs", "title", "description"}
 WRONG_CAUSES = ("Word %s", "%s", "%s ", "%s 0100", "%s 100.0", "%s  100", "%s 100 ", "%s100", "x%s 100")
 
 
@@ -51,7 +53,17 @@ def schema_of(kind):
     schema = json.loads(pathlib.Path(TOP, "share", "schema", "ldvbi%s.schema.json" % kind).read_text("ascii"))
     assert schema["$schema"] == Draft202012Validator.META_SCHEMA["$id"]
     Draft202012Validator.check_schema(schema)
+    all_known(schema)
     return schema
+
+
+def all_known(schema):
+    """Each word of a schema is a known one, at all depths; below some are names or values instead."""
+    assert {*schema} <= KEYWORDS
+    for word, value in schema.items():
+        for one in value.values() if word in ("properties", "$defs") else value if isinstance(value, list) else [value]:
+            if isinstance(one, dict):
+                all_known(one)
 
 
 def read_table(*kinds):
@@ -77,7 +89,7 @@ def others(value, words):
         yield from (({other: value[other] for other in value if other != name}, False) for name in value)
         yield {**value, "more": 0}, False
     elif is_fixed:
-        yield from [(value + [0], False), (value[:-1], False)]
+        yield from [(value + value[-1:], False), (value[:-1], False)]
     elif isinstance(value, list):
         words = [*words, "[]"]
     for word in [] if is_fixed else words:
@@ -87,6 +99,7 @@ def others(value, words):
             found.update({str(least - 1): False, str(greatest + 1): not ends[2], str(least): True, str(greatest): True})
         else:
             text = word.lstrip("!")
+            text = text.replace("'", '"') if text[0] == "[" else text
             is_json = re.fullmatch(r'null|true|false|\[.*\]|[0-9]+|".*"', text)
             found[text if is_json else json.dumps(text)] = word[0] != "!"
     yield from ((json.loads(text), is_allowed) for text, is_allowed in found.items())
@@ -216,6 +229,8 @@ def test_documents(room, system, kind, version, options, passes):
     name = "cause" + system.title()
     if kind:
         assert schema["$defs"][name] == schema_of("")["$defs"][name]
+    too_far = json.dumps(documents[-1]).replace("change %d" % (width - 1), "change %d" % width)
+    assert not Draft202012Validator(schema).is_valid(json.loads(too_far))
     if system == "NTSC":
         each_line(schema, fields[0])
 
