@@ -26,6 +26,7 @@ TABLE = """
     by what a player may lose there | USERS 1..40 O ; USERS 1..30 O | a b by users' code
     not by more | USERS 1..40 O ; USERS 1..29 O | none
     unless its last ones are unread | USERS 1..40 O ; USERS 1..20 Bx20 O | a b by users' code
+    or are in either | USERS 1..20 O ; USERS 1..25 Bx30 O ; USERS 1..20 O | a b c by users' code
     some whose end isn't shown | USERS 1..60 ; USERS 1..40 O ; USERS 1..60 | a b c by users' code
     a side begins elsewhere | L USERS 1..40 ; L USERS 12..40 | none || by ten | L USERS 1..40 ; L USERS 11..40
         | a b by users' code
@@ -80,10 +81,10 @@ def test_the_first_of_each_group():
     discs = Discs()
     found = [discs.add(marked(text, name), options) for text, name, options in (
         ("1..20 STATUS20", "a b.tbc", ["--strict", "--black=1"]), ("21..40 STATUS20", "-b.tbc", ["--black=1"]),
-        ("B", "no.tbc", []), ("1..40 STATUS", "c.tbc", ["--black=1"]))]
-    assert found == [[], [], [], ["a b.tbc", "-b.tbc"]]
+        ("B", "no.tbc", []), ("1..40 STATUS", "c.tbc", ["--black=1"]), ("1..40 STATUS", "d.tbc", ["--black=1"]))]
+    assert found == [[], [], [], ["a b.tbc", "-b.tbc"], ["a b.tbc"]]
     one, = discs.found()
-    assert one.command() == "ldvbi-side join --black=1 -- 'a b.tbc' -b.tbc c.tbc"
+    assert one.command() == "ldvbi-side join --black=1 -- 'a b.tbc' -b.tbc c.tbc d.tbc"
 
 
 def test_numbers_that_last():

@@ -43,7 +43,7 @@ class Between:
         both = sorted(ends)
         self.after = [after for after, _ in both]
         # of each and those that begin before it the end of that which goes on the longest
-        self.before = list(itertools.accumulate((before for _, before in both), max))
+        self.before: List[int] = list(itertools.accumulate((before for _, before in both), max))
 
     def meet(self, after: int, before: int) -> bool:
         """Whether one of them has something of what lies between these two fields."""
