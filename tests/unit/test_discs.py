@@ -32,7 +32,8 @@ TABLE = """
         | a b by users' code
     minutes end alike | USERS m0..3x3000 O ; USERS m0..4x3000 O ; USERS m0..3x3000 O | a c by users' code
     side B has other chapters | CHAPTERS USERS ; 1..40 2:30/2=-/c3/c3 32:80/2=-/c4/c4 USERS | none
-    chapters | CHAPTERS ; CHAPTERS | a b by chapter || of one alone | 1..40 2:80/2=-/c1/c1 ; 1..40 2:80/2=-/c1/c1 | none
+    chapters | CHAPTERS ; CHAPTERS USERS | a b by chapter
+    of one alone | 1..40 2:80/2=-/c1/c1 ; 1..40 2:80/2=-/c1/c1 | none
     a programme status | 1..40 STATUS ; 1..40 STATUS | a b by programme status
     another one | 1..40 STATUS ; 1..40 OTHER | none
     nothing shown | 1..40 ; 1..40 | none || no numbers | USERS B ; USERS 1..40 | none
