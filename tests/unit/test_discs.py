@@ -26,12 +26,14 @@ TABLE = """
     by what a player may lose there | USERS 1..40 O ; USERS 1..30 O | a b by users' code
     not by more | USERS 1..40 O ; USERS 1..29 O | none
     unless its last ones are unread | USERS 1..40 O ; USERS 1..20 Bx20 O | a b by users' code
-    one whose end isn't shown | USERS 1..40 O ; USERS 1..60 | a b by users' code
+    or are in either | USERS 1..20 O ; USERS 1..25 Bx30 O ; USERS 1..20 O | a b c by users' code
+    some whose end isn't shown | USERS 1..60 ; USERS 1..40 O ; USERS 1..60 | a b c by users' code
     a side begins elsewhere | L USERS 1..40 ; L USERS 12..40 | none || by ten | L USERS 1..40 ; L USERS 11..40
         | a b by users' code
-    minutes end alike | USERS m0..3x3000 O ; USERS m0..4x3000 O | none
+    minutes end alike | USERS m0..3x3000 O ; USERS m0..4x3000 O ; USERS m0..3x3000 O | a c by users' code
     side B has other chapters | CHAPTERS USERS ; 1..40 2:30/2=-/c3/c3 32:80/2=-/c4/c4 USERS | none
-    chapters | CHAPTERS ; CHAPTERS | a b by chapter || of one alone | 1..40 2:80/2=-/c1/c1 ; 1..40 2:80/2=-/c1/c1 | none
+    chapters | CHAPTERS ; CHAPTERS USERS | a b by chapter
+    of one alone | 1..40 2:80/2=-/c1/c1 ; 1..40 2:80/2=-/c1/c1 | none
     a programme status | 1..40 STATUS ; 1..40 STATUS | a b by programme status
     another one | 1..40 STATUS ; 1..40 OTHER | none
     nothing shown | 1..40 ; 1..40 | none || no numbers | USERS B ; USERS 1..40 | none
@@ -80,10 +82,10 @@ def test_the_first_of_each_group():
     discs = Discs()
     found = [discs.add(marked(text, name), options) for text, name, options in (
         ("1..20 STATUS20", "a b.tbc", ["--strict", "--black=1"]), ("21..40 STATUS20", "-b.tbc", ["--black=1"]),
-        ("B", "no.tbc", []), ("1..40 STATUS", "c.tbc", ["--black=1"]))]
-    assert found == [[], [], [], ["a b.tbc", "-b.tbc"]]
+        ("B", "no.tbc", []), ("1..40 STATUS", "c.tbc", ["--black=1"]), ("1..40 STATUS", "d.tbc", ["--black=1"]))]
+    assert found == [[], [], [], ["a b.tbc", "-b.tbc"], ["a b.tbc"]]
     one, = discs.found()
-    assert one.command() == "ldvbi-side join --black=1 -- 'a b.tbc' -b.tbc c.tbc"
+    assert one.command() == "ldvbi-side join --black=1 -- 'a b.tbc' -b.tbc c.tbc d.tbc"
 
 
 def test_numbers_that_last():

@@ -126,7 +126,8 @@ def test_places(text, wanted):
     ("1..9 -6 12..20", [[1, 9, 0], [12, 20, 0]], [], [[1, 3, 1], [4, 9, 1], [12, 20, 1]], [], None, None),
     ("1..10 11x3 12..20", [[1, 20, 0]], [], [[1, 11, 1], [12, 20, 1]], [], None, None),
     ("NTSC t0..39", [[0, 39, 0]], [[0, 39, "8BA000"]], [[0, 39, 1]], [], None, None),
-    ("L Bx3000 m1x3000 O", [], [], [], [], (0, 1), (1, 1)), ("O 1..9 L", [[1, 9, 0]], [], [[1, 9, 1]], [], None, None)))
+    ("NTSC L Bx3590 m1x3590 O", [], [], [], [], (0, 1), (1, 1)),
+    ("O 1..9 L", [[1, 9, 0]], [], [[1, 9, 1]], [], None, None)))
 def test_marks(text, chapters, statuses, lasting, users, begins, ends):
     one = capture_of(made(text, side), "a")
     plain = plain_marks(one.marks)

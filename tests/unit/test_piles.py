@@ -70,7 +70,8 @@ def test_whose_lines_are_asked(room):
     one alone that has the pictures twice. Another number isn't due, whatever the lines say. Of words of pass 1 one that
     says another number is enough."""
     a, b = each_elsewhere(room, NTSC, 2)
-    blank, clean = capture(room, "blank", lines={5: [0, 0]}), capture(room, "clean")
+    grey = [level.to_bytes(2, "little") * 910 for level in (17000, 18000)]  # they differ, as those of a copy don't
+    blank, clean = capture(room, "blank", lines={5: grey}), capture(room, "clean")
     fields = [[0, *2 * [picture(number) * part]] for number in range(1, 21) for part in (1, 0)]
     lost = capture(room, "lost", fields=fields[:8] + fields[10:])
     wrong = capture(room, "wrong", lines={5: [picture(79999), half_worn(5, NTSC, 7)]})

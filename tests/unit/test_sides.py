@@ -110,6 +110,7 @@ LASTS = """
     0:03:00.02 | NTSC t2..5399!0,1%1800 | lost 0-1 2 number, 10788-10789 2 number | missing .., 0:03:00.02 lost
     0:03 | m0..1x9 | missing 0:02-0:03 lost | lost 18-19 3001 number | orMore 18 || 0:01:30 | m0..1x9 | no lost missing
     100 | 1..90 51..60 | said no: 20 fields lost; 1 jump (back); 10 pictures lost | lost 180-181 20 number
+    90 | 1..50 61..90 -/#55/#55 B | missing 51-60 lost | aside 161, 161
     100 | 1..97 | lost 194-195 6 number || 99 | Lx2 1..97 Ox2 | is_strict | said no: 4 fields lost; 2 pictures lost
     97 | Lx2 1..97 | is_strict | said yes
 """

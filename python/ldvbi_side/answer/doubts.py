@@ -127,8 +127,7 @@ def _times_aside(times, numbers):
         codes, Kind.clv_picture, field, (16,), "%02d.%02d" % divmod(times.parts[field], times.rate),
         beside(field, False))]
     minute_of = {field: number // times.whole for field, number in taken.items()}
-    said = {field: values for field, values in times.minutes.items()
-            if len(values) > 1 or minute_of.get(field) not in values}
+    said = {field: values for field, values in times.minutes.items() if list(values) != [minute_of.get(field)]}
     right = {field: minute_of[field] for field, values in said.items() if minute_of.get(field) in values}
     minutes, conflicts = aside_of(codes, Kind.time, codes.readings(said), right, beside, minute_text)
     # between two pictures a field without a number may belong to either, so that either's minute is right there

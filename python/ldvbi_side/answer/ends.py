@@ -65,8 +65,8 @@ def end_of(answer: Answer) -> Optional[Tuple[int, int]]:
 
 
 def fields_after(answer: Answer, field: int) -> int:
-    """How many fields stand after this one, up to the lead-out."""
-    return min((one.first - 1 for one in answer.lead_out if one.first > field), default=answer.fields) - field
+    """How many fields stand after this one, up to the lead-out; -1 if that begins in it."""
+    return min((one.first - 1 for one in answer.lead_out if one.first >= field), default=answer.fields) - field
 
 
 def unseen_between(numbers: Numbers) -> List[Tuple[int, int]]:

@@ -3,6 +3,7 @@ It counts by the clock of an NTSC disc, if it finds that (rule 9). A gap is left
 here besides: another speed (rule 6), or which field of a picture was read if both have its number."""
 
 import bisect
+import itertools
 from typing import Dict, Iterable, List, NamedTuple, Optional, Set, Tuple, Union
 
 from ldvbi import Gap, GapKind, JudgedSide, Pace as JudgedPace, Reason, State
@@ -36,15 +37,18 @@ class Gaps(NamedTuple):
 
 
 class Between:
-    """Stretches, each given by the field before it and the one after it. None holds another one."""
+    """Stretches, each given by the field before it and the one after it."""
 
     def __init__(self, ends: Iterable[Tuple[int, int]]) -> None:
         both = sorted(ends)
-        self.after, self.before = [after for after, _ in both], [before for _, before in both]
+        self.after = [after for after, _ in both]
+        # of each and those that begin before it the end of that which goes on the longest
+        self.before: List[int] = list(itertools.accumulate((before for _, before in both), max))
 
     def meet(self, after: int, before: int) -> bool:
         """Whether one of them has something of what lies between these two fields."""
-        return bisect.bisect(self.before, after) < bisect.bisect_left(self.after, before)
+        place = bisect.bisect_left(self.after, before) - 1
+        return place >= 0 and after < self.before[place]
 
     def hold(self, after: int, before: int) -> bool:
         """Whether one of them has all that lies between these two fields."""
@@ -133,7 +137,7 @@ class _Known:
     def _are_rows(self, gap):
         """Whether lines 17 and 18 have numbers of their own there, and the one row goes on: then the gap may be no more
         than the place from which on the library believes the other row."""
-        if gap.kind not in (GapKind.lost, GapKind.held) or self.places.numbers.unit.name != "picture":
+        if gap.kind not in (GapKind.lost, GapKind.held):
             return False
         first, last = gap.after + 1, gap.before + 1
         rows = [(number, gap.to) for number in self.shown.get(first, ()) if number != gap.from_]
@@ -226,16 +230,14 @@ def _entry(places, gap, is_on_both):
     if kind == "back" or gap.kind in KINDS:
         fields = abs(off)
     elif is_on_both:
-        fields = _fields_on_both(places.numbers, gap, kind)
+        fields = _fields_on_both(places.numbers, gap)
     return Break(kind, after, before, gap.from_, gap.to, fields)
 
 
-def _fields_on_both(numbers, gap, kind):
+def _fields_on_both(numbers, gap):
     """How many fields are lost, or too many. Both fields of a picture have its number, and the library doesn't ask
     which of the two was read: so it may be one less, if that isn't known here."""
     ends = [one for field, number in ((gap.after + 1, gap.from_), (gap.before + 1, gap.to))
             if numbers.taken.get(field) == number for one in numbers.believed[numbers.places_in(field, field)]]
     off = numbers.off(*ends) if len(ends) == 2 else None
-    if off and (off < 0) == (kind == "lost"):
-        return abs(off)
-    return max(gap.fields - 1, 1)
+    return abs(off) if off else max(gap.fields - 1, 1)

@@ -28,7 +28,7 @@ def missing_of(places: Places, gaps: Gaps, codes: Codes, begin: Optional[Begin],
     unit, breaks, unshown = places.numbers.unit, places.breaks, set(places.unshown)
     firsts = {one.number: one.first for one in reversed(places.showings)}
     lost = [(one.after, one.before) for one in gaps.breaks + gaps.at_speed if one.kind == "lost"]
-    others = [(one.from_ + 1, one.to - 1) for one in gaps.at_speed if one.kind == "lost"]
+    others = [(one.from_, one.to) for one in gaps.at_speed if one.kind == "lost"]
     if begin and begin.fields > 0:
         number, start = ordinal_of(begin.lacks, unit.rate), FIRST[unit.name] - 1
         is_first = number == min(firsts) and firsts[number] == begin.before

@@ -130,8 +130,8 @@ def _places(side):
 
 def aside_in(answer: Answer) -> Set[Tuple[int, int]]:
     """The fields and lines whose word is set aside: it is doubtful or stray, or a stop that isn't sure."""
-    return {one[:2] for one in answer.doubtful}.union(
-        [one[:2] for one in answer.stray], [(one.field, line) for one in answer.unsure_stops for line in one.lines])
+    return {one[:2] for one in answer.doubtful} | {one[:2] for one in answer.stray} | {
+        (one.field, line) for one in answer.unsure_stops for line in one.lines}
 
 
 def _spans(side):
@@ -212,9 +212,7 @@ def _extent(answer):
     rate, each = RATES[answer.system], MINUTE_FIELDS[answer.system][0] if answer.unit == "minute" else 2
     (first, field, _), (last, _, end) = answer.showings[0], answer.showings[-1]
     first, last = ordinal_of(first, rate), ordinal_of(last, rate)
-    begins = ends = None
-    if any(one.last < field for one in answer.lead_in):
-        begins = first - fields_there(answer, field) // each, first
-    if any(one.first > end for one in answer.lead_out):
-        ends = last, last + fields_after(answer, end) // each
-    return begins, ends
+    before, after = fields_there(answer, field), fields_after(answer, end)
+    # fields count from the lead-in on, and up to the lead-out, if there is one
+    return ((first - before // each, first) if before < field - 1 else None,
+            (last, last + after // each) if after < answer.fields - end else None)

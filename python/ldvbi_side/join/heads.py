@@ -18,7 +18,7 @@ def head_of_side(side: Side, path: Optional[str] = None, words: Sequence[str] = 
     the options with which it was read. A file in which a second side begins shows nothing of one disc."""
     answer = side.analysis.answer
     is_of_two = any(reason.why == "joined" for reason in answer.reasons)
-    return said_of(answer, path, words, None if is_of_two else plain_marks(marks_of(side, path or "")))
+    return said_of(answer, path, words, None if is_of_two else plain_marks(marks_of(side, "")))
 
 
 def said_of(answer: Answer, path: Optional[str] = None, words: Sequence[str] = (),

@@ -23,11 +23,11 @@ class Due(NamedTuple):
 
 
 class Line(NamedTuple):
-    """The samples of a line in a stream, its word of pass 1, or 0, and the first and the last column of its
+    """The samples of a line in a stream, whether it has a word of pass 1, and the first and the last column of its
     dropouts."""
     stream: Stream
     samples: bytes
-    word: int
+    is_sure: bool
     erased: List[Tuple[int, int]]
 
 
@@ -47,10 +47,11 @@ def read_together(captures: List[Capture], disputed: Set[Tuple[str, int]]) -> Se
 
 
 def _is_said(number: int, fields: List[Due], unit: Unit) -> bool:
-    """Whether the lines of these fields say this number together. They don't if one of them has a word of pass 1
-    that says something else, or if those of one capture are all that there is."""
+    """Whether the lines of these fields say this number together. They don't if one of them has a word of pass 1,
+    which says something else, or the number would be confirmed there; or if those of one capture are all that there
+    is."""
     lines = [line for one in fields for line in _lines_of(one, _LINES[unit.name])]
-    if any(line.word and not says(line.word, number, unit) for line in lines):
+    if any(line.is_sure for line in lines):
         return False
     pile = _pile_of(lines)
     if len({line.stream for line in pile}) < 2:
@@ -66,7 +67,7 @@ def _lines_of(one: Due, numbers: Tuple[int, ...]) -> Iterator[Line]:
     readings = read_rows(rows, stream.system, stream.black, stream.white)
     for place, (number, reading) in enumerate(zip(LINES, readings)):
         if number in numbers and reading.cause != Cause.blank:
-            yield Line(stream, rows[place * size:(place + 1) * size], reading.word if reading.pass_ == 1 else 0,
+            yield Line(stream, rows[place * size:(place + 1) * size], reading.pass_ == 1,
                        [(each.first, each.last) for each in dropouts if each.line == number])
 
 

@@ -6,13 +6,13 @@ from .captures import Capture, Place
 
 # How a number stands in a capture: no other has it, this one shows it better than any other, or another one shows it as
 # well
-ALONE, BETTER, ALIKE = "alone", "better", "alike"
+ALONE, BETTER, ALIKE = range(3)
 Rank = Tuple[bool, bool, int, int]  # of a place: the least one is shown best
 
 
 class Standing(NamedTuple):
     """How a number stands, and the name of the capture that shows it best."""
-    how: str
+    how: int
     capture: str
 
 

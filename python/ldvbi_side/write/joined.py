@@ -90,13 +90,13 @@ def _lacks(capture: Capture, captures: List[Capture], taken: List[Taken], left_o
     return [Lack(capture.name, *one) for one in stretches_with(lacking, having, capture.unit(), left_out)]
 
 
-def _shown(how: str, standings: Dict[int, Standing], unit: Unit, left_out: Set[int]) -> List[Shown]:
+def _shown(how: int, standings: Dict[int, Standing], unit: Unit, left_out: Set[int]) -> List[Shown]:
     """The numbers that stand so in a capture, with that one's name."""
     return [Shown(name, first, last, count) for first, last, count, name in _standing_so(
         how, standings, lambda number: standings[number].capture, unit, left_out)]
 
 
-def _standing_so(how: str, standings: Dict[int, Standing], said_of: Callable[[int], Any], unit: Unit,
+def _standing_so(how: int, standings: Dict[int, Standing], said_of: Callable[[int], Any], unit: Unit,
                  left_out: Set[int]) -> List[Any]:
     """The numbers that stand so, in stretches of which the same is said."""
     return stretches_with([number for number in sorted(standings) if standings[number].how == how], said_of, unit,
