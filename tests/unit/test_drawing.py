@@ -112,7 +112,7 @@ def test_each_step(unit, steps):
             count // 90000, count // 1500 % 60, count // 25 % 60, count % 25)}[unit]
     for step, after in zip(steps, steps[1:]):
         for greatest, wanted in ((5 * step, step), (5 * step + 1, after)):
-            found = Scale(unit, "PAL", Extent(9, text(0), text(greatest)), 0, 9)
+            found = Scale(unit, "PAL", Extent(9, text(0), text(greatest)))
             assert found.ticks() == list(range(0, greatest + 1, wanted))
             assert [found.text_of(one).removesuffix(".00") for one in found.ticks()] == [
                 str(text(one)).removesuffix(".00") for one in found.ticks()]
@@ -168,8 +168,8 @@ DRAWN = """
       | +line-16 line 16, fields 2401 to 2420: noise in 5 % of these fields
       | +line-16 line 16, fields 2401 to 2420: blank in 95 % of these fields
     MANY 95:4840/192=B 2403=B | #unread 25 | +@unread 2398-2404 244-246
-    MANY 2401=B 2405=B 2409=B
-      | @run 1-2399 121 124 488 244 369; 2403-2403 1 244 369 244 369; 2411-4839 123 244 368 366 248
+    MANY 2403=B 2407=B 2411=B
+      | @run 1-2401 121 124 488 244 369; 2405-2405 1 244 369 244 369; 2413-4839 123 245 368 366 248
     MANY 2401=-/?/#1201 | =MOST_BOXES 6 | +line-17 fields 1 to 2560: change in less than 1 % of these fields
       | @line-17 1-2560 124-252 change 128-132; 1-2560 124-252 word 132-144; 1-2560 124-252 blank 144-156;
       2561-4840 252-366 word 128-142; 2561-4840 252-366 blank 142-156
@@ -257,7 +257,7 @@ def test_how_much_is_drawn():
     for count, wanted in ((1000, 321), (1001, 80)):
         svg, fields = Svg(20, 10, ""), range(961 - count, 961)
         doubts = [ENTRIES["doubtful"]._replace(field=max(field, 1)) for field in fields]
-        curve.draw_doubts(svg, Axis(960), Scale("picture", "PAL", Extent(9, 1, 240), 0, 240),
+        curve.draw_doubts(svg, Axis(960), Scale("picture", "PAL", Extent(9, 1, 240)),
                           EMPTY._replace(doubtful=doubts))
         assert len(svg.parts) == wanted
     heights = bands._heights({"change": 19, "hold": 1})
@@ -307,7 +307,7 @@ def test_runs_in_the_same_pixels_are_one(run, count):
     """By the first field of their first number, and the last one of their last, which have a pixel each, as numbers."""
     svg, drawn = Svg(20, 10, ""), set()
     for one in ([FIRST_PART, LAST_PART], run):
-        curve._draw_run(svg, Axis(960), Scale("picture", "PAL", Extent(9, 1, 240), 0, 240), one, drawn)
+        curve._draw_run(svg, Axis(960), Scale("picture", "PAL", Extent(9, 1, 240)), one, drawn)
     assert len(svg.parts) == count
 
 

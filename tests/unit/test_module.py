@@ -178,8 +178,9 @@ def state():
     # the proved one is known by its version: from then on plain Rust says what it is
     (LOADED, other(ldvbi_version=lambda: 1999), "library 0.1.999 (proved or plain Rust): FILE"),
     (LOADED, other(ldvbi_version=lambda: 2000), "library 0.2.0 (proved): FILE"),
-    (LOADED, other(ldvbi_version=lambda: 12034056, ldvbi_plain_rust=None),
-     "library 12.34.56 (plain Rust, not proved): FILE")))
+    (LOADED, other(ldvbi_version=lambda: 12000000), "library 12.0.0 (proved): FILE"),
+    (LOADED, other(ldvbi_version=lambda: 11999999, ldvbi_plain_rust=None),
+     "library 11.999.999 (plain Rust, not proved): FILE")))
 def test_what_is_loaded(anew, asked, one, wanted):
     anew(one)
     assert (ldvbi.classify(0xF12345).first, ldvbi.field_bytes("PAL")) == (12345, 710510)  # which need no library
