@@ -203,7 +203,7 @@ DRAWN = """
     1..31 1.16=S 3.16=? 5.16=S* 7.16=S^ | +line-16 field 1: word | +line-16 fields 8 to 62: blank
       | +line-16 field 3: noise, change | +line-16 field 5: read only after | +line-16 field 7: recovered
     MANY B | @line-18 1-4840 124-366 blank 162-190; 4841-4841 366-367 blank 162-190
-    NARROW Bx40 | @empty 245 368 no picture number and no time
+    NARROW Bx40 | @empty 245 368 no picture number and no time || NARROW 1 | @axis 12 368 picture number; 245 692 field
 """
 MANY = "NARROW NTSC 1..2420 1:4840/2.18=- 2:4840/2=B"  # 20 fields to a pixel of the narrow drawing
 
@@ -268,6 +268,9 @@ def test_how_much_is_drawn():
                                 (NARROW, 21, "1 5 10 15 20"), (NARROW, 22, "1 10 20")):
         text = drawing_of(made("Bx%d" % count, side), "", form)
         assert re.findall(r'text-anchor="middle">(\d+)<', text) == labels.split(" ")
+    for form, looks in ((BROAD, ("1140", "13")), (NARROW, ("388", "11"))):
+        text = drawing_of(made("B", side), "", form)
+        assert re.search('width="([0-9]+)" .*font-size="([0-9]+)"', text).groups() == looks
     assert [count for count in (86, 87) if "\u2026" in drawing_of(made("B", side), count * "x")] == [87]
 
 

@@ -71,6 +71,7 @@ PLAIN, SMOOTHED, CHANGED = "82CFFF", "82CFFF @170-171L", "82CFFF @170-174L"
     (NTSC, PLAIN, "82CFFF" + PASS_1, "82CFFF", []), (NTSC, SMOOTHED, "82CFFF" + PASS_2, "82CFFF", [170, 171]),
     # the shortest half cells, up to the end of the line and from its beginning
     (NTSC, "L382 FFFFFE/11/47", "FFFFFE" + PASS_1, "FFFFFE", []),
+    (NTSC, "L379 FFFFFE/11/47 @0-0H", "FFFFFE" + PASS_2, "FFFFFE", [0]),
     (NTSC, "FFFFFF/11/48 @0-0H @909-909H", "FFFFFF" + PASS_2, "FFFFFF", [0, 909]),
     (NTSC, CHANGED, "no word: change 170" + HOPELESS, "", [170]),
     (NTSC, "L873 H37", "no word: hold 909" + HOPELESS, "", [909]),
