@@ -161,7 +161,7 @@ DRAWN = """
     NTSC S/S*/- ~/?/! | @line-16 1-1 150-630 word 94-122; 2-2 630-1110 unfinished 94-122
       | @line-17 1-1 150-630 read only after smoothing 128-156; 2-2 630-1110 change 128-156
       | @line-18 1-1 150-630 blank 162-190; 2-2 630-1110 hold 162-190 | @stop 1 M390.0 224l4 6l-4 6l-4 -6z
-    NTSC m59x45 m60x3 | axis time; field
+    NTSC m59x45 m60x3 | axis time; field | run 0:59 to 1:00 in fields 1 to 48
       | @number-label 140 432 0:59; 140 312 1:00 | @run 1-48 4 160 428 1100 308 | doubt
     MANY 2401.16=? | @line-16 1-2400 124-244 blank 94-122; 2401-2420 244-245 noise 94-95;
       2401-2420 244-245 blank 95-122; 2421-4840 245-366 blank 94-122

@@ -12,6 +12,7 @@ import xml.etree.ElementTree as xml
 
 import ldvbi
 import pytest
+from ldvbi_side.draw.colours import RED
 from ldvbi_side.draw.line import Row, line_of, plot_of
 from streams import NTSC, PAL, TOP
 
@@ -43,6 +44,8 @@ class Drawn:
             for name in ("title", "said", "digit", "bit"))
         self.cells, self.marked = sorted(set(self.columns("cell", "x1"))), self.columns("marked", "x")
         self.outside = [part for part in self.parts if self.is_outside(part)]
+        strips = [part for part in self.parts if part.tag.endswith("rect") and part.get("fill") == RED]
+        assert len(strips) == len(self.marked)  # below the samples
 
     def columns(self, name, key):
         return [round(self.first + (float(part.get(key)) - 70) / self.step) for part in self.parts
