@@ -111,7 +111,7 @@ def _no_number(name):
 
 def _parsed(data):
     try:
-        return json.loads(data.decode("utf-8"), parse_constant=_no_number)
+        return json.loads(data.decode(), parse_constant=_no_number)
     except UnicodeDecodeError as error:
         fault = "byte %d is not UTF-8" % (error.start + 1)
     except json.JSONDecodeError as error:

@@ -198,7 +198,7 @@ class Stream(Fields):
         erased = self.dropouts.packed(field, field + 1)
         self._setup.check(write(*self._setup, field + 1, self.rows(field), 3 * self._line, *erased, out))
         length, text = _PACKED_RECORD.unpack(out)
-        return str(text[:length], "ascii")
+        return text[:length].decode()
 
     def _packed_block(self, address: int, first: int, last: int) -> Any:
         """What the library reads of the fields from the first one on to before the last one, which stand there."""

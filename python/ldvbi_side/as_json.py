@@ -35,7 +35,7 @@ def entry(one: Any, **others: Any) -> Members:
 @functools.lru_cache(maxsize=None)
 def _names_of(kind: Any) -> Tuple[str, ...]:
     """What the members of a kind of entry are called: `last_field` is `lastField`, `from_` is `from`."""
-    return tuple(re.sub("_([a-z])", lambda found: found[1].upper(), name.rstrip("_")) for name in kind._fields)
+    return tuple(re.sub("_([a-z])", lambda found: found[1].upper(), name.removesuffix("_")) for name in kind._fields)
 
 
 # ---- Members of other forms

@@ -205,7 +205,7 @@ def bytes_of_document(file: IO[bytes], begin: bytes) -> bytes:
 def legible(text: str) -> str:
     """A text for a message: escaped if it would act on a terminal, and without its middle if it is long."""
     if not text.isprintable():
-        text = "".join(one if one.isprintable() else one.encode("unicode_escape").decode("ascii") for one in text)
+        text = "".join(one if one.isprintable() else one.encode("unicode_escape").decode() for one in text)
     end = MOST_SAID // 3
     return text if len(text) <= MOST_SAID else text[:MOST_SAID - end - 3] + "..." + text[-end:]
 
@@ -214,7 +214,7 @@ def uncontrolled(text: str) -> str:
     """A text with its control characters escaped. It stays as it is otherwise, even if it is no text."""
     if text.isprintable():
         return text
-    return "".join(one.encode("unicode_escape").decode("ascii") if ord(one) < 0x20 or 0x7F <= ord(one) < 0xA0 else one
+    return "".join(one.encode("unicode_escape").decode() if ord(one) < 0x20 or 0x7F <= ord(one) < 0xA0 else one
                    for one in text)
 
 

@@ -150,7 +150,7 @@ database.executescript(re.search(r'^FORM = """(.*?)"""', form, re.M | re.S)[1])
 for words in re.findall(r"\bsqlite3 [\w.]+ ('[^']*'|[^\n`]*)", "".join(documents)):
     print(*database.execute(words[1:-1]).fetchall() if words.startswith("'") else [words])
 END
-does python3 sql.py "$tests/unit/test_into.py" "$top"/*.md "$top"/docs/*.md
+does python3 sql.py "$tests/unit/test_databases.py" "$top"/*.md "$top"/docs/*.md
 check 'what documents ask of a database' \
     [ "$status $(sort -u out | paste -s -d ' ')" = "0 ('NTSC', 16384, 51200) .schema" ]
 

@@ -112,7 +112,7 @@ def test_each_step(unit, steps):
             count // 90000, count // 1500 % 60, count // 25 % 60, count % 25)}[unit]
     for step, after in zip(steps, steps[1:]):
         for greatest, wanted in ((5 * step, step), (5 * step + 1, after)):
-            found = Scale(unit, "PAL", Extent(9, text(0), text(greatest)), 0, 9)
+            found = Scale(unit, "PAL", Extent(9, text(0), text(greatest)))
             assert found.ticks() == list(range(0, greatest + 1, wanted))
             assert [found.text_of(one).removesuffix(".00") for one in found.ticks()] == [
                 str(text(one)).removesuffix(".00") for one in found.ticks()]
@@ -161,15 +161,15 @@ DRAWN = """
     NTSC S/S*/- ~/?/! | @line-16 1-1 150-630 word 94-122; 2-2 630-1110 unfinished 94-122
       | @line-17 1-1 150-630 read only after smoothing 128-156; 2-2 630-1110 change 128-156
       | @line-18 1-1 150-630 blank 162-190; 2-2 630-1110 hold 162-190 | @stop 1 M390.0 224l4 6l-4 6l-4 -6z
-    NTSC m59x20 m60x28 | axis time; field
+    NTSC m59x45 m60x3 | axis time; field | run 0:59 to 1:00 in fields 1 to 48
       | @number-label 140 432 0:59; 140 312 1:00 | @run 1-48 4 160 428 1100 308 | doubt
     MANY 2401.16=? | @line-16 1-2400 124-244 blank 94-122; 2401-2420 244-245 noise 94-95;
       2401-2420 244-245 blank 95-122; 2421-4840 245-366 blank 94-122
       | +line-16 line 16, fields 2401 to 2420: noise in 5 % of these fields
       | +line-16 line 16, fields 2401 to 2420: blank in 95 % of these fields
     MANY 95:4840/192=B 2403=B | #unread 25 | +@unread 2398-2404 244-246
-    MANY 2401=B 2405=B 2409=B
-      | @run 1-2399 121 124 488 244 369; 2403-2403 1 244 369 244 369; 2411-4839 123 244 368 366 248
+    MANY 2403=B 2407=B 2411=B
+      | @run 1-2401 121 124 488 244 369; 2405-2405 1 244 369 244 369; 2413-4839 123 245 368 366 248
     MANY 2401=-/?/#1201 | =MOST_BOXES 6 | +line-17 fields 1 to 2560: change in less than 1 % of these fields
       | @line-17 1-2560 124-252 change 128-132; 1-2560 124-252 word 132-144; 1-2560 124-252 blank 144-156;
       2561-4840 252-366 word 128-142; 2561-4840 252-366 blank 142-156
@@ -203,7 +203,7 @@ DRAWN = """
     1..31 1.16=S 3.16=? 5.16=S* 7.16=S^ | +line-16 field 1: word | +line-16 fields 8 to 62: blank
       | +line-16 field 3: noise, change | +line-16 field 5: read only after | +line-16 field 7: recovered
     MANY B | @line-18 1-4840 124-366 blank 162-190; 4841-4841 366-367 blank 162-190
-    NARROW Bx40 | @empty 245 368 no picture number and no time
+    NARROW Bx40 | @empty 245 368 no picture number and no time || NARROW 1 | @axis 12 368 picture number; 245 692 field
 """
 MANY = "NARROW NTSC 1..2420 1:4840/2.18=- 2:4840/2=B"  # 20 fields to a pixel of the narrow drawing
 
@@ -257,7 +257,7 @@ def test_how_much_is_drawn():
     for count, wanted in ((1000, 321), (1001, 80)):
         svg, fields = Svg(20, 10, ""), range(961 - count, 961)
         doubts = [ENTRIES["doubtful"]._replace(field=max(field, 1)) for field in fields]
-        curve.draw_doubts(svg, Axis(960), Scale("picture", "PAL", Extent(9, 1, 240), 0, 240),
+        curve.draw_doubts(svg, Axis(960), Scale("picture", "PAL", Extent(9, 1, 240)),
                           EMPTY._replace(doubtful=doubts))
         assert len(svg.parts) == wanted
     heights = bands._heights({"change": 19, "hold": 1})
@@ -268,6 +268,9 @@ def test_how_much_is_drawn():
                                 (NARROW, 21, "1 5 10 15 20"), (NARROW, 22, "1 10 20")):
         text = drawing_of(made("Bx%d" % count, side), "", form)
         assert re.findall(r'text-anchor="middle">(\d+)<', text) == labels.split(" ")
+    for form, looks in ((BROAD, ("1140", "13")), (NARROW, ("388", "11"))):
+        text = drawing_of(made("B", side), "", form)
+        assert re.search('width="([0-9]+)" .*font-size="([0-9]+)"', text).groups() == looks
     assert [count for count in (86, 87) if "\u2026" in drawing_of(made("B", side), count * "x")] == [87]
 
 
@@ -307,7 +310,7 @@ def test_runs_in_the_same_pixels_are_one(run, count):
     """By the first field of their first number, and the last one of their last, which have a pixel each, as numbers."""
     svg, drawn = Svg(20, 10, ""), set()
     for one in ([FIRST_PART, LAST_PART], run):
-        curve._draw_run(svg, Axis(960), Scale("picture", "PAL", Extent(9, 1, 240), 0, 240), one, drawn)
+        curve._draw_run(svg, Axis(960), Scale("picture", "PAL", Extent(9, 1, 240)), one, drawn)
     assert len(svg.parts) == count
 
 

@@ -21,7 +21,7 @@ from ldvbi_side.outside import legible, shown
 import pytest
 from room import buffered, in_database
 from streams import pictures
-from test_into import FORM
+from test_databases import FORM
 
 pytestmark = pytest.mark.unrecorded
 
@@ -149,7 +149,7 @@ def without(table, *statements):
     return (*SOUND, "DROP TABLE " + table, *statements)
 
 
-# Databases, each of statements, that are refused whatever is asked; test_metadata and test_into have more
+# Databases, each of statements, that are refused whatever is asked; test_metadata and test_databases have more
 REFUSED = (
     without("drop_outs", "CREATE VIEW drop_outs AS SELECT * FROM other",
             "CREATE VIEW other AS SELECT * FROM drop_outs"),

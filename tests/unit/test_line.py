@@ -12,6 +12,7 @@ import xml.etree.ElementTree as xml
 
 import ldvbi
 import pytest
+from ldvbi_side.draw.colours import RED
 from ldvbi_side.draw.line import Row, line_of, plot_of
 from streams import NTSC, PAL, TOP
 
@@ -43,6 +44,8 @@ class Drawn:
             for name in ("title", "said", "digit", "bit"))
         self.cells, self.marked = sorted(set(self.columns("cell", "x1"))), self.columns("marked", "x")
         self.outside = [part for part in self.parts if self.is_outside(part)]
+        strips = [part for part in self.parts if part.tag.endswith("rect") and part.get("fill") == RED]
+        assert len(strips) == len(self.marked)  # below the samples
 
     def columns(self, name, key):
         return [round(self.first + (float(part.get(key)) - 70) / self.step) for part in self.parts
@@ -71,7 +74,8 @@ PLAIN, SMOOTHED, CHANGED = "82CFFF", "82CFFF @170-171L", "82CFFF @170-174L"
     (NTSC, PLAIN, "82CFFF" + PASS_1, "82CFFF", []), (NTSC, SMOOTHED, "82CFFF" + PASS_2, "82CFFF", [170, 171]),
     # the shortest half cells, up to the end of the line and from its beginning
     (NTSC, "L382 FFFFFE/11/47", "FFFFFE" + PASS_1, "FFFFFE", []),
-    (NTSC, "FFFFFF/11/48 @0-0H", "FFFFFF" + PASS_2, "FFFFFF", [0]),
+    (NTSC, "L379 FFFFFE/11/47 @0-0H", "FFFFFE" + PASS_2, "FFFFFE", [0]),
+    (NTSC, "FFFFFF/11/48 @0-0H @909-909H", "FFFFFF" + PASS_2, "FFFFFF", [0, 909]),
     (NTSC, CHANGED, "no word: change 170" + HOPELESS, "", [170]),
     (NTSC, "L873 H37", "no word: hold 909" + HOPELESS, "", [909]),
     (NTSC, "-", "no word: blank (no sample is high)", "", []),
@@ -92,6 +96,13 @@ def test_the_row_of_a_word(text, row, said, count):
     counts seven tenths."""
     drawn = Drawn(described(text), row=row)
     assert (drawn.said, drawn.digits, len(drawn.marked), drawn.outside) == (said, "%06X" % row.word, count, [])
+
+
+@pytest.mark.parametrize("white, distance", ((110, "29.4"), (113, "32.3")))
+def test_how_far_away_a_row_is(white, distance):
+    """Each of 42 columns counts seven tenths of white - black, rounded up: 7 of 10, and 10 of 13."""
+    setup = "NTSC", 100, white
+    assert Drawn(described(PLAIN, setup), setup, Row(0x82CFFF, 151)).said.endswith(" is %s columns away" % distance)
 
 
 @pytest.mark.parametrize("text, columns, marked", [

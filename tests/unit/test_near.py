@@ -126,7 +126,8 @@ def test_erased_columns_cost_nothing(room):
     cell more in 14. Of cell 5 half of the 28 columns are turned, 297 among them: another word is as near. A signal goes
     on for one more cell after the word: this row is nearer by 14 columns, without 9 of them by 5, which count 3.5, and
     without 8 by 4.2. Up to 4 the nearest word counts: so it does if the sixth one counts 0.5, as one does that is 0.2
-    short of white, but not with a step more. A step by which another word is nearer counts, if white - black is even."""
+    short of white, but not with a step more. A step by which another word is nearer counts, if white - black is even.
+    Two lines alike count twice."""
     write_stream(room.path, NTSC, [[0, worn(NTSC), worn(NTSC)], [0, worn(NTSC), 0]])
     with ldvbi.Stream(room.path, *NTSC, True, [(0, 17, 411, 414), (0, 17, 413, 417), (0, 18, 838, 2000)]) as side:
         assert [measured(side, *place) for place in ((1, 17), (1, 18), (2, 17))] == [
@@ -142,12 +143,13 @@ def test_erased_columns_cost_nothing(room):
     for setup, line, rows in (
             (NTSC, worn_line(WORD, NTSC, 5, 14), half), (odd, worn_line(WORD, odd, 5, 14), half),
             (even, with_sample(worn_line(WORD, even, 5, 14), 297, 16385), [((500, 500), WORD)]),
+            (odd, with_sample(worn_line(WORD, odd, 5, 14), 297, 16385), [((500, 500), None), ((1000, 1000), WORD)]),
             (NTSC, longer, goes_on), (NTSC, with_sample(longer, 845, 51200 - 6968), [((837, 844), WORD)]),
             (NTSC, with_sample(longer, 845, 51200 - 6967), [((837, 844), None)])):
-        write_stream(room.path, setup, [[0, line, 0]])
+        write_stream(room.path, setup, [[0, line, line]])
         for columns, nearest in rows:
-            with ldvbi.Stream(room.path, *setup, True, [(0, 17, *columns)]) as side:
-                assert nearest_word_in(side, 1, 17, 17) == nearest
+            with ldvbi.Stream(room.path, *setup, True, [(0, 17, *columns), (0, 18, *columns)]) as side:
+                assert [nearest_word_in(side, 1, 17, last) for last in (17, 18)] == [nearest] * 2
 
 
 # Members `dropOuts` of a field, and its dropouts: lists of one length, of which those of lines 16, 17 and 18 have whole

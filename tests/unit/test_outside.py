@@ -3,6 +3,7 @@ that appear when they are whole, and outputs that would be written in the place 
 
 import contextlib
 import functools
+import importlib
 import io
 import itertools
 import json
@@ -18,6 +19,7 @@ import weakref
 from unittest import mock
 
 import discs
+import ldvbi_side
 from ldvbi_side import outside
 from ldvbi_side.__main__ import main
 from ldvbi_side.command import outputs
@@ -99,6 +101,22 @@ def signals():
     outside.heeded()
     for number in NUMBERS:
         signal.signal(number, before[number])
+
+
+@pytest.mark.parametrize("words, by, ends", (
+    ("/bin/ldvbi-side x", "python /bin/ldvbi-side x", True), ("-m x", "python -m ldvbi_side x", True),
+    ("-m ldvbi_side x", "python -m other ldvbi_side x", False), ("x ldvbi_side", "python x ldvbi_side", False)))
+def test_while_the_command_is_loaded(signals, words, by, ends):
+    """Ctrl-C ends it, by the words that Python began with, and is left as it was in another program. Then all do."""
+    signal.signal(signal.SIGINT, signal.default_int_handler)
+    with mock.patch.multiple(sys, create=True, argv=words.split(), orig_argv=by.split()), mock.patch("os._exit") as end:
+        importlib.reload(ldvbi_side)
+        with contextlib.nullcontext() if ends else pytest.raises(KeyboardInterrupt):
+            signal.raise_signal(signal.SIGINT)
+        outside.end_at_once()
+        for number in NUMBERS[:3]:
+            signal.raise_signal(number)
+    assert end.mock_calls == [mock.call(status) for status in (130, 130, 143, 129)[not ends:]]
 
 
 def dropped(number):

@@ -224,6 +224,8 @@ def test_a_whole_page_of_captures():
     assert ("<details id=\"disagreements\"><summary>disagreements of two captures: 2 [ why | capture | first | last "
             "| field | lastField ] detour | a | 151 | 170 | 101 | 140 ; detour | b | 51 | 70 | 101 | 140") in text
     assert "<a " not in text
+    found = join([capture_of(made(text, side), name) for name, text in zip("abc", ("1..24 -23:24", "1..24", "1..24"))])
+    assert "<title>12: not in a, but in b and c</title>" in bars_of(found)
 
 
 class Page:
@@ -289,7 +291,7 @@ def test_what_is_said():
     for text, wanted in (
             ("1..30", "lost, unread, repeated, doubtful"), ("1..30 -21:22", "unread, repeated, doubtful"), ("Bx9", ""),
             ("1..30 21=?/?/? 22=?/?/?", "lost, repeated, doubtful"), ("1..9 ?x4 14..30", "repeated, doubtful"),
-            ("PAL/1 1..40 -1 -39", "unread, repeated, doubtful"),
+            ("1..40 -40", "unread, repeated, doubtful"),
             ("1..20 16..30", "lost, unread, doubtful"), ("1..30 9.18=#79999", "lost, unread, repeated")):
         assert re.findall("<p>nothing (.*)</p>", page(text)) == ([wanted] if wanted else []), text
     late = "<li>12 fields lost</li><li>6 pictures lost</li><li>begins at 7, ends at 9</li>"
@@ -349,12 +351,12 @@ def test_long_lists():
 
 @pytest.mark.parametrize("text, count, size, heads", (
     ("1", 0, 1, []), ("?/-/-", 1, 1, ["drawn"]), ("?/?/?x66 ?", 200, 1, ["drawn"]),
-    ("?/?/?x67", 200, 1, ["the first 200 of 201, drawn"]), ("?/?/?x67", 3, 600000, ["the first 3 of 201, drawn"]),
+    ("?/?/?x67", 200, 1, ["the first 200 of 201, drawn"]), ("?/?/?x67", 3, 400000, ["the first 3 of 201, drawn"]),
     ("?/?/?x67", 2, 1500000 - 82, ["the first 2 of 201, drawn"]),
     ("?/?/?x67", 1, 1500001 - 82, ["the first 1 of 201, drawn"])))
 def test_bad_lines_are_drawn_up_to_a_count_and_a_size(text, count, size, heads):
-    """The first one has a head and an end of 82 characters."""
-    plot = mock.Mock(return_value="x" * size)
+    """The first one has a head and an end of 82 characters. Each other drawing is twice as long."""
+    plot = mock.Mock(side_effect=lambda _: "x" * size * min(plot.call_count, 2))
     assert re.findall("<h2>Bad lines, (.*)</h2>", page(text, plot)) == heads
     bad = made(text, side).analysis.answer.bad_lines
     assert plot.call_args_list == [mock.call(one) for one in bad[:count]]

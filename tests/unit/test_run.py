@@ -180,13 +180,15 @@ ENDLESS = ("CREATE TABLE capture (system, black_16b_ire, white_16b_ire)",
            "INSERT INTO capture VALUES ('NTSC', 16384, 51200)",
            "CREATE VIEW drop_outs AS WITH RECURSIVE n(i) AS (SELECT 1 UNION ALL SELECT i + 1 FROM n) "
            "SELECT i AS field_id, 16 AS field_line, 1 AS startx, 2 AS endx FROM n WHERE i < 0")
-# Runs the command with a signal that comes while Python ends, and perhaps with one that it stops at
+# Runs the command with a signal that comes while Python ends, and perhaps with one before, after which it ignores none
 ENDING = """import atexit, os, signal, sys
 import ldvbi_side.command.main
+from ldvbi_side import outside
 from ldvbi_side.__main__ import main
 if %d:
     ldvbi_side.command.main.main = lambda _: (signal.raise_signal(signal.SIGINT), sum(range(10)))
-atexit.register(os.kill, os.getpid(), %d)
+    outside._PATIENCE = -1
+atexit.register(lambda: (os.kill(os.getpid(), %d), os.write(2, b"ignored")))
 sys.argv[1:] = ["side.vbi.json", "--seek", "3"]
 sys.exit(main())"""
 # Runs with standard streams that are closed. Where nothing is printed nothing is wrong.
@@ -225,7 +227,7 @@ def test_a_full_device_takes_no_messages(drawn, words, more):
 
 @pytest.mark.parametrize("number, is_stopped, wanted", (
     (signal.SIGINT, False, (-signal.SIGINT, "field 4, frame 2\n", "")),
-    (signal.SIGTERM, True, (130, "", "")), (signal.SIGHUP, False, (-signal.SIGHUP, "field 4, frame 2\n", ""))))
+    (signal.SIGTERM, True, (130, "", "ignored")), (signal.SIGHUP, False, (-signal.SIGHUP, "field 4, frame 2\n", ""))))
 def test_while_python_ends(drawn, number, is_stopped, wanted):
     """All has been written then, or the command was stopped, and the status is that of the first signal."""
     assert drawn.run_words("-c", ENDING % (is_stopped, number), command=[sys.executable]) == wanted

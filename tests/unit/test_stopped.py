@@ -26,7 +26,7 @@ from ldvbi_side.command.scan import scan
 import pytest
 from room import buffered, children, command_of, DEADLINE, in_database
 from streams import line_with, NTSC, worn_line
-from test_into import FORM
+from test_databases import FORM
 
 RUNS, SEED = int(os.environ.get("STOPPED_RUNS", "12")), 20
 COMMANDS = (

@@ -30,7 +30,7 @@ class _Numbers:
     """The numbers along the bars."""
 
     def __init__(self, joined: Joined, form: Form) -> None:
-        self.scale = Scale(str(joined.unit), joined.system, joined.numbers, 0, 0)
+        self.scale = Scale(str(joined.unit), joined.system, joined.numbers)
         self.axis = Axis(self.scale.greatest - self.scale.least + 1, form)
 
     def place(self, number: Any) -> int:

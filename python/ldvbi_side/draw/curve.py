@@ -14,15 +14,15 @@ from .svg import Svg
 RATES = {"NTSC": 30, "PAL": 25}  # numbers of a second
 AXES = {"picture": "picture number", "time": "time", "minute": "time"}
 MOST_RINGS = 1000  # from here on one stands for those around it
+TOP, HEIGHT = 248, 240  # of the curve, in pixels
 
 
 class Scale:
     """The numbers of a side as counts (pictures or minutes), and their heights on the curve. Only the believed numbers
     make the scale."""
 
-    def __init__(self, unit: str, system: str, numbers: Extent, top: int, height: int) -> None:
+    def __init__(self, unit: str, system: str, numbers: Extent) -> None:
         self.unit, self.rate = unit, RATES[system]
-        self.top, self.height = top, height
         self.least, self.greatest = self.count_of(numbers.least), self.count_of(numbers.greatest)
 
     def count_of(self, number: Any) -> int:
@@ -47,7 +47,7 @@ class Scale:
         return text + (".%02d" % picture if picture else "")
 
     def y(self, count: int) -> float:
-        return self.top + self.height * (self.greatest - count + 0.5) / (self.greatest - self.least + 1)
+        return TOP + HEIGHT * (self.greatest - count + 0.5) / (self.greatest - self.least + 1)
 
     def ticks(self) -> List[int]:
         """The counts that have a label, about five."""
@@ -65,9 +65,9 @@ class Scale:
             return None
         count = self.count_of(doubt.number)
         if count > self.greatest:
-            return self.top, 1
+            return TOP, 1
         if count < self.least:
-            return self.top + self.height, -1
+            return TOP + HEIGHT, -1
         return self.y(count), 0
 
 
@@ -77,7 +77,7 @@ def draw_numbers_axis(svg: Svg, axis: Axis, scale: Scale) -> None:
         y = scale.y(count)
         svg.line(axis.left, y, axis.left + axis.width, y, GRID)
         svg.text(axis.left - 10, y + 4, scale.text_of(count), text_anchor="end", class_="number-label")
-    x, middle = axis.form.upright, scale.top + scale.height / 2
+    x, middle = axis.form.upright, TOP + HEIGHT / 2
     svg.text(x, middle, AXES[scale.unit], text_anchor="middle", transform="rotate(-90 %d %d)" % (x, middle),
              class_="axis")
 

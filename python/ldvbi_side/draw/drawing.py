@@ -12,14 +12,13 @@ from .colours import AXIS, BROWN, INDIGO, LANE, NAVY, PAPER, RED, TEAL
 from .marks import LANES, Mark, counts_of, fields_text, lanes_of, marks_of, other_file
 from .svg import Svg, shortened, text_width
 
-# The drawing's own measures, in pixels; those of its axis are in axis.py
+# The drawing's own measures, in pixels; axis.py and curve.py have more
 TITLE_Y, SYSTEM_Y, LEGEND_Y = 28, 46, 66
 LEGEND_RIGHT = 850  # which a page shows that is 900 wide
 NARROW_LEGEND_Y = 14  # of a drawing without its head, which is its page's
 BANDS_TOP = 94
 DISC_TOP, DISC_HEIGHT = 200, 18
 STOPS_TOP, STOPS_HEIGHT = 224, 12
-CURVE_TOP, CURVE_HEIGHT = 248, 240
 LANES_TOP, LANE_STEP, LANE_HEIGHT = 502, 18, 12
 MOST_UPRIGHTS = 60  # of a lane, or of chapters: with more of them the curve couldn't be seen
 BREAKING = ("lost", "undecided", "lost fields", "jumps")  # lanes whose marks are where the curve breaks
@@ -42,7 +41,7 @@ def drawing_of(side: Side, title: str, form: Form = BROAD, class_: Optional[str]
     _draw_disc(svg, axis, answer)
     _draw_stops(svg, axis, answer)
     if answer.unit and answer.numbers.count_:
-        scale = curve.Scale(answer.unit, answer.system, answer.numbers, CURVE_TOP, CURVE_HEIGHT)
+        scale = curve.Scale(answer.unit, answer.system, answer.numbers)
         curve.draw_numbers_axis(svg, axis, scale)
         _draw_chapter_lines(svg, axis, answer)
         _draw_lanes(svg, axis, answer)
@@ -85,7 +84,7 @@ def _draw_no_numbers(svg, axis, answer):
         asked = "is it this system, and this file's metadata?" if other_file(answer) else "are black and white right?"
         texts.append("lines 17 and 18 have %d words, %d are bad, %d blank: %s" % (
             levels.words, levels.bad, levels.blank, asked))
-    y = CURVE_TOP + CURVE_HEIGHT / 2
+    y = curve.TOP + curve.HEIGHT / 2
     for place, text in enumerate(texts[:1] if axis.form is NARROW else texts):
         svg.text(axis.left + axis.width / 2, y + 24 * place, text, text_anchor="middle", class_="empty")
 
@@ -132,7 +131,7 @@ def _draw_chapter_lines(svg, axis, answer):
     """An upright at each chapter's begin, below the strip that names it, if these are few."""
     pixels = sorted({axis.pixel(one.field) for one in answer.chapters})
     for x in pixels if len(pixels) <= MOST_UPRIGHTS else []:
-        svg.line(x, CURVE_TOP, x, CURVE_TOP + CURVE_HEIGHT, AXIS, class_="chapter-line", stroke_dasharray="2 4")
+        svg.line(x, curve.TOP, x, curve.TOP + curve.HEIGHT, AXIS, class_="chapter-line", stroke_dasharray="2 4")
 
 
 def _draw_lanes(svg, axis, answer):
@@ -150,7 +149,7 @@ def _draw_lanes(svg, axis, answer):
         for begin, end, (first, last, text) in joined:
             fields = "%d-%d" % (first, last)
             if has_uprights:
-                svg.box(begin, CURVE_TOP, end - begin, CURVE_HEIGHT, colour, text, opacity=0.2, class_="upright",
+                svg.box(begin, curve.TOP, end - begin, curve.HEIGHT, colour, text, opacity=0.2, class_="upright",
                         data_fields=fields)
             svg.box(begin, y, end - begin, LANE_HEIGHT, colour, text, class_=lane.replace(" ", "-"), data_fields=fields)
 

@@ -57,4 +57,4 @@ def finder_of(readings: PackedFields, begin: int) -> str:
     planes = b"".join(readings.data[_LINE * line + place::PACKED_FIELD.size] for line in range(3) for place in _PLACES)
     return ('<p id="find" hidden="hidden" data-begin="%d" data-words="%s"><label>field <input type="number" min="1" '
             'max="%d" required="required"/></label> <output></output></p>' % (
-                begin, base64.b64encode(zlib.compress(planes, 9)).decode("ascii"), len(readings)))
+                begin, base64.b64encode(zlib.compress(planes, 9)).decode(), len(readings)))

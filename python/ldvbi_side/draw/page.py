@@ -81,8 +81,8 @@ def _facts(answer, summary):
             rates = answer.lines[LINES[0]]
             text = "bears no code on this disc: %d words, %d fields with noise, %d blank" % (
                 rates.words(), rates.bad(), rates.blank)
-        names = [name, *_SECOND.split(text)[1::2]]
-        yield from ((name, text) for name, text in zip(names, _SECOND.split(text)[::2]) if text != "none")
+        first, *second = _SECOND.split(text)
+        yield from (one for one in ((name, first), second) if one and one[1] != "none")
 
 
 def _head(title, said):

@@ -23,7 +23,7 @@ _POLICY = "default-src 'none'; style-src 'unsafe-inline'; base-uri 'none'; form-
 def policy(script: str = "") -> str:
     """The element of a page that has a browser refuse all but what the page is known to have: styles, and this script
     if there is one."""
-    digest = base64.b64encode(hashlib.sha256(script.encode()).digest()).decode("ascii")
+    digest = base64.b64encode(hashlib.sha256(script.encode()).digest()).decode()
     allowed = "; script-src 'sha256-%s'" % digest if script else ""
     return '<meta http-equiv="Content-Security-Policy" content="%s%s">\n' % (_POLICY, allowed)
 
@@ -68,7 +68,7 @@ def _attributes(values):
     for name, value in values.items():
         if value is not None:
             value = ("%.1f" % value).replace(".0", "") if isinstance(value, float) else str(value)
-            texts.append(" %s=%s" % (name.rstrip("_").replace("_", "-"), saxutils.quoteattr(value)))
+            texts.append(" %s=%s" % (name.removesuffix("_").replace("_", "-"), saxutils.quoteattr(value)))
     return "".join(texts)
 
 

@@ -102,6 +102,7 @@ def value_place(text: str, begin: int, end: int, name: str) -> Tuple[int, int]:
         if json.loads(member[1]) == name:
             found.append((member.end(), value_end))
         member = _NEXT_NAME.match(text, value_end)
-    if len(found) > 1:
+    place, *others = found
+    if others:
         raise ValueError("it has more than one %s" % name)
-    return found[0]
+    return place
