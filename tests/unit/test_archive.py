@@ -114,8 +114,8 @@ def test_options_of_single_sides(drawn):
              ["can't tell", "yes", "yes"]),
             ("side,last,white\nopen.tbc,30,\na b.tbc,31,\ndark.tbc,,30000\n", ["no", "yes", "yes"])):
         drawn.write("table.csv", table)
-        text = drawn.scan(*words, "--sides", "table.csv")[1]
-        assert [row["whole"] for row in csv.DictReader(text.splitlines())] == wanted, table
+        _, text, said = drawn.scan(*words, "--sides", "table.csv")
+        assert ([row["whole"] for row in csv.DictReader(text.splitlines())], said) == (wanted, ""), table
 
 
 # Tables that are refused, and why
@@ -146,9 +146,10 @@ def test_bad_tables(room):
     room.write("sides.csv", 'side\n"%s"\n' % ("x" * 200000))
     room.refused("sides.csv: field larger than field limit (131072)", "scan side.tbc --sides sides.csv")
     room.refused("absent: No such file or directory", "scan side.tbc --sides absent")
-    room.write("sides.csv", "side,white\nno.tbc,1\n")
-    assert room.scan("--csv side.tbc --sides sides.csv")[1:] == (
-        room.scan("--csv side.tbc")[1], "ldvbi-side: sides.csv: 1 of its sides isn't in this scan\n")
+    for others, said in (("no.tbc,1\n", "1 of its sides isn't"), ("a.tbc,1\nb.tbc,1\n", "2 of its sides aren't")):
+        room.write("sides.csv", "side,white\n" + others)
+        assert room.scan("--csv side.tbc --sides sides.csv")[1:] == (
+            room.scan("--csv side.tbc")[1], "ldvbi-side: sides.csv: %s in this scan\n" % said)
     for words in ("--sides ''", "--write ''", "--map ''", "--chapters ''"):
         assert room.scan("side.tbc " + words)[0] == 2
 

@@ -36,7 +36,7 @@ NAME = os.fsdecode(b"\x1b[31m\n\xff\x7f\xc2\x9f") + "\ufffe\uffff\U0001ffff ü\u
 @contextlib.contextmanager
 def whole_one(path):
     """One of several paths."""
-    with whole_files([path]) as parts:
+    with whole_files([path], ["-wal"]) as parts:
         yield parts[0]
 
 
@@ -280,6 +280,16 @@ def test_each_is_written(room, name):
         assert room.names() == [name]
 
 
+@pytest.mark.parametrize("write", (*WRITERS, whole_one))
+def test_a_sudden_end(room, write):
+    """Nothing is left of what isn't complete then, nor of what is beside it."""
+    with pytest.raises(FileNotFoundError), write(room.path) as part:
+        for end in ("", "-wal") * (write is whole_one):
+            room.write(part + end, "new")
+        outputs._drop_own()
+        assert room.names() == []
+
+
 def test_what_processes_left_that_are_gone(room):
     """Those of this machine alone, and nothing that only looks so; a process may be somebody else's."""
     part = os.path.basename(outputs._part_by("page.html", os.getpid()))
@@ -290,7 +300,7 @@ def test_what_processes_left_that_are_gone(room):
     os.mkdir(room.named(left.replace("page", "base")))
     for name in (*kept, left, left.replace("page", "base") + "/part"):
         room.write(name, "")
-    with mock.patch("os.kill", side_effect=PermissionError):
+    with mock.patch("os.getpgid", side_effect=PermissionError):
         outputs.drop_parts(room.folder)
         assert left in room.names()
     outputs.drop_parts(room.folder)

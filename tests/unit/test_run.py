@@ -76,6 +76,7 @@ def test_metadata_is_taken(drawn):
     known = json.loads(drawn.run_command("cut.tbc --meta count.json --json")[1])
     assert (known["metadataFields"], known["frameBegin"]) == (11, 1)
     assert drawn.printed("side.tbc --white 51200 --document") == drawn.document
+    assert drawn.printed("side.tbc LEVELS --document --recovered")[:12] == b'{"version":3'
     os.rename(drawn.named("side.tbc.json"), drawn.named("side.tbc.db"))
     assert drawn.printed("side.tbc --document") == drawn.document
 

@@ -21,7 +21,7 @@ from ldvbi_side.command import processes
 from ldvbi_side.command.folders import Found, sides_in
 from ldvbi_side.command.outputs import _part_by
 from ldvbi_side.command.processes import Ended, SideBySide
-from ldvbi_side.command.progress import Progress, SidesProgress
+from ldvbi_side.command.progress import PAUSE, Progress, SidesProgress
 from ldvbi_side.command.scan import scan
 import pytest
 from room import buffered, children, command_of, DEADLINE, in_database
@@ -299,7 +299,10 @@ def run_over(clock, fields, count, step, seconds, is_wanted=True, errors=Termina
 def test_whole_texts(clock):
     long = shown("0 of 200 fields, 0 %", "64 of 200 fields, 32 %, 1:04 left", "128 of 200 fields, 64 %, 0:34 left",
                  "192 of 200 fields, 96 %, 0:04 left", "200 of 200 fields, 100 %", "")
+    each = shown("0 of 3 fields, 0 %", "1 of 3 fields, 33 %, 0:00 left", "2 of 3 fields, 66 %, 0:00 left",
+                 "3 of 3 fields, 100 %", "")
     for run, wanted in (((200, 4, 64, 30.0), long), ((0, 0, 64, 1.0), shown("0 of 0 fields, 100 %", "")),
+                        ((3, 3, 1, PAUSE), each),
                         ((10, 10, 1, 1.0, True, io.StringIO), ""), ((10, 10, 1, 1.0, False), "")):
         assert run_over(clock, *run) == wanted
     assert shown("1 of 1000 fields, 0 %, 166:30 left") in run_over(clock, 1000, 1000, 1, 10.0)

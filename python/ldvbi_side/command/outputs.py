@@ -206,7 +206,7 @@ before_sudden_end(_drop_own)
 
 def _is_there(process):
     try:
-        os.kill(process, 0)
+        os.getpgid(process)
     except ProcessLookupError:
         return False
     except OSError:

@@ -27,7 +27,7 @@ from .faults import naming, no_metadata
 from .outputs import refuse_inputs, whole_files
 from .parser import Parser, add_settings, settings_in
 from .progress import Progress
-from .reading import loaded, options_of, source_of
+from .reading import loaded, options_of, settings_given, source_of
 from .statuses import OF_SIDE, statuses_text
 from .tables import print_rows
 
@@ -44,7 +44,7 @@ class _Opened(NamedTuple):
     """A capture: for the plan, and for copying."""
     source: Source
     input: Input
-    levels: Tuple[int, int]
+    black: int
 
 
 def parser_of_write(program: str) -> argparse.ArgumentParser:
@@ -118,7 +118,7 @@ def write_captures(options: argparse.Namespace, settings: Sequence[argparse.Name
         with naming(options.out):
             _write(dict(zip(targets, parts)), made, opened, options)
         refuse_changed(inputs)
-        again, answer = _read_again(dict(zip(targets, parts)), opened[0], options)
+        again, answer = _read_again(dict(zip(targets, parts)), options)
     return _outcome(made, answer, differences(made, again), options.sides)
 
 
@@ -162,10 +162,9 @@ def _opened(path: str, settings: argparse.Namespace, has_recovered: bool) -> _Op
         if len(source) != len(told):
             raise ValueError("%s has %d whole fields, and %s has %d" % (path, len(source), metadata.path, len(told)))
         side = loaded(source, metadata, given)
-        side.may_end = True
         capture = capture_of(side, path)
         return _Opened(Source(capture._replace(samples=None), told.facts(metadata)),
-                       input_of(path, metadata, told, side, states, has_recovered), (source.black, source.white))
+                       input_of(path, metadata, told, side, states, has_recovered), source.black)
 
 
 def _refuse_document(path):
@@ -219,7 +218,7 @@ def _write(parts: Dict[str, str], made: Plan, opened: List[_Opened], options: ar
     inputs, sources = [one.input for one in opened], [one.source for one in opened]
     sizes = {}
     with open(parts[".tbc"], "xb") as new, Progress(made.fields) as progress:
-        for fields in copy_samples(new, made, inputs, opened[0].levels[0]):
+        for fields in copy_samples(new, made, inputs, opened[0].black):
             progress.reached(fields)
     for end in ends_of_sound(inputs):
         with open(parts[end], "xb") as new:
@@ -234,10 +233,10 @@ def _write(parts: Dict[str, str], made: Plan, opened: List[_Opened], options: ar
         print_rows(COLUMNS, rows_of(made, options.sides), table)
 
 
-def _read_again(parts: Dict[str, str], first: _Opened, options: argparse.Namespace) -> Tuple[Capture, Answer]:
+def _read_again(parts: Dict[str, str], options: argparse.Namespace) -> Tuple[Capture, Answer]:
     """The output as a capture, and the judge's answer for it."""
     metadata = read_metadata(parts.get(".json") or parts[".db"])
-    settings = settings_of(metadata, options.system, *first.levels)
+    settings = settings_of(metadata, *settings_given(options))
     with stream_of_tbc(parts[".tbc"], settings, metadata, not options.no_recover) as stream:
         with Progress(len(stream)) as progress:
             side = side_of_stream(stream, progress.over)
