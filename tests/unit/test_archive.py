@@ -12,7 +12,7 @@ from discs import LEAD_IN, LEAD_OUT, pictures
 from ldvbi_side.command.main import scanned
 from ldvbi_side.command.scan import scan
 import pytest
-from room import DEADLINE, IN_PLACE
+from room import DEADLINE, IN_PLACE, SIZE
 from test_scan import listed
 
 
@@ -39,26 +39,29 @@ def inside(one):
     return list(range(6, len(one.words) - 6))
 
 
-def test_captures_of_one_disc_are_written(archive):
-    """As the command write does it; the status is that of the file, and of the other disc."""
+def test_captures_of_one_disc_are_written(archive, monkeypatch):
+    """As the command write does it, by the first one's options; the status is that of the file, and of the other
+    disc."""
+    monkeypatch.setattr(os, "statvfs", lambda _: os.statvfs_result([4096, 4096, 0, 0, 1000000] + [0] * 5))
     status, text, said = archive.run_words("scan -j1 --csv sides --write out")
     assert [row.split(",")[1] for row in text.splitlines()[1:]] == ["no", "no", "yes"]
-    first, second, *lines = said.replace("ldvbi-side: ", "").splitlines()
-    assert first.startswith("out: ") and first.endswith(" MB are free, and about 27 MB are needed for 1 side")
-    assert second.startswith("out/a.tbc: ") and second.endswith(" MB are free, and 24 MB are needed")
-    assert lines == ["out/a.tbc: " + line for line in (
-        "whole: yes", "written: 48 fields, 2 stretches, 1 change", "sides/a.tbc: 24 fields, 12 pictures",
-        "sides/b.tbc: 24 fields, 12 pictures")]
+    assert said.replace("ldvbi-side: ", "").splitlines() == [
+        "out: 4096 MB are free, and about 27 MB are needed for 1 side", *("out/a.tbc: " + line for line in (
+            "4096 MB are free, and 24 MB are needed", "whole: yes", "written: 48 fields, 2 stretches, 1 change",
+            "sides/a.tbc: 24 fields, 12 pictures", "sides/b.tbc: 24 fields, 12 pictures"))]
     assert (status, places_in(archive.named("out/a.tbc"), ONE)) == (0, inside(ONE))
     written = {name: archive.read("out/" + name) for name in archive.names("out")}
     assert archive.run_words("write out/again.tbc sides/a.tbc sides/b.tbc")[0] == 0
     assert written == {name: archive.read("out/" + name.replace("a.", "again.", 1)) for name in written}
-    assert archive.run_words("scan -j1 --csv sides --write out")[0] == 0  # over the older file
+    archive.write("table.csv", "side,last\nsides/a.tbc,26\n")
+    for more, status, whole in (("", 0, "yes"), (" --sides table.csv", 1, "no: 4 fields lost; 2 pictures lost")):
+        found, _, said = archive.run_words("scan -j1 --csv sides --write out" + more)  # over the older file
+        assert (found, said.splitlines()[2]) == (status, "ldvbi-side: out/a.tbc: whole: " + whole)
     os.unlink(archive.named("sides/b.efm"))
     assert archive.run_words("scan -j1 --csv sides --write less")[0] == 0
     assert archive.names("less") == ["a.pcm", "a.stretches.csv", "a.tbc", "a.tbc.json"]
     os.unlink(archive.named("sides/b.tbc"))
-    assert archive.run_words("scan -j1 --csv sides --write none")[0] == 1 and archive.names("none") == []
+    assert archive.run_words("scan -j1 --csv sides --write none")[::2] == (1, "") and archive.names("none") == []
 
 
 def test_what_is_not_written(archive):
@@ -69,7 +72,8 @@ def test_what_is_not_written(archive):
     draw(archive.named("sides/d.tbc"), OTHER, losing(OTHER.order, (OTHER.at[9], 4)))
     archive.metadata("sides/b.tbc.json")
     status, _, said = archive.run_words("scan -j1 --csv sides --write out")
-    assert status == 2 and said.splitlines()[1] == (
+    first, second, *_ = said.splitlines()
+    assert status == 2 and first.endswith(" and about 53 MB are needed for 2 sides") and second == (
         "ldvbi-side: out/a.tbc: sides/b.tbc has 56 whole fields, and sides/b.tbc.json has 0")
     assert archive.names("out") == ["c.efm", "c.pcm", "c.stretches.csv", "c.tbc", "c.tbc.json"]
     assert places_in(archive.named("out/c.tbc"), OTHER) == inside(OTHER)
@@ -79,8 +83,20 @@ def test_what_is_not_written(archive):
     archive.write("sides/b.vbi.json", archive.extracted("sides/b.tbc"))
     for name in "bcd":
         os.unlink(archive.named("sides/%s.tbc" % name))
-    status, text, _ = archive.run_words("scan -j1 sides --write none")
-    assert "join sides/a.tbc sides/b.vbi.json" in text and (status, archive.names("none")) == (1, [])
+    status, text, said = archive.run_words("scan -j1 sides --write none")
+    assert "join sides/a.tbc sides/b.vbi.json" in text and (status, said, archive.names("none")) == (1, "", [])
+
+
+def test_padding_is_as_black_as_the_first_capture(archive):
+    """Whatever a table says of the others. Both lack pictures 9 to 11."""
+    draw(archive.named("sides/b.tbc"), ONE, losing(ONE.order, (ONE.at[9], 6)), jitter=1)
+    archive.write("table.csv", "side,black\nsides/a.tbc,16000\n")
+    os.makedirs(archive.named("out/a.tbc"))
+    status, _, said = archive.run_words("scan -j1 sides --sides table.csv --write out")
+    assert (status, said.splitlines()[2:]) == (2, ["ldvbi-side: out/a.tbc is no file"])
+    os.rmdir(archive.named("out/a.tbc"))
+    assert archive.run_words("scan -j1 sides --sides table.csv --write out")[0] == 1
+    assert archive.read("out/a.tbc")[16 * SIZE:22 * SIZE] == (16000).to_bytes(2, "little") * (3 * SIZE)
 
 
 def test_maps_and_chapters(archive):
@@ -131,6 +147,8 @@ BAD = r"""
         | line 2, column last: argument --last: neither a picture number nor a time h:mm, h:mm:ss or h:mm:ss.pp:
         'chapter 3'
     side,try\nside.tbc,--html x\n | line 2, column try: unrecognized arguments: --html x
+    side,try\nside.tbc,--whit 1\n | line 2, column try: unrecognized arguments: --whit 1
+    side,try\nside.tbc,-h\n | line 2, column try: unrecognized arguments: -h
     side,try\nside.tbc,'\n | line 2, column try: No closing quotation
     side,white\nside.tbc\n | line 2 has 1 columns, and the first line 2
     side,white\nside.tbc,1\n./side.tbc,1\n | line 3, column side: ./side.tbc stands in line 2, too

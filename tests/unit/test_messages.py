@@ -229,13 +229,15 @@ def test_each_option_and_command(statuses):
 
 
 def test_what_is_printed_alone(statuses):
-    """The version, and the summary of a side without an option."""
+    """The version, the help, and the summary of a side without an option."""
     status, text, said = statuses.run_words("--version")
     assert (status, said) == (0, "")
     assert re.search(r"^ldvbi-side %s\nlibrary [0-9.]+ \([a-zR, ]+\): /.*libldvbi\.so\.2\n\Z" %
                      re.escape(ldvbi.__version__), text)
     for name in SIDES:
         assert statuses.run_words(name) == statuses.run_words(name, "--summary")
+    for command, parser in parsers("ldvbi-side").items():
+        assert statuses.run_words(*command.split(), "--help") == (0, parser.format_help(), "")
 
 
 def test_the_table():

@@ -265,6 +265,7 @@ def test_each_is_written(room, name):
     """A part has its file's name where that fits in 255 bytes, else as much as does, and digits that are its own."""
     fits = "n" * (255 - len(outputs._part_by("", 1)))
     assert re.fullmatch(r"\.ldvbi-%s\.[0-9a-f]{8}-1\.part" % fits, outputs._part_by(fits, 1))
+    assert re.fullmatch(r"\.ldvbi-n{223}(\.[0-9a-f]{8}){2}-1\.part", outputs._part_by("n" * 255, 1))
     assert outputs._part_by(name[:-1] + "x", 1) != outputs._part_by(name, 1)
     path = room.named(name)
     with whole_file(path) as file:

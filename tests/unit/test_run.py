@@ -307,7 +307,7 @@ def test_in_a_function_whose_exceptions_are_dropped(drawn):
 
 
 def test_progress(drawn):
-    """None of documents, where nobody looks, or between the lines of a document."""
+    """None of documents, where nobody looks, or between the lines of a document. What isn't judged is read once."""
     for words in ("--summary", "--document", "--document -o out"):
         shown, text = drawn.on_terminal(int(words == "--summary"), "side.tbc LEVELS " + words)
         assert shown.startswith("\r0 of 12 fields, 0 %\x1b[K")
@@ -315,6 +315,8 @@ def test_progress(drawn):
         assert drawn.run_command("side.tbc LEVELS " + words)[1:] == (text, "")
     assert drawn.read("out") == drawn.document
     assert drawn.on_terminal(0, "side.vbi.json --seek 3")[0] == ""
+    drawn.metadata("meta.json", count=12)
+    assert drawn.on_terminal(0, "side.tbc --meta meta.json --into copy --as-read")[0].count("\r0 of 12 fields") == 1
     shown, _ = drawn.on_terminal(0, "side.tbc LEVELS --document", is_output_on_it=True)
     assert shown.replace("\r\n", "\n").encode() == drawn.document
 

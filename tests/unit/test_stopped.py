@@ -234,8 +234,15 @@ def tells(_, tell):
     tell(os.getpid())
 
 
-def test_processes_that_stay_or_end():
-    """One that does several jobs, one that has to be killed, and those that get signals while they end."""
+def lasts(task, _):
+    """A job that lasts until a process has ended: a file of this name has its number."""
+    while task and (not os.path.exists(task) or command_of(int(pathlib.Path(task).read_bytes() or "1"))):
+        time.sleep(0.01)
+
+
+def test_processes_that_stay_or_end(room, capfd):
+    """One that does several jobs, one that has to be killed, those that get signals while they end, and one that ends
+    after its job, while another one is at work."""
     ended = []
     with SideBySide(tells, [1, 2], 1, lambda *one: ended.append(one)) as messages:
         first, *others = messages
@@ -247,6 +254,14 @@ def test_processes_that_stay_or_end():
     assert (ended[2:], children(os.getpid())) == ([3], [])
     with SideBySide(tidies, [0, signal.SIGHUP], 1, lambda task, process: None) as messages:
         assert list(messages) == [(0, []), (0, Ended(0)), (1, []), (1, Ended(1))]
+
+    def after(task, process):
+        if not task:
+            os.kill(process, signal.SIGKILL)
+            room.write("ended", str(process))
+    with SideBySide(lasts, ["", room.named("ended")], 2, after) as messages:
+        assert list(messages) == [(0, Ended(0)), (1, Ended(0))]
+    assert capfd.readouterr() == ("", "")
 
 
 @pytest.mark.parametrize("before, after", ((1000, 262144), (300000, 300000)))

@@ -317,9 +317,9 @@ def test_padding_that_is_padding_already(before, after, pads, wanted):
 def test_a_full_disk(room, monkeypatch):
     words = drawn(room, "whole")
     before = room.files()
-    monkeypatch.setattr(os, "statvfs", lambda _: os.statvfs_result([4096, 4096, 0, 0, 100] + [0] * 5))
+    monkeypatch.setattr(os, "statvfs", lambda _: os.statvfs_result([4096, 4096, 0, 0, 5000] + [0] * 5))
     status, _, said = room.run_words(words)
-    assert status == 2 and said.endswith(": 0 MB are free, and 24 MB are needed\n")
+    assert status == 2 and said.endswith(": 20 MB are free, and 24 MB are needed\n")
     assert room.files() == before
 
 
