@@ -71,7 +71,7 @@ REFUSED = """
     side.vbi.json --plot-line 1 17 | side.vbi.json is a document, and --plot-line is for a TBC file
     side.tbc --meta meta.json | meta.json: No such file or directory || side.vbi.json --map absent/out | ABSENT
     side.vbi.json -o absent/out | ABSENT || join side.vbi.json side.tbc | NONE || join other.tbc side.tbc HALF | NONE
-    side.vbi.json --html absent/out | ABSENT || join side.vbi.json side.vbi.json --white 51200 | side.vbi.json: OPTIONS
+    side.vbi.json --html absent/out | ABSENT
     join other.tbc side.vbi.json --html absent/out | ABSENT || side.vbi.json --svg side.vbi.json | =side.vbi.json
     join side.vbi.json other.tbc --html other.tbc.json | =other.tbc.json || side.vbi.json --svg new --map new | =new
     join side.tbc other.tbc --meta other.tbc.json --html meta | =meta || other.tbc --svg copy --into copy | =copy
@@ -79,6 +79,8 @@ REFUSED = """
     side.tbc LEVELS --document -o side.tbc | =side.tbc || other.tbc --meta rows.db --into rows.db-wal | =rows.db-wal
     other.tbc -o other.tbc.json | =other.tbc.json || other.tbc --meta rows.db --into rows.db-journal | =rows.db-journal
     other.tbc --meta rows.db --into rows.db-shm | =rows.db-shm
+    join side.vbi.json same.vbi.json --white 51200 | side.vbi.json: OPTIONS
+    write out.tbc /dev/null --meta other.tbc.json | /dev/null is no file that can be mapped
     other.tbc --into other.tbc | =other.tbc || other.tbc --meta rows.db --into rows.db | =rows.db
 """
 # What stands for parts of that
@@ -95,6 +97,7 @@ def test_refused(drawn):
     in_database(drawn.named("rows.db"), "CREATE TABLE capture (system, black_16b_ire, white_16b_ire)",
                 "INSERT INTO capture VALUES ('NTSC', 16384, 51200)")
     os.link(drawn.named("other.tbc.json"), drawn.named("hard"))
+    os.link(drawn.named("side.vbi.json"), drawn.named("same.vbi.json"))
     os.symlink("other.tbc.json", drawn.named("meta"))
     for name in ("my sides", "folder"):
         os.mkdir(drawn.named(name))
@@ -131,13 +134,16 @@ COMPRESSED = """
     s.zst | s.zst | zstd: zstdcat s.zst ! META s.json ! ldvbi-side -
     s.lzma | s.lzma | lzma: lzcat s.lzma ! META s.json ! ldvbi-side - || m.json | side.tbc --meta m.json | gzip: UNPACK
     s.zip | s.zip | zip: unzip -p s.zip ! META s.json ! ldvbi-side - || a.gz | a.gz --meta a.db | gzip: UNPACK
+    c.tbc.gz | c.tbc.gz | gzip: zcat c.tbc.gz ! META c.tbc.json ! ldvbi-side -
+    a.gz | write out.tbc a.gz --meta b.tbc.db | gzip: UNPACK
     s.json.gz | s.json.gz | gzip: zcat s.json.gz ! ldvbi-side - || b.json | join side.vbi.json b.json | gzip: UNPACK
 """
 
 
 def test_compressed_files(drawn):
     """Of a side alone the message has the command that reads it."""
-    drawn.write("b.tbc.db", b"")
+    for name in ("b.tbc.db", "c.tbc.db", "c.tbc.json"):
+        drawn.write(name, b"")
     table = COMPRESSED.replace("META", "ldvbi extract --meta").replace("UNPACK", "unpack it first")
     for name, words, said in cells_of(table):
         form, said = said.replace("!", "|").split(": ", 1)

@@ -20,7 +20,7 @@ from unittest import mock
 import discs
 from ldvbi_side import outside
 from ldvbi_side.__main__ import main
-from ldvbi_side.command import outputs
+from ldvbi_side.command import main as command, outputs
 from ldvbi_side.command.outputs import whole_file, whole_files, whole_path
 from ldvbi_side.draw.index import faults_in, head_of, index_of, PART
 from ldvbi_side.draw.page import MARK
@@ -134,6 +134,19 @@ def test_one_that_is_dropped_before_the_command_ends(signals):
     signals()
     with mock.patch("ldvbi_side.command.main.main", command), mock.patch("ldvbi_side.__main__.drop_standard_output"):
         assert (main([]), signal.getitimer(signal.ITIMER_REAL)) == (130, (0, 0))
+
+
+@pytest.mark.parametrize("fault", (None, ValueError("what came of it")))
+def test_one_that_is_dropped_within_a_run(signals, fault):
+    """The run ends by it, whatever its answer or its fault is."""
+    def run(_):
+        dropped(signal.SIGTERM)
+        if fault:
+            raise fault
+
+    signals()
+    with mock.patch("ldvbi_side.command.main._run", run), pytest.raises(outside.Stopped):
+        command.main(["side.tbc"])
 
 
 @pytest.mark.parametrize("write", WRITERS)

@@ -41,7 +41,7 @@ def join_options(program: str, words: List[str]) -> argparse.Namespace:
     if "" in (*files, options.meta):
         parser.error("a file has to have a name")
     options.is_printed = options.csv or options.ranges or options.json
-    if files.count(STANDARD_OUTPUT) + options.is_printed > 1 and STANDARD_OUTPUT in files:
+    if files.count(STANDARD_OUTPUT) + options.is_printed > 1:
         parser.error("standard output takes one thing")
     refuse_inputs([1, *(None if file == STANDARD_OUTPUT else file for file in files)],
                   [*(file for path in options.sides for file in files_of(path)), options.meta])
