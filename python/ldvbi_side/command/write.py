@@ -186,8 +186,9 @@ def _add_rows(told: Told, metadata: Metadata) -> None:
 
 def _targets(out: str, inputs: List[Input]) -> Dict[str, str]:
     """The files to write, by the ends of their names: the TBC file last."""
+    form, = {one.form() for one in inputs}
     found = {end: base_of(out) + end for end in ends_of_sound(inputs)}
-    found.update({inputs[0].form(): out + inputs[0].form(), STRETCHES: base_of(out) + STRETCHES, ".tbc": out})
+    found.update({form: out + form, STRETCHES: base_of(out) + STRETCHES, ".tbc": out})
     return found
 
 
