@@ -385,6 +385,8 @@ def test_names(drawn, encoding, shown):
     drawn.write(name, drawn.document)
     status, text, _ = drawn.run_command("join", "--csv", name, name, env=dict(os.environ, PYTHONIOENCODING=encoding))
     assert (status, text.split(b"\n")[1]) == (0, b"0,%s.vbi.json,1,1,read" % shown)
+    drawn.printed("join", "--map", "map", name, name)
+    assert b",\xc3\xbc\xff.vbi.json\n" in drawn.read("map")
     drawn.refused("\\x1b[31m\\n\\udcff: No such file or directory", os.fsdecode(b"\x1b[31m\n\xff"))
     drawn.refused("a file without a name: No such file or directory", "")
     drawn.write("-x", drawn.document)

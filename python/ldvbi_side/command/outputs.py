@@ -43,7 +43,7 @@ def whole_file(path: str) -> Iterator[IO[str]]:
         raise_lost()
         _rename(part, target)
     except BaseException:
-        with contextlib.suppress(FileNotFoundError, NotADirectoryError):
+        with contextlib.suppress(OSError):
             os.unlink(part)
         raise
 

@@ -143,7 +143,7 @@ def _run(job, connection):
     heed(leave)
     signal.pthread_sigmask(signal.SIG_UNBLOCK, _ENDING)
     most = max(MOST_MEMORY, _peak())  # a process begins with what the one that started it took
-    with contextlib.suppress(EOFError, BrokenPipeError, ConnectionResetError):  # nobody listens any longer
+    with contextlib.suppress(EOFError, ConnectionError):  # nobody listens any longer
         while True:
             job(connection.recv(), lambda message: connection.send((False, message)))
             if _peak() > most:
