@@ -152,6 +152,21 @@ def test_faults_that_nobody_thought_of(room, capsys, name, sides, read, fault):
     assert not [*pathlib.Path(room.folder).rglob("*.part")]
 
 
+def adds(task):
+    """Writes more to the file that keeps the name of a page, and reads no side."""
+    with open(task.page, "ab") as file:
+        file.write(b"\xff")
+    raise ValueError("it is added to")
+
+
+def test_a_page_of_somebody_else(room):
+    """What stands where a scan kept the name of a page stays, if it isn't the scan's."""
+    room.add("1.tbc")
+    with contextlib.chdir(room.folder):
+        assert scan(["--html", "pages", "1.tbc"], adds) == 2
+    assert room.read("pages/1.html")[-3:] == b">\n\xff"
+
+
 # Has the first process whose file is complete, and hasn't got its name, wait, and say which one it is.
 FIRST_WAITS = """
 import os, time
@@ -188,6 +203,11 @@ def test_one_side_fails_and_the_others_are_read(room):
         room.ended(process, 2, b"./2.vbi.json,fault,,,,,,,,,,,its process was ended by SIGKILL,,\n"
                                b"./3.tbc,yes,0,0,cav,1,30,30,0,1,61,,,NTSC,\n")
     assert room.names("pages") == ["1.html", "3.html", "index.html"]
+    process = scanning(room, "--html pages . 2.vbi.json")  # of which two have pages
+    assert process.stdout.readline() == b"./1.tbc,yes,0,0,cav,1,30,30,0,1,61,,,NTSC,\n"
+    room.opened_by(process, "2.vbi.json").close()
+    room.ended(process, 2, b"./2.vbi.json,fault,,,,,,,,,,,not JSON: line 1 is wrong from column 1 on,,\n"
+                           b"./3.tbc,yes,0,0,cav,1,30,30,0,1,61,,,NTSC,\n")
     process = scanning(room, "-j 2 . 2.vbi.json")
     process.stdout.close()  # there is no reader any longer
     assert (process.wait(DEADLINE), process.stderr.read()) == (2, b"")
@@ -365,9 +385,12 @@ def test_sides_of_both_kinds_in_one_scan(room):
     room.write("2.vbi.json", room.extracted("2.tbc"))
     room.scan("--html pages 3.tbc")
     with mock.patch("ldvbi_side.command.scan.SidesProgress") as progress, contextlib.chdir(room.folder):
-        scan(["-j", "1", "--html", "pages", "1.tbc", "2.vbi.json", "3.tbc"], steps)
-    (one, other), = progress.call_args.args
+        scan(["-j", "1", "--html", "pages", "1.tbc", "2.vbi.json", "3.tbc", "absent.tbc"], steps)
+    (one, other, absent), = progress.call_args.args
     assert 2 < other / one < 4.5
-    assert (one, other) == (os.path.getsize(room.named("1.tbc")) / 600000, len(room.read("2.vbi.json")) / 150)
-    assert [call.args for call in progress().__enter__().reached.call_args_list] == [
-        (side, part) for side in (0, 1) for part in (0.0, 0.99, 1)]
+    assert (one, other, absent) == (os.path.getsize(room.named("1.tbc")) / 600000, len(room.read("2.vbi.json")) / 150,
+                                    0)
+    shown_for_all = progress().__enter__()
+    assert [call.args for call in shown_for_all.reached.call_args_list] == [
+        (side, part) for side in (0, 1, 2) for part in (0.0, 0.99, 1)]
+    assert shown_for_all.clear.call_count == 4  # before each row

@@ -14,7 +14,8 @@ _listeners: List[Listener] = []
 
 @contextlib.contextmanager
 def heard_by(listener: Listener) -> Iterator[None]:
-    """Has a function get what `Progress` would show, instead of it: how many fields are read, and of how many."""
+    """Has a function get what `Progress` would show, instead of it: how many fields are read, and of how many, unless
+    there are none."""
     _listeners.append(listener)
     try:
         yield
@@ -58,7 +59,8 @@ class Progress:
     def _show(self, done):
         self._last = time.monotonic()
         if self._listener:
-            self._listener(done, self._fields)
+            if self._fields:
+                self._listener(done, self._fields)
             return
         text = "%d of %d fields, %d %%" % (done, self._fields, 100 * done // self._fields if self._fields else 100)
         if 0 < done < self._fields:
