@@ -129,10 +129,15 @@ def test_options_of_single_sides(drawn):
             (found.replace("60,,", "60,--open-end,", 1), ["yes", "yes", "can't tell"]),
             ("\ufeffside,open_end,meta\r\n./open.tbc,yes,\r\n\r\ndark.tbc,no,other.json\r\n",
              ["can't tell", "yes", "yes"]),
-            ("side,last,white\nopen.tbc,30,\na b.tbc,31,\ndark.tbc,,30000\n", ["no", "yes", "yes"])):
+            ("side,last,white\nopen.tbc,30,\na b.tbc,31,\ndark.tbc,,30000\n", ["no", "yes", "yes"]),
+            ("side,open_end\nopen.tbc,1\na b.tbc,true\ndark.tbc,0\n", ["yes", "can't tell", "yes"]),
+            ("side,open_end\nopen.tbc,\na b.tbc,false\ndark.tbc,no\n", ["can't tell"] * 3)):
         drawn.write("table.csv", table)
         _, text, said = drawn.scan(*words, "--sides", "table.csv")
         assert ([row["whole"] for row in csv.DictReader(text.splitlines())], said) == (wanted, ""), table
+    drawn.write("table.csv", "side,white\nopen.tbc,\ndark.tbc,30000\n")
+    text = drawn.scan(*words, "--open-end", "--sides", "table.csv")[1]
+    assert [row["whole"] for row in csv.DictReader(text.splitlines())] == ["yes"] * 3
 
 
 # Tables that are refused, and why
@@ -165,8 +170,8 @@ def test_bad_tables(room):
     room.write("sides.csv", 'side\n"%s"\n' % ("x" * 200000))
     room.refused("sides.csv: field larger than field limit (131072)", "scan side.tbc --sides sides.csv")
     room.refused("absent: No such file or directory", "scan side.tbc --sides absent")
-    for others, said in (("no.tbc,1\n", "1 of its sides isn't"), ("a.tbc,1\nb.tbc,1\n", "2 of its sides aren't")):
-        room.write("sides.csv", "side,white\n" + others)
+    for others, said in ((b"\xff.tbc,1\n", "1 of its sides isn't"), (b"a.tbc,1\nb.tbc,1\n", "2 of its sides aren't")):
+        room.write("sides.csv", b"side,white\n" + others)
         assert room.scan("--csv side.tbc --sides sides.csv")[1:] == (
             room.scan("--csv side.tbc")[1], "ldvbi-side: sides.csv: %s in this scan\n" % said)
     for words in ("--sides ''", "--write ''", "--map ''", "--chapters ''"):

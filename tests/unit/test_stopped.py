@@ -260,9 +260,18 @@ def lasts(task, _):
         time.sleep(0.01)
 
 
+def removes(task, tell):
+    """A job that removes its file when it is asked to end."""
+    try:
+        tell(task)
+        time.sleep(DEADLINE)
+    finally:
+        os.unlink(task)
+
+
 def test_processes_that_stay_or_end(room, capfd):
-    """One that does several jobs, one that has to be killed, those that get signals while they end, and one that ends
-    after its job, while another one is at work."""
+    """One that does several jobs, one that has to be killed, those that get signals while they end, one that ends after
+    its job, while another one is at work, and one that is asked to end."""
     ended = []
     with SideBySide(tells, [1, 2], 1, lambda *one: ended.append(one)) as messages:
         first, *others = messages
@@ -281,6 +290,9 @@ def test_processes_that_stay_or_end(room, capfd):
             room.write("ended", str(process))
     with SideBySide(lasts, ["", room.named("ended")], 2, after) as messages:
         assert list(messages) == [(0, Ended(0)), (1, Ended(0))]
+    with SideBySide(removes, [room.named("ended")], 1, lambda task, process: None) as messages:
+        assert next(iter(messages)) == (0, room.named("ended"))
+    assert room.names() == []
     assert capfd.readouterr() == ("", "")
 
 
