@@ -274,10 +274,10 @@ def test_what_is_printed_and_written(drawn):
     assert [rows[0], rows[1], rows[9], rows[24], rows[25]] == [
         "kind,number,field,frame,how,source", "system,NTSC,1,1,side,side.vbi.json", "picture,0,1,1,read,side.vbi.json",
         "picture,15,10,5,read,other.tbc", ""]
-    for option, printed in (("", b""), ("--json ", drawn.printed(words + "--json"))):
-        assert drawn.printed(words + option + "--html page.html") == printed
+    for page, option, printed in (("one", "", b""), ("two", "--json ", drawn.printed(words + "--json"))):
+        assert drawn.printed(words + option + "--html " + page) == printed
         assert ('<h1>side.vbi.json, other.tbc</h1>\n<div class="no">together: whole: no<ul><li>16 pictures lack fields '
-                "(0 to 15)</li><li>too few") in drawn.text("page.html").replace("<wbr/>", "")
+                "(0 to 15)</li><li>too few") in drawn.text(page).replace("<wbr/>", "")
     for option in ("--csv --map -", "--html - --map -"):
         assert drawn.run_words(words + option)[2].endswith("error: standard output takes one thing\n")
     assert drawn.printed(words + "--map -").decode() == drawn.text("side.map")

@@ -129,6 +129,7 @@ PACKED = {"gzip": gzip.compress(b"video"), "bzip2": bz2.compress(b"video"), "xz"
 COMPRESSED = """
     my side.tbc.gz | 'my side.tbc.gz' | gzip: zcat 'my side.tbc.gz' ! META 'my side.tbc.json' ! ldvbi-side -
     s.tbc | s.tbc LEVELS | bzip2: bzcat s.tbc ! ldvbi extract --system NTSC --black 16384 --white 51200 ! ldvbi-side -
+    s.tbc | s.tbc --system PAL | bzip2: bzcat s.tbc ! META s.tbc.json --system PAL ! ldvbi-side -
     s.tbc | s.tbc --white 5 | bzip2: bzcat s.tbc ! META s.tbc.json --white 5 ! ldvbi-side - || f | f | FLAC: UNPACK
     s.xz | s.xz --meta one.json | xz: xzcat s.xz ! META one.json ! ldvbi-side - || b.tbc.gz | b.tbc.gz | gzip: UNPACK
     s.zst | s.zst | zstd: zstdcat s.zst ! META s.json ! ldvbi-side -
@@ -183,6 +184,7 @@ def test_documents_and_metadata(drawn):
 def test_a_name_stands_once():
     for error, text in ((ValueError("wrong"), "a.json: wrong"), (ValueError("a.json: wrong"), "a.json: wrong"),
                         (OSError("no library"), "no library"), (OSError(5, "Failed"), "[Errno 5] Failed: 'a.json'"),
+                        (OSError(5, "Failed", "b"), "[Errno 5] Failed: 'b'"),
                         (UnicodeDecodeError("utf-8", b"\xff", 0, 1, ""), "a.json: no text in UTF-8")):
         with pytest.raises((ValueError, OSError)) as caught, naming("a.json"):
             raise error

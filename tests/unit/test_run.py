@@ -29,6 +29,7 @@ TAKEN = """
     side.tbc --seek 4 | 0 | field 5, frame 2 | - || side.tbc LEVELS --seek 4 | 0 | field 5, frame 3 | -
     side.tbc --meta other.json LEVELS --seek 4 | 0 | field 5, frame 2 | -
     side.tbc --meta other.json --seek 4 | 1 | - | not found: no number of the side is believed
+    side.vbi.json --seek 4 | 0 | field 5, frame 3 | -
     side.vbi.json --seek 12 | 1 | - | not found: the numbers end at 11, in field 12
     side.vbi.json --meta side.tbc.json --seek 4 | 0 | field 5, frame 2 | -
     side.vbi.json --meta none.json --seek 4 | 0 | field 5, frame 3 | none.json has no isFirstField for each field
@@ -66,7 +67,7 @@ def test_the_library_is_needed(drawn):
 def test_metadata_is_taken(drawn):
     """That beside the TBC file is where options leave something open; and a number of fields is compared."""
     for name, count, more in (
-            ("side.tbc", 12, {}), ("other", 12, {"black16bIre": 60000, "white16bIre": 60001}), ("none", None, {}),
+            ("side.tbc", 12, {}), ("side.vbi.json", 12, {}), ("other", 12, {"black16bIre": 60000, "white16bIre": 60001}), ("none", None, {}),
             ("more", 14, {}), ("count", None, {"numberOfSequentialFields": 11})):
         drawn.metadata(name + ".json", count=count, **more)
     drawn.write("cut.tbc", drawn.read("side.tbc") + b"x" * 7)

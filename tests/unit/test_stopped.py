@@ -21,7 +21,7 @@ from ldvbi_side.command import processes
 from ldvbi_side.command.folders import Found, sides_in
 from ldvbi_side.command.outputs import _part_by
 from ldvbi_side.command.processes import Ended, SideBySide
-from ldvbi_side.command.progress import PAUSE, Progress, SidesProgress
+from ldvbi_side.command.progress import heard_by, PAUSE, Progress, SidesProgress
 from ldvbi_side.command.scan import scan
 import pytest
 from room import buffered, children, command_of, DEADLINE, in_database
@@ -355,6 +355,9 @@ def test_whole_texts(clock):
     assert shown("1 of 1000 fields, 0 %, 166:30 left") in run_over(clock, 1000, 1000, 1, 10.0)
     text = run_over(clock, 1003, 1003, 1, 0.01)
     assert text.count("\r") == 3 + 10 * 5  # the first, the last, the empty line, and five a second
+    heard = []
+    with heard_by(lambda *_: heard.append("outer")), heard_by(lambda *_: heard.append("inner")), Progress(3):
+        assert heard == ["inner"]
     with mock.patch("sys.stderr", None), Progress(3) as progress:
         assert list(progress.over("abc")) == ["a", "b", "c"]
     with mock.patch("sys.stderr", Terminal()) as errors, pytest.raises(KeyboardInterrupt), Progress(10):

@@ -67,7 +67,8 @@ def print_joined(options: argparse.Namespace, captures: List[Capture]) -> int:
     """Prints and draws what these captures have together, as the options ask for it. The answer is the exit status, by
     whether they are whole together if that is what is asked."""
     joined = join(captures)
-    is_alone = not (options.is_printed or _write_files(options, joined, captures))
+    is_written = _write_files(options, joined, captures)
+    is_alone = not (options.is_printed or is_written)
     if (options.csv or options.ranges) and not joined.shown_by:
         say(NOTHING_SHOWS)  # which all other forms have in themselves
     if options.csv:
