@@ -53,6 +53,7 @@ def test_captures_of_one_disc_are_written(archive, monkeypatch):
     written = {name: archive.read("out/" + name) for name in archive.names("out")}
     assert archive.run_words("write out/again.tbc sides/a.tbc sides/b.tbc")[0] == 0
     assert written == {name: archive.read("out/" + name.replace("a.", "again.", 1)) for name in written}
+    assert archive.run_words("join --csv sides/a.tbc sides/b.tbc")[2] == ""  # they are of one disc
     archive.write("table.csv", "side,last\nsides/a.tbc,26\n")
     for more, status, whole in (("", 0, "yes"), (" --sides table.csv", 1, "no: 4 fields lost; 2 pictures lost")):
         found, _, said = archive.run_words("scan -j1 --csv sides --write out" + more)  # over the older file

@@ -256,7 +256,11 @@ def test_what_is_printed_and_written(drawn):
     drawn.metadata("other.tbc.json")
     words, head = "join side.vbi.json other.tbc ", (
         "together: whole: no: 16 pictures lack fields (0 to 15); too few numbers to judge by")
-    assert drawn.run_words(words)[1].split("\n")[:3] == [head, "together: pictures 0 to 15, none lost", NOTHING_SHOWS]
+    lines = drawn.run_words(words)[1].split("\n")
+    assert lines[:3] == [head, "together: pictures 0 to 15, none lost", NOTHING_SHOWS]
+    assert [line.split(":")[0] for line in lines[3:]] == [
+        "side.vbi.json", "better in side.vbi.json", "other.tbc", "better in other.tbc", "alike", "lacking in all",
+        "disagreements", "as one file", ""]
     for option, *wanted in (
             ("--csv", "number,source,field,frame,how", "0,side.vbi.json,1,1,read", "11,side.vbi.json,12,6,read",
              "12,other.tbc,7,4,read", "15,other.tbc,10,5,read", ""),
@@ -264,8 +268,8 @@ def test_what_is_printed_and_written(drawn):
              "11,11,side.vbi.json,12,12,whole", "12,12,other.tbc,7,7,whole", "15,15,other.tbc,10,10,whole", "")):
         rows = drawn.printed(words + option, said="ldvbi-side: %s\n" % NOTHING_SHOWS).decode().split("\n")
         assert [*rows[:2], *rows[12:14], *rows[16:]] == wanted
-    drawn.printed(words + "--map side.map --chapters side.txt", said="ldvbi-side: no chapter of the side is believed: "
-                  "side.txt isn't written\n")
+    assert drawn.printed(words + "--chapters side.txt", said="ldvbi-side: no chapter of the side is believed: side.txt "
+                         "isn't written\n") + drawn.printed(words + "--map side.map") == b""
     head_rows = ["%s,%d,1,1,side,%s" % (kind, value, name)
                  for name, fields in (("side.vbi.json", 12), ("other.tbc", 10))
                  for kind, value in (("black", 16384), ("white", 51200), ("fields", fields))]
