@@ -1,6 +1,7 @@
 """`scan` as a day's work: what it writes of each side and of captures of one disc, options of single sides from a
 table, and several scans into one folder of pages."""
 
+import contextlib
 import csv
 import json
 import os
@@ -10,6 +11,7 @@ from captured import Disc, draw, losing, places_in
 from compact import cells_of
 from discs import LEAD_IN, LEAD_OUT, pictures
 from ldvbi_side.command.main import scanned
+from ldvbi_side.command.progress import heard_by
 from ldvbi_side.command.scan import scan
 import pytest
 from room import DEADLINE, IN_PLACE, SIZE
@@ -51,7 +53,10 @@ def test_captures_of_one_disc_are_written(archive, monkeypatch):
             "sides/a.tbc: 24 fields, 12 pictures", "sides/b.tbc: 24 fields, 12 pictures"))]
     assert (status, places_in(archive.named("out/a.tbc"), ONE)) == (0, inside(ONE))
     written = {name: archive.read("out/" + name) for name in archive.names("out")}
-    assert archive.run_words("write out/again.tbc sides/a.tbc sides/b.tbc")[0] == 0
+    done = []  # as a terminal shows it: what is written, and read again
+    with heard_by(lambda *fields: done.append(fields)):
+        assert archive.run_words("write out/again.tbc sides/a.tbc sides/b.tbc")[0] == 0
+    assert [done.count((fields, 48)) for fields in (0, 48)] == [2, 2]
     assert written == {name: archive.read("out/" + name.replace("a.", "again.", 1)) for name in written}
     assert archive.run_words("join --csv sides/a.tbc sides/b.tbc")[2] == ""  # they are of one disc
     archive.write("table.csv", "side,last\nsides/a.tbc,26\n")
@@ -194,6 +199,21 @@ def test_a_page_of_a_side_with_options_of_its_own(room):
     assert [scan(words, not_read), scan(words, scanned)] == [2, 0]
     room.write("sides.csv", "side,white\n%s,51000\n" % room.path)
     assert [scan(words, not_read), scan(words, scanned), scan(words, not_read)] == [2, 0, 0]
+
+
+def adds(task):
+    """Writes more to the file that keeps the name of a page, and reads no side."""
+    with open(task.page, "ab") as file:
+        file.write(b"\xff")
+    raise ValueError("it is added to")
+
+
+def test_a_page_of_somebody_else(room):
+    """What stands where a scan kept the name of a page stays, if it isn't the scan's."""
+    room.add("1.tbc")
+    with contextlib.chdir(room.folder):
+        assert scan(["--html", "pages", "1.tbc"], adds) == 2
+    assert room.read("pages/1.html")[-3:] == b">\n\xff"
 
 
 def test_packed_sides(room):

@@ -15,8 +15,9 @@ import ldvbi
 from ldvbi_side.command.faults import fault_text, naming
 from ldvbi_side.command.parsers import parser_of_side, parsers
 from ldvbi_side.command.statuses import MEANINGS, statuses_of
+from ldvbi_side.draw.index import head_of
 import pytest
-from room import in_database, IN_PLACE, NO_METADATA
+from room import buffered, in_database, IN_PLACE, NO_METADATA
 from streams import TOP
 
 NOT_JSON = "not JSON: line 1 is wrong from column 1 on"
@@ -162,6 +163,30 @@ def test_standard_input(drawn):
             ("-", b"", "standard input: " + NOT_JSON)):
         with open(drawn.write("in", data), "rb") as file:
             assert drawn.run_command(words, stdin=file) == (2, b"", "ldvbi-side: %s\n" % text)
+
+
+def test_a_document_on_standard_input(drawn):
+    """It is read as a file is, and messages name it; a page of it has no path."""
+    drawn.write("cut.tbc", drawn.read("side.tbc") + b"x" * 7)
+    path = drawn.write("cut.vbi.json", drawn.extracted("cut.tbc"))
+    drawn.metadata("meta.json", count=12)
+    for words in ("--csv --html page.html", "--meta meta.json --into copy.json --as-read"):
+        status, text, said = drawn.run_command("cut.vbi.json " + words)
+        assert (status, said[:24]) == (3, "ldvbi-side: cut.vbi.json")
+        with open(path, "rb") as file:
+            found = drawn.run_command("- " + words, stdin=file)
+        assert found == (3, text, said.replace("cut.vbi.json", "standard input"))
+    assert head_of(drawn.named("page.html"))[1]["side"] is None
+    with open(path, "rb") as file, open(path, "ab") as same:
+        assert drawn.run_command("- --csv", stdin=file, stdout=same) == (
+            2, None, "ldvbi-side: %s\n" % IN_PLACE % "standard output")
+
+
+@pytest.mark.parametrize("words", ("--help", "side.vbi.json --csv"))
+def test_a_full_device_takes_nothing(drawn, words):
+    with open("/dev/full", "wb") as full:
+        assert drawn.run_command(words, env=buffered(), stdout=full) == (
+            2, None, "ldvbi-side: standard output: No space left on device\n")
 
 
 def test_documents_and_metadata(drawn):

@@ -136,16 +136,12 @@ def test_one_that_is_dropped_before_the_command_ends(signals):
         assert (main([]), signal.getitimer(signal.ITIMER_REAL)) == (130, (0, 0))
 
 
-@pytest.mark.parametrize("fault", (None, ValueError("what came of it")))
-def test_one_that_is_dropped_within_a_run(signals, fault):
+@pytest.mark.parametrize("number", ("0", "none"))
+def test_one_that_is_dropped_within_a_run(signals, number):
     """The run ends by it, whatever its answer or its fault is."""
-    def run(_):
-        dropped(signal.SIGTERM)
-        if fault:
-            raise fault
-
     signals()
-    with mock.patch("ldvbi_side.command.main._run", run), pytest.raises(outside.Stopped):
+    with mock.patch("ldvbi_side.command.main._run", lambda _: (dropped(signal.SIGTERM), int(number))), \
+            pytest.raises(outside.Stopped):
         command.main(["side.tbc"])
 
 

@@ -19,7 +19,6 @@ from unittest import mock
 from compact import cells_of, words_of
 from ldvbi_side.__main__ import main
 from ldvbi_side.command.parsers import parser_of_scan
-from ldvbi_side.draw.index import head_of
 import pytest
 from room import buffered, DEADLINE, IN_PLACE, in_database, SIZE
 from streams import line_with, NTSC, PAL, PROGRAM, TOP, write_stream
@@ -67,8 +66,9 @@ def test_the_library_is_needed(drawn):
 def test_metadata_is_taken(drawn):
     """That beside the TBC file is where options leave something open; and a number of fields is compared."""
     for name, count, more in (
-            ("side.tbc", 12, {}), ("side.vbi.json", 12, {}), ("other", 12, {"black16bIre": 60000, "white16bIre": 60001}), ("none", None, {}),
-            ("more", 14, {}), ("count", None, {"numberOfSequentialFields": 11})):
+            ("side.tbc", 12, {}), ("side.vbi.json", 12, {}), ("none", None, {}), ("more", 14, {}),
+            ("other", 12, {"black16bIre": 60000, "white16bIre": 60001}),
+            ("count", None, {"numberOfSequentialFields": 11})):
         drawn.metadata(name + ".json", count=count, **more)
     drawn.write("cut.tbc", drawn.read("side.tbc") + b"x" * 7)
     for words, status, text, said in cells_of(TAKEN):
@@ -218,30 +218,6 @@ def test_what_is_in_the_place_of_closed_streams(room):
     asked = "import os; from ldvbi_side import outside; outside.open_streams()\n" \
             "os._exit(sum(os.get_inheritable(number) << number for number in range(3)))"
     assert room.run_command("-c", asked, command=[sys.executable], preexec_fn=lambda: os.closerange(0, 3))[0] == 7
-
-
-def test_a_document_on_standard_input(drawn):
-    """It is read as a file is, and messages name it; a page of it has no path."""
-    drawn.write("cut.tbc", drawn.read("side.tbc") + b"x" * 7)
-    path = drawn.write("cut.vbi.json", drawn.extracted("cut.tbc"))
-    drawn.metadata("meta.json", count=12)
-    for words in ("--csv --html page.html", "--meta meta.json --into copy.json --as-read"):
-        status, text, said = drawn.run_command("cut.vbi.json " + words)
-        assert (status, said[:24]) == (3, "ldvbi-side: cut.vbi.json")
-        with open(path, "rb") as file:
-            found = drawn.run_command("- " + words, stdin=file)
-        assert found == (3, text, said.replace("cut.vbi.json", "standard input"))
-    assert head_of(drawn.named("page.html"))[1]["side"] is None
-    with open(path, "rb") as file, open(path, "ab") as same:
-        assert drawn.run_command("- --csv", stdin=file, stdout=same) == (
-            2, None, "ldvbi-side: %s\n" % IN_PLACE % "standard output")
-
-
-@pytest.mark.parametrize("words", ("--help", "side.vbi.json --csv"))
-def test_a_full_device_takes_nothing(drawn, words):
-    with open("/dev/full", "wb") as full:
-        assert drawn.run_command(words, env=buffered(), stdout=full) == (
-            2, None, "ldvbi-side: standard output: No space left on device\n")
 
 
 @pytest.mark.parametrize("words, more", (("absent", {}), ("absent", {"PYTHONUNBUFFERED": "1"}), ("--black", {})))

@@ -260,7 +260,8 @@ PAGES = (
     ("nas/cav/side1.tbc nas/clv/side1.tbc b.vbi.json c.tbc.gz d", "",
      "nas-cav-side1.html nas-clv-side1.html b.html c.html d.html"),
     ("a-b.tbc a/b.tbc A/b.tbc a-b-2.tbc", "", "a-b.html a-b-2.html A-b-3.html a-b-2-2.html"),
-    ("a.tbc", "c.html:/1 b.html:/1", "b.html"), ("a.tbc b.tbc .tbc index.tbc", "a.html:/2 b.html:/3 c.html:", "a-2.html a.html b.html index-2.html"),
+    ("a.tbc", "c.html:/1 b.html:/1", "b.html"),
+    ("a.tbc b.tbc .tbc index.tbc", "a.html:/2 b.html:/3 c.html:", "a-2.html a.html b.html index-2.html"),
     (LONG + " " + LONG, "side.html:", "ü" * 100 + ".html " + "ü" * 100 + "-2.html"))
 
 

@@ -152,21 +152,6 @@ def test_faults_that_nobody_thought_of(room, capsys, name, sides, read, fault):
     assert not [*pathlib.Path(room.folder).rglob("*.part")]
 
 
-def adds(task):
-    """Writes more to the file that keeps the name of a page, and reads no side."""
-    with open(task.page, "ab") as file:
-        file.write(b"\xff")
-    raise ValueError("it is added to")
-
-
-def test_a_page_of_somebody_else(room):
-    """What stands where a scan kept the name of a page stays, if it isn't the scan's."""
-    room.add("1.tbc")
-    with contextlib.chdir(room.folder):
-        assert scan(["--html", "pages", "1.tbc"], adds) == 2
-    assert room.read("pages/1.html")[-3:] == b">\n\xff"
-
-
 # Has the first process whose file is complete, and hasn't got its name, wait, and say which one it is.
 FIRST_WAITS = """
 import os, time

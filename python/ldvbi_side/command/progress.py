@@ -53,7 +53,7 @@ class Progress:
 
     def reached(self, done: int) -> None:
         """Takes in that so many fields are done."""
-        if self._is_shown and (done == self._fields or time.monotonic() >= self._last + PAUSE):
+        if done == self._fields or time.monotonic() >= self._last + PAUSE:
             self._show(done)
 
     def _show(self, done):
