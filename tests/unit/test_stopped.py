@@ -2,7 +2,6 @@
 status is as documented, nothing is said, and nothing unfinished is left. `STOPPED_RUNS` has how many runs there are.
 How scans end whose processes don't: killed, interrupted, or without a reader; and what a terminal shows of a run."""
 
-import atexit
 import contextlib
 import io
 import itertools
@@ -17,10 +16,9 @@ from unittest import mock
 
 from compact import words_of
 from ldvbi_side import outside
-from ldvbi_side.command import processes
 from ldvbi_side.command.folders import Found, sides_in
 from ldvbi_side.command.outputs import _part_by
-from ldvbi_side.command.processes import Ended, SideBySide
+from ldvbi_side.command.processes import SideBySide
 from ldvbi_side.command.progress import heard_by, PAUSE, Progress, SidesProgress
 from ldvbi_side.command.scan import scan
 import pytest
@@ -216,79 +214,6 @@ def test_while_a_page_is_written(room, number, to_all, status, row, left):
     (os.killpg if to_all else os.kill)(one if row else process.pid, number)
     room.ended(process, status, row)
     assert (command_of(one), room.names("pages")) == (b"", left)
-
-
-def ignores(task, tell):
-    """A job that doesn't end by itself, and doesn't let itself be ended."""
-    signal.signal(signal.SIGTERM, signal.SIG_IGN)
-    tell(task)
-    time.sleep(DEADLINE)
-
-
-def tidies(task, tell):
-    """A job that signals reach while its process ends, after a first one, or by itself, as it took much memory."""
-    processes._peak = lambda: 1 << 60
-    for end in (lambda: tell([]), lambda: os.kill(os.getpid(), signal.SIGHUP),
-                lambda: os.kill(os.getpid(), signal.SIGTERM)):  # the last one comes first
-        atexit.register(end)
-    os.kill(os.getpid(), task)
-
-
-def tells(_, tell):
-    """A job that says in which process it runs."""
-    tell(os.getpid())
-
-
-def lasts(task, _):
-    """A job that lasts until a process has ended: a file of this name has its number."""
-    while task and (not os.path.exists(task) or command_of(int(pathlib.Path(task).read_bytes() or "1"))):
-        time.sleep(0.01)
-
-
-def removes(task, tell):
-    """A job that removes its file when it is asked to end."""
-    try:
-        tell(task)
-        time.sleep(DEADLINE)
-    finally:
-        os.unlink(task)
-
-
-def test_processes_that_stay_or_end(room, capfd):
-    """One that does several jobs, one that has to be killed, those that get signals while they end, one that ends after
-    its job, while another one is at work, and one that is asked to end."""
-    ended = []
-    with SideBySide(tells, [1, 2], 1, lambda *one: ended.append(one)) as messages:
-        first, *others = messages
-    assert others == [(0, Ended(0)), (1, first[1]), (1, Ended(0))]
-    assert ended == [(1, first[1]), (2, first[1])]
-    with mock.patch.object(processes, "GRACE", 0.1), \
-            SideBySide(ignores, [3, 4], 1, lambda task, process: ended.append(task)) as messages:
-        assert next(iter(messages)) == (0, 3)
-    assert (ended[2:], children(os.getpid())) == ([3], [])
-    with SideBySide(tidies, [0, signal.SIGHUP], 1, lambda task, process: None) as messages:
-        assert list(messages) == [(0, []), (0, Ended(0)), (1, []), (1, Ended(1))]
-
-    def after(task, process):
-        if not task:
-            os.kill(process, signal.SIGKILL)
-            room.write("ended", str(process))
-    with SideBySide(lasts, ["", room.named("ended")], 2, after) as messages:
-        assert list(messages) == [(0, Ended(0)), (1, Ended(0))]
-    with SideBySide(removes, [room.named("ended")], 1, lambda task, process: None) as messages:
-        assert next(iter(messages)) == (0, room.named("ended"))
-    assert room.names() == []
-    assert capfd.readouterr() == ("", "")
-
-
-@pytest.mark.parametrize("before, after", ((1000, 262144), (300000, 300000)))
-def test_how_much_memory_a_process_may_take(before, after):
-    """With 256 MB, or as much as it began with, it goes on to its next job; with more it ends after a job."""
-    connection = mock.Mock(**{"recv.side_effect": [1, 2, EOFError]})
-    with mock.patch.object(processes, "signal"), mock.patch.object(
-            processes, "_peak", side_effect=[before, after, after + 1]):
-        processes._run(lambda task, tell: tell(task), connection)
-    assert [call.args[0] for call in connection.send.call_args_list] == [(False, 1), (True, None), (False, 2)]
 
 
 class Terminal(io.StringIO):

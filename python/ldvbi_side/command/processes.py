@@ -88,7 +88,6 @@ class SideBySide:
         except (EOFError, OSError):  # it has ended, perhaps within a message
             worker.process.join()
             del self._workers[connection]
-            connection.close()
             index = self._end(worker)
             if index is not None:
                 yield index, Ended(worker.process.exitcode)

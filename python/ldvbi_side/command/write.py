@@ -7,8 +7,7 @@ from typing import Callable, Dict, List, NamedTuple, Optional, Sequence, Tuple, 
 
 from ldvbi import System, field_bytes
 from ldvbi.document import is_document
-from ldvbi.metadata import Metadata, beside, read_metadata, settings_of
-from ldvbi.stream import cut_of
+from ldvbi.metadata import Metadata, read_metadata, settings_of
 from ..answer.entries import Answer
 from ..join.captures import Capture, capture_of
 from ..outside import printable
