@@ -42,9 +42,6 @@ class Progress:
 
     def over(self, items: Iterable[Item], step: int = 1) -> Iterator[Item]:
         """Yields the items, each with this many fields, and shows how many fields have come with them."""
-        if not self._is_shown:
-            yield from items
-            return
         done = 0
         for item in items:
             yield item
