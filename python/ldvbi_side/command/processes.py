@@ -109,8 +109,7 @@ class SideBySide:
             process = context.Process(target=_run, args=(self._job, theirs), daemon=True)
             process.start()
             self._workers[ours] = _Worker(process)
-        theirs.close()
-        return ours
+        return ours  # the other end is closed here, as nothing refers to it any longer
 
 
 @contextlib.contextmanager
