@@ -1,6 +1,7 @@
 """`scan` as a day's work: what it writes of each side and of captures of one disc, options of single sides from a
 table, and several scans into one folder of pages."""
 
+import contextlib
 import csv
 import json
 import os
@@ -10,9 +11,10 @@ from captured import Disc, draw, losing, places_in
 from compact import cells_of
 from discs import LEAD_IN, LEAD_OUT, pictures
 from ldvbi_side.command.main import scanned
+from ldvbi_side.command.progress import heard_by
 from ldvbi_side.command.scan import scan
 import pytest
-from room import DEADLINE, IN_PLACE
+from room import DEADLINE, IN_PLACE, SIZE
 from test_scan import listed
 
 
@@ -39,26 +41,33 @@ def inside(one):
     return list(range(6, len(one.words) - 6))
 
 
-def test_captures_of_one_disc_are_written(archive):
-    """As the command write does it; the status is that of the file, and of the other disc."""
+def test_captures_of_one_disc_are_written(archive, monkeypatch):
+    """As the command write does it, by the first one's options; the status is that of the file, and of the other
+    disc."""
+    monkeypatch.setattr(os, "statvfs", lambda _: os.statvfs_result([4096, 4096, 0, 0, 1000000] + [0] * 5))
     status, text, said = archive.run_words("scan -j1 --csv sides --write out")
     assert [row.split(",")[1] for row in text.splitlines()[1:]] == ["no", "no", "yes"]
-    first, second, *lines = said.replace("ldvbi-side: ", "").splitlines()
-    assert first.startswith("out: ") and first.endswith(" MB are free, and about 27 MB are needed for 1 side")
-    assert second.startswith("out/a.tbc: ") and second.endswith(" MB are free, and 24 MB are needed")
-    assert lines == ["out/a.tbc: " + line for line in (
-        "whole: yes", "written: 48 fields, 2 stretches, 1 change", "sides/a.tbc: 24 fields, 12 pictures",
-        "sides/b.tbc: 24 fields, 12 pictures")]
+    assert said.replace("ldvbi-side: ", "").splitlines() == [
+        "out: 4096 MB are free, and about 27 MB are needed for 1 side", *("out/a.tbc: " + line for line in (
+            "4096 MB are free, and 24 MB are needed", "whole: yes", "written: 48 fields, 2 stretches, 1 change",
+            "sides/a.tbc: 24 fields, 12 pictures", "sides/b.tbc: 24 fields, 12 pictures"))]
     assert (status, places_in(archive.named("out/a.tbc"), ONE)) == (0, inside(ONE))
     written = {name: archive.read("out/" + name) for name in archive.names("out")}
-    assert archive.run_words("write out/again.tbc sides/a.tbc sides/b.tbc")[0] == 0
+    done = []  # as a terminal shows it: what is written, and read again
+    with heard_by(lambda *fields: done.append(fields)):
+        assert archive.run_words("write out/again.tbc sides/a.tbc sides/b.tbc")[0] == 0
+    assert [done.count((fields, 48)) for fields in (0, 48)] == [2, 2]
     assert written == {name: archive.read("out/" + name.replace("a.", "again.", 1)) for name in written}
-    assert archive.run_words("scan -j1 --csv sides --write out")[0] == 0  # over the older file
+    assert archive.run_words("join --csv sides/a.tbc sides/b.tbc")[2] == ""  # they are of one disc
+    archive.write("table.csv", "side,last\nsides/a.tbc,26\n")
+    for more, status, whole in (("", 0, "yes"), (" --sides table.csv", 1, "no: 4 fields lost; 2 pictures lost")):
+        found, _, said = archive.run_words("scan -j1 --csv sides --write out" + more)  # over the older file
+        assert (found, said.splitlines()[2]) == (status, "ldvbi-side: out/a.tbc: whole: " + whole)
     os.unlink(archive.named("sides/b.efm"))
     assert archive.run_words("scan -j1 --csv sides --write less")[0] == 0
     assert archive.names("less") == ["a.pcm", "a.stretches.csv", "a.tbc", "a.tbc.json"]
     os.unlink(archive.named("sides/b.tbc"))
-    assert archive.run_words("scan -j1 --csv sides --write none")[0] == 1 and archive.names("none") == []
+    assert archive.run_words("scan -j1 --csv sides --write none")[::2] == (1, "") and archive.names("none") == []
 
 
 def test_what_is_not_written(archive):
@@ -69,7 +78,8 @@ def test_what_is_not_written(archive):
     draw(archive.named("sides/d.tbc"), OTHER, losing(OTHER.order, (OTHER.at[9], 4)))
     archive.metadata("sides/b.tbc.json")
     status, _, said = archive.run_words("scan -j1 --csv sides --write out")
-    assert status == 2 and said.splitlines()[1] == (
+    first, second, *_ = said.splitlines()
+    assert status == 2 and first.endswith(" and about 53 MB are needed for 2 sides") and second == (
         "ldvbi-side: out/a.tbc: sides/b.tbc has 56 whole fields, and sides/b.tbc.json has 0")
     assert archive.names("out") == ["c.efm", "c.pcm", "c.stretches.csv", "c.tbc", "c.tbc.json"]
     assert places_in(archive.named("out/c.tbc"), OTHER) == inside(OTHER)
@@ -79,8 +89,20 @@ def test_what_is_not_written(archive):
     archive.write("sides/b.vbi.json", archive.extracted("sides/b.tbc"))
     for name in "bcd":
         os.unlink(archive.named("sides/%s.tbc" % name))
-    status, text, _ = archive.run_words("scan -j1 sides --write none")
-    assert "join sides/a.tbc sides/b.vbi.json" in text and (status, archive.names("none")) == (1, [])
+    status, text, said = archive.run_words("scan -j1 sides --write none")
+    assert "join sides/a.tbc sides/b.vbi.json" in text and (status, said, archive.names("none")) == (1, "", [])
+
+
+def test_padding_is_as_black_as_the_first_capture(archive):
+    """Whatever a table says of the others. Both lack pictures 9 to 11."""
+    draw(archive.named("sides/b.tbc"), ONE, losing(ONE.order, (ONE.at[9], 6)), jitter=1)
+    archive.write("table.csv", "side,black\nsides/a.tbc,16000\n")
+    os.makedirs(archive.named("out/a.tbc"))
+    status, _, said = archive.run_words("scan -j1 sides --sides table.csv --write out")
+    assert (status, said.splitlines()[2:]) == (2, ["ldvbi-side: out/a.tbc is no file"])
+    os.rmdir(archive.named("out/a.tbc"))
+    assert archive.run_words("scan -j1 sides --sides table.csv --write out")[0] == 1
+    assert archive.read("out/a.tbc")[16 * SIZE:22 * SIZE] == (16000).to_bytes(2, "little") * (3 * SIZE)
 
 
 def test_maps_and_chapters(archive):
@@ -89,7 +111,8 @@ def test_maps_and_chapters(archive):
     os.rename(archive.named("sides"), archive.named("more/sides"))
     archive.add("more/none.tbc", "b1..30 O")  # without chapters
     archive.scan("-j1 --html pages more")
-    status, _, said = archive.scan("-j1 --csv --html pages --map maps --chapters chapters more")
+    archive.scan("-j1 --html pages --map maps more")
+    status, _, said = archive.scan("-j1 --csv --html pages --chapters chapters more")
     assert (status, said) == (1, "ldvbi-side: no chapter of the side is believed: chapters/none.ffmeta isn't written\n")
     assert [archive.names(name) for name in ("maps", "maps/sides", "chapters", "chapters/sides")] == [
         ["none.map", "sides"], ["a.map", "b.map", "c.map"], ["sides"], ["a.ffmeta", "b.ffmeta", "c.ffmeta"]]
@@ -112,10 +135,15 @@ def test_options_of_single_sides(drawn):
             (found.replace("60,,", "60,--open-end,", 1), ["yes", "yes", "can't tell"]),
             ("\ufeffside,open_end,meta\r\n./open.tbc,yes,\r\n\r\ndark.tbc,no,other.json\r\n",
              ["can't tell", "yes", "yes"]),
-            ("side,last,white\nopen.tbc,30,\na b.tbc,31,\ndark.tbc,,30000\n", ["no", "yes", "yes"])):
+            ("side,last,white\nopen.tbc,30,\na b.tbc,31,\ndark.tbc,,30000\n", ["no", "yes", "yes"]),
+            ("side,open_end\nopen.tbc,1\na b.tbc,true\ndark.tbc,0\n", ["yes", "can't tell", "yes"]),
+            ("side,open_end\nopen.tbc,\na b.tbc,false\ndark.tbc,no\n", ["can't tell"] * 3)):
         drawn.write("table.csv", table)
-        text = drawn.scan(*words, "--sides", "table.csv")[1]
-        assert [row["whole"] for row in csv.DictReader(text.splitlines())] == wanted, table
+        _, text, said = drawn.scan(*words, "--sides", "table.csv")
+        assert ([row["whole"] for row in csv.DictReader(text.splitlines())], said) == (wanted, ""), table
+    drawn.write("table.csv", "side,white\nopen.tbc,\ndark.tbc,30000\n")
+    text = drawn.scan(*words, "--open-end", "--sides", "table.csv")[1]
+    assert [row["whole"] for row in csv.DictReader(text.splitlines())] == ["yes"] * 3
 
 
 # Tables that are refused, and why
@@ -131,6 +159,8 @@ BAD = r"""
         | line 2, column last: argument --last: neither a picture number nor a time h:mm, h:mm:ss or h:mm:ss.pp:
         'chapter 3'
     side,try\nside.tbc,--html x\n | line 2, column try: unrecognized arguments: --html x
+    side,try\nside.tbc,--whit 1\n | line 2, column try: unrecognized arguments: --whit 1
+    side,try\nside.tbc,-h\n | line 2, column try: unrecognized arguments: -h
     side,try\nside.tbc,'\n | line 2, column try: No closing quotation
     side,white\nside.tbc\n | line 2 has 1 columns, and the first line 2
     side,white\nside.tbc,1\n./side.tbc,1\n | line 3, column side: ./side.tbc stands in line 2, too
@@ -146,9 +176,10 @@ def test_bad_tables(room):
     room.write("sides.csv", 'side\n"%s"\n' % ("x" * 200000))
     room.refused("sides.csv: field larger than field limit (131072)", "scan side.tbc --sides sides.csv")
     room.refused("absent: No such file or directory", "scan side.tbc --sides absent")
-    room.write("sides.csv", "side,white\nno.tbc,1\n")
-    assert room.scan("--csv side.tbc --sides sides.csv")[1:] == (
-        room.scan("--csv side.tbc")[1], "ldvbi-side: sides.csv: 1 of its sides isn't in this scan\n")
+    for others, said in ((b"\xff.tbc,1\n", "1 of its sides isn't"), (b"a.tbc,1\nb.tbc,1\n", "2 of its sides aren't")):
+        room.write("sides.csv", b"side,white\n" + others)
+        assert room.scan("--csv side.tbc --sides sides.csv")[1:] == (
+            room.scan("--csv side.tbc")[1], "ldvbi-side: sides.csv: %s in this scan\n" % said)
     for words in ("--sides ''", "--write ''", "--map ''", "--chapters ''"):
         assert room.scan("side.tbc " + words)[0] == 2
 
@@ -167,7 +198,22 @@ def test_a_page_of_a_side_with_options_of_its_own(room):
     os.utime(room.named("other.json"))
     assert [scan(words, not_read), scan(words, scanned)] == [2, 0]
     room.write("sides.csv", "side,white\n%s,51000\n" % room.path)
-    assert scan(words, not_read) == 2
+    assert [scan(words, not_read), scan(words, scanned), scan(words, not_read)] == [2, 0, 0]
+
+
+def adds(task):
+    """Writes more to the file that keeps the name of a page, and reads no side."""
+    with open(task.page, "ab") as file:
+        file.write(b"\xff")
+    raise ValueError("it is added to")
+
+
+def test_a_page_of_somebody_else(room):
+    """What stands where a scan kept the name of a page stays, if it isn't the scan's."""
+    room.add("1.tbc")
+    with contextlib.chdir(room.folder):
+        assert scan(["--html", "pages", "1.tbc"], adds) == 2
+    assert room.read("pages/1.html")[-3:] == b">\n\xff"
 
 
 def test_packed_sides(room):

@@ -257,7 +257,11 @@ def test_what_is_printed_and_written(drawn):
     drawn.metadata("other.tbc.json")
     words, head = "join side.vbi.json other.tbc ", (
         "together: whole: no: 16 pictures lack fields (0 to 15); too few numbers to judge by")
-    assert drawn.run_words(words)[1].split("\n")[:3] == [head, "together: pictures 0 to 15, none lost", NOTHING_SHOWS]
+    lines = drawn.run_words(words)[1].split("\n")
+    assert lines[:3] == [head, "together: pictures 0 to 15, none lost", NOTHING_SHOWS]
+    assert [line.split(":")[0] for line in lines[3:]] == [
+        "side.vbi.json", "better in side.vbi.json", "other.tbc", "better in other.tbc", "alike", "lacking in all",
+        "disagreements", "as one file", ""]
     for option, *wanted in (
             ("--csv", "number,source,field,frame,how", "0,side.vbi.json,1,1,read", "11,side.vbi.json,12,6,read",
              "12,other.tbc,7,4,read", "15,other.tbc,10,5,read", ""),
@@ -265,8 +269,8 @@ def test_what_is_printed_and_written(drawn):
              "11,11,side.vbi.json,12,12,whole", "12,12,other.tbc,7,7,whole", "15,15,other.tbc,10,10,whole", "")):
         rows = drawn.printed(words + option, said="ldvbi-side: %s\n" % NOTHING_SHOWS).decode().split("\n")
         assert [*rows[:2], *rows[12:14], *rows[16:]] == wanted
-    drawn.printed(words + "--map side.map --chapters side.txt", said="ldvbi-side: no chapter of the side is believed: "
-                  "side.txt isn't written\n")
+    assert drawn.printed(words + "--chapters side.txt", said="ldvbi-side: no chapter of the side is believed: side.txt "
+                         "isn't written\n") + drawn.printed(words + "--map side.map") == b""
     head_rows = ["%s,%d,1,1,side,%s" % (kind, value, name)
                  for name, fields in (("side.vbi.json", 12), ("other.tbc", 10))
                  for kind, value in (("black", 16384), ("white", 51200), ("fields", fields))]
@@ -275,10 +279,10 @@ def test_what_is_printed_and_written(drawn):
     assert [rows[0], rows[1], rows[9], rows[24], rows[25]] == [
         "kind,number,field,frame,how,source", "system,NTSC,1,1,side,side.vbi.json", "picture,0,1,1,read,side.vbi.json",
         "picture,15,10,5,read,other.tbc", ""]
-    for option, printed in (("", b""), ("--json ", drawn.printed(words + "--json"))):
-        assert drawn.printed(words + option + "--html page.html") == printed
+    for page, option, printed in (("one", "", b""), ("two", "--json ", drawn.printed(words + "--json"))):
+        assert drawn.printed(words + option + "--html " + page) == printed
         assert ('<h1>side.vbi.json, other.tbc</h1>\n<div class="no">together: whole: no<ul><li>16 pictures lack fields '
-                "(0 to 15)</li><li>too few") in drawn.text("page.html").replace("<wbr/>", "")
+                "(0 to 15)</li><li>too few") in drawn.text(page).replace("<wbr/>", "")
     for option in ("--csv --map -", "--html - --map -"):
         assert drawn.run_words(words + option)[2].endswith("error: standard output takes one thing\n")
     assert drawn.printed(words + "--map -").decode() == drawn.text("side.map")

@@ -15,8 +15,9 @@ import ldvbi
 from ldvbi_side.command.faults import fault_text, naming
 from ldvbi_side.command.parsers import parser_of_side, parsers
 from ldvbi_side.command.statuses import MEANINGS, statuses_of
+from ldvbi_side.draw.index import head_of
 import pytest
-from room import in_database, IN_PLACE, NO_METADATA
+from room import buffered, in_database, IN_PLACE, NO_METADATA
 from streams import TOP
 
 NOT_JSON = "not JSON: line 1 is wrong from column 1 on"
@@ -71,7 +72,7 @@ REFUSED = """
     side.vbi.json --plot-line 1 17 | side.vbi.json is a document, and --plot-line is for a TBC file
     side.tbc --meta meta.json | meta.json: No such file or directory || side.vbi.json --map absent/out | ABSENT
     side.vbi.json -o absent/out | ABSENT || join side.vbi.json side.tbc | NONE || join other.tbc side.tbc HALF | NONE
-    side.vbi.json --html absent/out | ABSENT || join side.vbi.json side.vbi.json --white 51200 | side.vbi.json: OPTIONS
+    side.vbi.json --html absent/out | ABSENT
     join other.tbc side.vbi.json --html absent/out | ABSENT || side.vbi.json --svg side.vbi.json | =side.vbi.json
     join side.vbi.json other.tbc --html other.tbc.json | =other.tbc.json || side.vbi.json --svg new --map new | =new
     join side.tbc other.tbc --meta other.tbc.json --html meta | =meta || other.tbc --svg copy --into copy | =copy
@@ -79,6 +80,8 @@ REFUSED = """
     side.tbc LEVELS --document -o side.tbc | =side.tbc || other.tbc --meta rows.db --into rows.db-wal | =rows.db-wal
     other.tbc -o other.tbc.json | =other.tbc.json || other.tbc --meta rows.db --into rows.db-journal | =rows.db-journal
     other.tbc --meta rows.db --into rows.db-shm | =rows.db-shm
+    join side.vbi.json same.vbi.json --white 51200 | side.vbi.json: OPTIONS
+    write out.tbc /dev/null --meta other.tbc.json | /dev/null is no file that can be mapped
     other.tbc --into other.tbc | =other.tbc || other.tbc --meta rows.db --into rows.db | =rows.db
 """
 # What stands for parts of that
@@ -95,6 +98,7 @@ def test_refused(drawn):
     in_database(drawn.named("rows.db"), "CREATE TABLE capture (system, black_16b_ire, white_16b_ire)",
                 "INSERT INTO capture VALUES ('NTSC', 16384, 51200)")
     os.link(drawn.named("other.tbc.json"), drawn.named("hard"))
+    os.link(drawn.named("side.vbi.json"), drawn.named("same.vbi.json"))
     os.symlink("other.tbc.json", drawn.named("meta"))
     for name in ("my sides", "folder"):
         os.mkdir(drawn.named(name))
@@ -126,18 +130,22 @@ PACKED = {"gzip": gzip.compress(b"video"), "bzip2": bz2.compress(b"video"), "xz"
 COMPRESSED = """
     my side.tbc.gz | 'my side.tbc.gz' | gzip: zcat 'my side.tbc.gz' ! META 'my side.tbc.json' ! ldvbi-side -
     s.tbc | s.tbc LEVELS | bzip2: bzcat s.tbc ! ldvbi extract --system NTSC --black 16384 --white 51200 ! ldvbi-side -
+    s.tbc | s.tbc --system PAL | bzip2: bzcat s.tbc ! META s.tbc.json --system PAL ! ldvbi-side -
     s.tbc | s.tbc --white 5 | bzip2: bzcat s.tbc ! META s.tbc.json --white 5 ! ldvbi-side - || f | f | FLAC: UNPACK
     s.xz | s.xz --meta one.json | xz: xzcat s.xz ! META one.json ! ldvbi-side - || b.tbc.gz | b.tbc.gz | gzip: UNPACK
     s.zst | s.zst | zstd: zstdcat s.zst ! META s.json ! ldvbi-side -
     s.lzma | s.lzma | lzma: lzcat s.lzma ! META s.json ! ldvbi-side - || m.json | side.tbc --meta m.json | gzip: UNPACK
     s.zip | s.zip | zip: unzip -p s.zip ! META s.json ! ldvbi-side - || a.gz | a.gz --meta a.db | gzip: UNPACK
+    c.tbc.gz | c.tbc.gz | gzip: zcat c.tbc.gz ! META c.tbc.json ! ldvbi-side -
+    a.gz | write out.tbc a.gz --meta b.tbc.db | gzip: UNPACK
     s.json.gz | s.json.gz | gzip: zcat s.json.gz ! ldvbi-side - || b.json | join side.vbi.json b.json | gzip: UNPACK
 """
 
 
 def test_compressed_files(drawn):
     """Of a side alone the message has the command that reads it."""
-    drawn.write("b.tbc.db", b"")
+    for name in ("b.tbc.db", "c.tbc.db", "c.tbc.json"):
+        drawn.write(name, b"")
     table = COMPRESSED.replace("META", "ldvbi extract --meta").replace("UNPACK", "unpack it first")
     for name, words, said in cells_of(table):
         form, said = said.replace("!", "|").split(": ", 1)
@@ -155,6 +163,30 @@ def test_standard_input(drawn):
             ("-", b"", "standard input: " + NOT_JSON)):
         with open(drawn.write("in", data), "rb") as file:
             assert drawn.run_command(words, stdin=file) == (2, b"", "ldvbi-side: %s\n" % text)
+
+
+def test_a_document_on_standard_input(drawn):
+    """It is read as a file is, and messages name it; a page of it has no path."""
+    drawn.write("cut.tbc", drawn.read("side.tbc") + b"x" * 7)
+    path = drawn.write("cut.vbi.json", drawn.extracted("cut.tbc"))
+    drawn.metadata("meta.json", count=12)
+    for words in ("--csv --html page.html", "--meta meta.json --into copy.json --as-read"):
+        status, text, said = drawn.run_command("cut.vbi.json " + words)
+        assert (status, said[:24]) == (3, "ldvbi-side: cut.vbi.json")
+        with open(path, "rb") as file:
+            found = drawn.run_command("- " + words, stdin=file)
+        assert found == (3, text, said.replace("cut.vbi.json", "standard input"))
+    assert head_of(drawn.named("page.html"))[1]["side"] is None
+    with open(path, "rb") as file, open(path, "ab") as same:
+        assert drawn.run_command("- --csv", stdin=file, stdout=same) == (
+            2, None, "ldvbi-side: %s\n" % IN_PLACE % "standard output")
+
+
+@pytest.mark.parametrize("words", ("--help", "side.vbi.json --csv"))
+def test_a_full_device_takes_nothing(drawn, words):
+    with open("/dev/full", "wb") as full:
+        assert drawn.run_command(words, env=buffered(), stdout=full) == (
+            2, None, "ldvbi-side: standard output: No space left on device\n")
 
 
 def test_documents_and_metadata(drawn):
@@ -177,6 +209,7 @@ def test_documents_and_metadata(drawn):
 def test_a_name_stands_once():
     for error, text in ((ValueError("wrong"), "a.json: wrong"), (ValueError("a.json: wrong"), "a.json: wrong"),
                         (OSError("no library"), "no library"), (OSError(5, "Failed"), "[Errno 5] Failed: 'a.json'"),
+                        (OSError(5, "Failed", "b"), "[Errno 5] Failed: 'b'"),
                         (UnicodeDecodeError("utf-8", b"\xff", 0, 1, ""), "a.json: no text in UTF-8")):
         with pytest.raises((ValueError, OSError)) as caught, naming("a.json"):
             raise error
@@ -229,13 +262,15 @@ def test_each_option_and_command(statuses):
 
 
 def test_what_is_printed_alone(statuses):
-    """The version, and the summary of a side without an option."""
+    """The version, the help, and the summary of a side without an option."""
     status, text, said = statuses.run_words("--version")
     assert (status, said) == (0, "")
     assert re.search(r"^ldvbi-side %s\nlibrary [0-9.]+ \([a-zR, ]+\): /.*libldvbi\.so\.2\n\Z" %
                      re.escape(ldvbi.__version__), text)
     for name in SIDES:
         assert statuses.run_words(name) == statuses.run_words(name, "--summary")
+    for command, parser in parsers("ldvbi-side").items():
+        assert statuses.run_words(*command.split(), "--help") == (0, parser.format_help(), "")
 
 
 def test_the_table():

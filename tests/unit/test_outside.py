@@ -22,7 +22,7 @@ import discs
 import ldvbi_side
 from ldvbi_side import outside
 from ldvbi_side.__main__ import main
-from ldvbi_side.command import outputs
+from ldvbi_side.command import main as command, outputs
 from ldvbi_side.command.outputs import whole_file, whole_files, whole_path
 from ldvbi_side.draw.index import faults_in, head_of, index_of, PART
 from ldvbi_side.draw.page import MARK
@@ -38,7 +38,7 @@ NAME = os.fsdecode(b"\x1b[31m\n\xff\x7f\xc2\x9f") + "\ufffe\uffff\U0001ffff ü\u
 @contextlib.contextmanager
 def whole_one(path):
     """One of several paths."""
-    with whole_files([path]) as parts:
+    with whole_files([path], ["-wal"]) as parts:
         yield parts[0]
 
 
@@ -152,6 +152,15 @@ def test_one_that_is_dropped_before_the_command_ends(signals):
     signals()
     with mock.patch("ldvbi_side.command.main.main", command), mock.patch("ldvbi_side.__main__.drop_standard_output"):
         assert (main([]), signal.getitimer(signal.ITIMER_REAL)) == (130, (0, 0))
+
+
+@pytest.mark.parametrize("number", ("0", "none"))
+def test_one_that_is_dropped_within_a_run(signals, number):
+    """The run ends by it, whatever its answer or its fault is."""
+    signals()
+    with mock.patch("ldvbi_side.command.main._run", lambda _: (dropped(signal.SIGTERM), int(number))), \
+            pytest.raises(outside.Stopped):
+        command.main(["side.tbc"])
 
 
 @pytest.mark.parametrize("write", WRITERS)
@@ -283,6 +292,7 @@ def test_each_is_written(room, name):
     """A part has its file's name where that fits in 255 bytes, else as much as does, and digits that are its own."""
     fits = "n" * (255 - len(outputs._part_by("", 1)))
     assert re.fullmatch(r"\.ldvbi-%s\.[0-9a-f]{8}-1\.part" % fits, outputs._part_by(fits, 1))
+    assert re.fullmatch(r"\.ldvbi-n{223}(\.[0-9a-f]{8}){2}-1\.part", outputs._part_by("n" * 255, 1))
     assert outputs._part_by(name[:-1] + "x", 1) != outputs._part_by(name, 1)
     path = room.named(name)
     with whole_file(path) as file:
@@ -298,6 +308,16 @@ def test_each_is_written(room, name):
         assert room.names() == [name]
 
 
+@pytest.mark.parametrize("write", (*WRITERS, whole_one))
+def test_a_sudden_end(room, write):
+    """Nothing is left of what isn't complete then, nor of what is beside it."""
+    with pytest.raises(FileNotFoundError), write(room.path) as part:
+        for end in ("", "-wal") * (write is whole_one):
+            room.write(part + end, "new")
+        outputs._drop_own()
+        assert room.names() == []
+
+
 def test_what_processes_left_that_are_gone(room):
     """Those of this machine alone, and nothing that only looks so; a process may be somebody else's."""
     part = os.path.basename(outputs._part_by("page.html", os.getpid()))
@@ -308,7 +328,7 @@ def test_what_processes_left_that_are_gone(room):
     os.mkdir(room.named(left.replace("page", "base")))
     for name in (*kept, left, left.replace("page", "base") + "/part"):
         room.write(name, "")
-    with mock.patch("os.kill", side_effect=PermissionError):
+    with mock.patch("os.getpgid", side_effect=PermissionError):
         outputs.drop_parts(room.folder)
         assert left in room.names()
     outputs.drop_parts(room.folder)

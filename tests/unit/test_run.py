@@ -28,6 +28,7 @@ TAKEN = """
     side.tbc --seek 4 | 0 | field 5, frame 2 | - || side.tbc LEVELS --seek 4 | 0 | field 5, frame 3 | -
     side.tbc --meta other.json LEVELS --seek 4 | 0 | field 5, frame 2 | -
     side.tbc --meta other.json --seek 4 | 1 | - | not found: no number of the side is believed
+    side.vbi.json --seek 4 | 0 | field 5, frame 3 | -
     side.vbi.json --seek 12 | 1 | - | not found: the numbers end at 11, in field 12
     side.vbi.json --meta side.tbc.json --seek 4 | 0 | field 5, frame 2 | -
     side.vbi.json --meta none.json --seek 4 | 0 | field 5, frame 3 | none.json has no isFirstField for each field
@@ -65,8 +66,9 @@ def test_the_library_is_needed(drawn):
 def test_metadata_is_taken(drawn):
     """That beside the TBC file is where options leave something open; and a number of fields is compared."""
     for name, count, more in (
-            ("side.tbc", 12, {}), ("other", 12, {"black16bIre": 60000, "white16bIre": 60001}), ("none", None, {}),
-            ("more", 14, {}), ("count", None, {"numberOfSequentialFields": 11})):
+            ("side.tbc", 12, {}), ("side.vbi.json", 12, {}), ("none", None, {}), ("more", 14, {}),
+            ("other", 12, {"black16bIre": 60000, "white16bIre": 60001}),
+            ("count", None, {"numberOfSequentialFields": 11})):
         drawn.metadata(name + ".json", count=count, **more)
     drawn.write("cut.tbc", drawn.read("side.tbc") + b"x" * 7)
     for words, status, text, said in cells_of(TAKEN):
@@ -76,6 +78,7 @@ def test_metadata_is_taken(drawn):
     known = json.loads(drawn.run_command("cut.tbc --meta count.json --json")[1])
     assert (known["metadataFields"], known["frameBegin"]) == (11, 1)
     assert drawn.printed("side.tbc --white 51200 --document") == drawn.document
+    assert drawn.printed("side.tbc LEVELS --document --recovered")[:12] == b'{"version":3'
     os.rename(drawn.named("side.tbc.json"), drawn.named("side.tbc.db"))
     assert drawn.printed("side.tbc --document") == drawn.document
 
@@ -308,7 +311,7 @@ def test_in_a_function_whose_exceptions_are_dropped(drawn):
 
 
 def test_progress(drawn):
-    """None of documents, where nobody looks, or between the lines of a document."""
+    """None of documents, where nobody looks, or between the lines of a document. What isn't judged is read once."""
     for words in ("--summary", "--document", "--document -o out"):
         shown, text = drawn.on_terminal(int(words == "--summary"), "side.tbc LEVELS " + words)
         assert shown.startswith("\r0 of 12 fields, 0 %\x1b[K")
@@ -316,6 +319,8 @@ def test_progress(drawn):
         assert drawn.run_command("side.tbc LEVELS " + words)[1:] == (text, "")
     assert drawn.read("out") == drawn.document
     assert drawn.on_terminal(0, "side.vbi.json --seek 3")[0] == ""
+    drawn.metadata("meta.json", count=12)
+    assert drawn.on_terminal(0, "side.tbc --meta meta.json --into copy --as-read")[0].count("\r0 of 12 fields") == 1
     shown, _ = drawn.on_terminal(0, "side.tbc LEVELS --document", is_output_on_it=True)
     assert shown.replace("\r\n", "\n").encode() == drawn.document
 
@@ -359,6 +364,8 @@ def test_names(drawn, encoding, shown):
     drawn.write(name, drawn.document)
     status, text, _ = drawn.run_command("join", "--csv", name, name, env=dict(os.environ, PYTHONIOENCODING=encoding))
     assert (status, text.split(b"\n")[1]) == (0, b"0,%s.vbi.json,1,1,read" % shown)
+    drawn.printed("join", "--map", "map", name, name)
+    assert b",\xc3\xbc\xff.vbi.json\n" in drawn.read("map")
     drawn.refused("\\x1b[31m\\n\\udcff: No such file or directory", os.fsdecode(b"\x1b[31m\n\xff"))
     drawn.refused("a file without a name: No such file or directory", "")
     drawn.write("-x", drawn.document)

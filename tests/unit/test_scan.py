@@ -151,12 +151,16 @@ def test_sides_of_two_scans(room):
         "pages/index.html")
     assert "<h1>cav/<wbr/>1.<wbr/>tbc</h1>" in room.text("pages/cav-1-2.html")
     os.unlink(room.named("nas/odd.vbi.json"))  # which has no page
-    # a page of another version isn't listed, nor is an index, or what says the same elsewhere
+    # a page of another version isn't listed, nor is an index, or what says the same elsewhere; one without a path is
+    with open(room.write("document", room.extracted("more/lost.tbc")), "rb") as file:
+        room.run_command("- --html pages/piped.html", stdin=file)
     text = room.text("pages/cav-1.html").replace("nas/cav", "nas/x")
     room.write("pages/other.html", text.replace("{&quot;version&quot;: 3", "{&quot;version&quot;: 2"))
     room.write("pages/elsewhere.html", text.replace("<meta name", "<link name"))
     room.scan("--html pages more")
-    assert [whole for _, whole, _ in listed(room)] == ["no", "yes", "yes", "gone"]
+    assert [one[:2] for one in listed(room)] == [
+        ("-@piped.html", "no"), ("lost.tbc@lost.html", "no"), ("../more/cav/1.tbc@cav-1-2.html", "yes"),
+        ("../nas/cav/1.tbc@cav-1.html", "yes"), ("clv/1.tbc@clv-1.html", "gone")]
 
 
 def page_of(room):
@@ -206,8 +210,9 @@ def test_options(drawn):
     for side, words in (("open", "--open-end"), ("dark", "--white 30000"), ("dark", "--meta other.json")):
         for given, whole in (("", "can't tell"), (words, "yes"), ("", "can't tell")):
             assert drawn.row("--html pages %s %s.tbc" % (given, side)).startswith("%s.tbc,%s,0,0," % (side, whole))
-    rows = drawn.scan("--csv LEVELS side.tbc side.vbi.json")[1].split("\n")
-    assert [row.split(",")[1] for row in rows[1:-1]] == ["no", "no"]
+    drawn.write("empty.tbc", b"")
+    rows = drawn.scan("--csv LEVELS side.tbc side.vbi.json empty.tbc")[1].split("\n")
+    assert [row.split(",")[1] for row in rows[1:-1]] == ["can't tell", "no", "no"]
 
 
 def test_copies(drawn):
@@ -255,6 +260,7 @@ PAGES = (
     ("nas/cav/side1.tbc nas/clv/side1.tbc b.vbi.json c.tbc.gz d", "",
      "nas-cav-side1.html nas-clv-side1.html b.html c.html d.html"),
     ("a-b.tbc a/b.tbc A/b.tbc a-b-2.tbc", "", "a-b.html a-b-2.html A-b-3.html a-b-2-2.html"),
+    ("a.tbc", "c.html:/1 b.html:/1", "b.html"),
     ("a.tbc b.tbc .tbc index.tbc", "a.html:/2 b.html:/3 c.html:", "a-2.html a.html b.html index-2.html"),
     (LONG + " " + LONG, "side.html:", "ü" * 100 + ".html " + "ü" * 100 + "-2.html"))
 
@@ -317,7 +323,7 @@ def test_refused(drawn):
                         ("side.tbc/pages/deep: Not a directory", "side.tbc --html side.tbc/pages/deep"),
                         ("absent: No such file or directory", "side.tbc --meta absent"),
                         ("side.vbi.json: a document has its system and levels; they are options for a TBC file",
-                         "side.vbi.json LEVELS")):
+                         "z.vbi.json side.vbi.json LEVELS")):
         drawn.refused(text, "scan " + words)
     assert drawn.row("--into copies side.tbc").split(",")[-3] == "copies/side.tbc.json is no file"
     status, text, said = drawn.scan("--csv sides")

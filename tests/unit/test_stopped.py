@@ -2,7 +2,6 @@
 status is as documented, nothing is said, and nothing unfinished is left. `STOPPED_RUNS` has how many runs there are.
 How scans end whose processes don't: killed, interrupted, or without a reader; and what a terminal shows of a run."""
 
-import atexit
 import contextlib
 import io
 import itertools
@@ -17,11 +16,10 @@ from unittest import mock
 
 from compact import words_of
 from ldvbi_side import outside
-from ldvbi_side.command import processes
 from ldvbi_side.command.folders import Found, sides_in
 from ldvbi_side.command.outputs import _part_by
-from ldvbi_side.command.processes import Ended, SideBySide
-from ldvbi_side.command.progress import Progress, SidesProgress
+from ldvbi_side.command.processes import SideBySide
+from ldvbi_side.command.progress import heard_by, PAUSE, Progress, SidesProgress
 from ldvbi_side.command.scan import scan
 import pytest
 from room import buffered, children, command_of, DEADLINE, in_database
@@ -188,6 +186,11 @@ def test_one_side_fails_and_the_others_are_read(room):
         room.ended(process, 2, b"./2.vbi.json,fault,,,,,,,,,,,its process was ended by SIGKILL,,\n"
                                b"./3.tbc,yes,0,0,cav,1,30,30,0,1,61,,,NTSC,\n")
     assert room.names("pages") == ["1.html", "3.html", "index.html"]
+    process = scanning(room, "--html pages . 2.vbi.json")  # of which two have pages
+    assert process.stdout.readline() == b"./1.tbc,yes,0,0,cav,1,30,30,0,1,61,,,NTSC,\n"
+    room.opened_by(process, "2.vbi.json").close()
+    room.ended(process, 2, b"./2.vbi.json,fault,,,,,,,,,,,not JSON: line 1 is wrong from column 1 on,,\n"
+                           b"./3.tbc,yes,0,0,cav,1,30,30,0,1,61,,,NTSC,\n")
     process = scanning(room, "-j 2 . 2.vbi.json")
     process.stdout.close()  # there is no reader any longer
     assert (process.wait(DEADLINE), process.stderr.read()) == (2, b"")
@@ -211,52 +214,6 @@ def test_while_a_page_is_written(room, number, to_all, status, row, left):
     (os.killpg if to_all else os.kill)(one if row else process.pid, number)
     room.ended(process, status, row)
     assert (command_of(one), room.names("pages")) == (b"", left)
-
-
-def ignores(task, tell):
-    """A job that doesn't end by itself, and doesn't let itself be ended."""
-    signal.signal(signal.SIGTERM, signal.SIG_IGN)
-    tell(task)
-    time.sleep(DEADLINE)
-
-
-def tidies(task, tell):
-    """A job that signals reach while its process ends, after a first one, or by itself, as it took much memory."""
-    processes._peak = lambda: 1 << 60
-    for end in (lambda: tell([]), lambda: os.kill(os.getpid(), signal.SIGHUP),
-                lambda: os.kill(os.getpid(), signal.SIGTERM)):  # the last one comes first
-        atexit.register(end)
-    os.kill(os.getpid(), task)
-
-
-def tells(_, tell):
-    """A job that says in which process it runs."""
-    tell(os.getpid())
-
-
-def test_processes_that_stay_or_end():
-    """One that does several jobs, one that has to be killed, and those that get signals while they end."""
-    ended = []
-    with SideBySide(tells, [1, 2], 1, lambda *one: ended.append(one)) as messages:
-        first, *others = messages
-    assert others == [(0, Ended(0)), (1, first[1]), (1, Ended(0))]
-    assert ended == [(1, first[1]), (2, first[1])]
-    with mock.patch.object(processes, "GRACE", 0.1), \
-            SideBySide(ignores, [3, 4], 1, lambda task, process: ended.append(task)) as messages:
-        assert next(iter(messages)) == (0, 3)
-    assert (ended[2:], children(os.getpid())) == ([3], [])
-    with SideBySide(tidies, [0, signal.SIGHUP], 1, lambda task, process: None) as messages:
-        assert list(messages) == [(0, []), (0, Ended(0)), (1, []), (1, Ended(1))]
-
-
-@pytest.mark.parametrize("before, after", ((1000, 262144), (300000, 300000)))
-def test_how_much_memory_a_process_may_take(before, after):
-    """With 256 MB, or as much as it began with, it goes on to its next job; with more it ends after a job."""
-    connection = mock.Mock(**{"recv.side_effect": [1, 2, EOFError]})
-    with mock.patch.object(processes, "signal"), mock.patch.object(
-            processes, "_peak", side_effect=[before, after, after + 1]):
-        processes._run(lambda task, tell: tell(task), connection)
-    assert [call.args[0] for call in connection.send.call_args_list] == [(False, 1), (True, None), (False, 2)]
 
 
 class Terminal(io.StringIO):
@@ -299,12 +256,18 @@ def run_over(clock, fields, count, step, seconds, is_wanted=True, errors=Termina
 def test_whole_texts(clock):
     long = shown("0 of 200 fields, 0 %", "64 of 200 fields, 32 %, 1:04 left", "128 of 200 fields, 64 %, 0:34 left",
                  "192 of 200 fields, 96 %, 0:04 left", "200 of 200 fields, 100 %", "")
+    each = shown("0 of 3 fields, 0 %", "1 of 3 fields, 33 %, 0:00 left", "2 of 3 fields, 66 %, 0:00 left",
+                 "3 of 3 fields, 100 %", "")
     for run, wanted in (((200, 4, 64, 30.0), long), ((0, 0, 64, 1.0), shown("0 of 0 fields, 100 %", "")),
+                        ((3, 3, 1, PAUSE), each),
                         ((10, 10, 1, 1.0, True, io.StringIO), ""), ((10, 10, 1, 1.0, False), "")):
         assert run_over(clock, *run) == wanted
     assert shown("1 of 1000 fields, 0 %, 166:30 left") in run_over(clock, 1000, 1000, 1, 10.0)
     text = run_over(clock, 1003, 1003, 1, 0.01)
     assert text.count("\r") == 3 + 10 * 5  # the first, the last, the empty line, and five a second
+    heard = []
+    with heard_by(lambda *_: heard.append("outer")), heard_by(lambda *_: heard.append("inner")), Progress(3):
+        assert heard == ["inner"]
     with mock.patch("sys.stderr", None), Progress(3) as progress:
         assert list(progress.over("abc")) == ["a", "b", "c"]
     with mock.patch("sys.stderr", Terminal()) as errors, pytest.raises(KeyboardInterrupt), Progress(10):
@@ -347,9 +310,12 @@ def test_sides_of_both_kinds_in_one_scan(room):
     room.write("2.vbi.json", room.extracted("2.tbc"))
     room.scan("--html pages 3.tbc")
     with mock.patch("ldvbi_side.command.scan.SidesProgress") as progress, contextlib.chdir(room.folder):
-        scan(["-j", "1", "--html", "pages", "1.tbc", "2.vbi.json", "3.tbc"], steps)
-    (one, other), = progress.call_args.args
+        scan(["-j", "1", "--html", "pages", "1.tbc", "2.vbi.json", "3.tbc", "absent.tbc"], steps)
+    (one, other, absent), = progress.call_args.args
     assert 2 < other / one < 4.5
-    assert (one, other) == (os.path.getsize(room.named("1.tbc")) / 600000, len(room.read("2.vbi.json")) / 150)
-    assert [call.args for call in progress().__enter__().reached.call_args_list] == [
-        (side, part) for side in (0, 1) for part in (0.0, 0.99, 1)]
+    assert (one, other, absent) == (os.path.getsize(room.named("1.tbc")) / 600000, len(room.read("2.vbi.json")) / 150,
+                                    0)
+    shown_for_all = progress().__enter__()
+    assert [call.args for call in shown_for_all.reached.call_args_list] == [
+        (side, part) for side in (0, 1, 2) for part in (0.0, 0.99, 1)]
+    assert shown_for_all.clear.call_count == 4  # before each row

@@ -13,7 +13,7 @@ from ldvbi_side.command import write as command
 from ldvbi_side.write import copying, told
 from ldvbi_side.write.stretches import Stretch
 import pytest
-from room import IN_PLACE, in_database
+from room import IN_PLACE, in_database, SIZE
 
 # Cases in which a picture is unsure: the player may have jumped within it, or what is unread may be lead-out's
 AMID = ("a field twice", "unread at the ends", "film, a still without a number")
@@ -104,6 +104,7 @@ def test_options(room):
     draw(room.named("t.tbc"), TIMES, TIMES.order[20:])
     assert room.run_words("write time.tbc t.tbc --from 0:00:00.05")[1].startswith(
         "whole: no: 2 times are padding (0:00:00.05 to 0:00:00.06)")
+    room.refused("--from 0:01: t.tbc has times", "write time.tbc t.tbc --from 0:01")
     assert room.run_words("write o.tbc a.tbc --meta a.tbc.json --recovered")[0] == 1
 
 
@@ -168,9 +169,11 @@ def test_numbers_set_aside_are_no_words(room):
     draw(room.named("a.tbc"), one, one.order)
     assert room.run_words("write out.tbc a.tbc")[0] == 4
     assert entries_of(room.named("out.tbc"))[6]["vbi"]["vbiData"] == [0, one.words[12][1], 0]
-    draw(room.named("two.tbc"), VIDEO, VIDEO.order[6:8])
-    room.run_words("write new.tbc two.tbc")
-    assert room.text("new.tbc.json") == room.text("two.tbc.json").replace('"isMapped": false', '"isMapped": true')
+    name = os.fsdecode(b"two\xff.tbc")
+    draw(room.named(name), VIDEO, VIDEO.order[6:8])
+    room.run_words("write", "new.tbc", name)
+    assert room.text("new.tbc.json") == room.text(name + ".json").replace('"isMapped": false', '"isMapped": true')
+    assert b",two\xff.tbc," in room.read("new.stretches.csv")
 
 
 def test_seams(room):
@@ -278,6 +281,10 @@ def test_refused(room):
 
 def test_refused_databases_and_words(room):
     draw(room.named("b.tbc"), VIDEO, VIDEO.order, form="db")
+    room.write("out.tbc.json", "old")
+    room.refused("out.tbc.json is there, and would be taken for a part of what is written: remove it",
+                 "write out.tbc b.tbc")
+    room.refused("absent: No such file or directory", "write out.tbc b.tbc --meta absent")
     for statements, text in (
             (["CREATE TRIGGER more AFTER INSERT ON vbi BEGIN SELECT 1; END"],
              "its trigger more of the table vbi may write something else"),
@@ -315,12 +322,15 @@ def test_padding_that_is_padding_already(before, after, pads, wanted):
 
 
 def test_a_full_disk(room, monkeypatch):
+    """What 48 fields of 60 need, with a part of what is beside them; a byte less isn't enough."""
     words = drawn(room, "whole")
     before = room.files()
-    monkeypatch.setattr(os, "statvfs", lambda _: os.statvfs_result([4096, 4096, 0, 0, 100] + [0] * 5))
-    status, _, said = room.run_words(words)
-    assert status == 2 and said.endswith(": 0 MB are free, and 24 MB are needed\n")
-    assert room.files() == before
+    needed = int(48 * (SIZE + sum(len(before["a" + end]) for end in (".pcm", ".efm", ".tbc.json")) / 60))
+    for free, status, end in ((20500000, 2, "20 MB are free, and 24 MB are needed\n"), (needed - 1, 2, "\n"),
+                              (needed, 0, "")):
+        monkeypatch.setattr(os, "statvfs", lambda _, free=free: os.statvfs_result([1, 1, 0, 0, free] + [0] * 5))
+        found, _, said = room.run_words(words)
+        assert (found, room.files() == before, said[-len(end):]) == (status, status == 2, end)
 
 
 def changed_after(monkeypatch, change):

@@ -49,7 +49,7 @@ def sides_in(paths: Iterable[str]) -> List[Found]:
     known: Dict[str, Found] = {}
     for one in sorted(found, key=lambda one: one.path.split(os.sep)):
         first = known.setdefault(os.path.realpath(one.path), one)
-        if one.is_named and not first.is_named:
+        if one.is_named:
             known[os.path.realpath(one.path)] = first._replace(is_named=True)
     return list(known.values())
 
@@ -81,7 +81,7 @@ def page_names(sides: Iterable[Tuple[str, str]], known: Mapping[str, Optional[st
     """The names of the pages of sides. The sides are given as pairs of a real path and a name. A side keeps the page
     that it has. `known` are the pages that are there already, each with the real path of its side, or None if that
     isn't known. A new page is named after its side, followed by a number if there is such a page."""
-    own = {side: name for name, side in sorted(known.items(), reverse=True) if side}
+    own = {side: name for name, side in sorted(known.items(), reverse=True)}
     taken, names = set(map(str.casefold, known)) | {INDEX}, []
     for side, name in sides:
         page = own.get(side) or next(page for page in _candidates(name) if page.casefold() not in taken)

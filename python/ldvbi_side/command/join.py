@@ -41,7 +41,7 @@ def join_options(program: str, words: List[str]) -> argparse.Namespace:
     if "" in (*files, options.meta):
         parser.error("a file has to have a name")
     options.is_printed = options.csv or options.ranges or options.json
-    if files.count(STANDARD_OUTPUT) + options.is_printed > 1 and STANDARD_OUTPUT in files:
+    if files.count(STANDARD_OUTPUT) + options.is_printed > 1:
         parser.error("standard output takes one thing")
     refuse_inputs([1, *(None if file == STANDARD_OUTPUT else file for file in files)],
                   [*(file for path in options.sides for file in files_of(path)), options.meta])
@@ -67,7 +67,8 @@ def print_joined(options: argparse.Namespace, captures: List[Capture]) -> int:
     """Prints and draws what these captures have together, as the options ask for it. The answer is the exit status, by
     whether they are whole together if that is what is asked."""
     joined = join(captures)
-    is_alone = not (options.is_printed or _write_files(options, joined, captures))
+    is_written = _write_files(options, joined, captures)
+    is_alone = not (options.is_printed or is_written)
     if (options.csv or options.ranges) and not joined.shown_by:
         say(NOTHING_SHOWS)  # which all other forms have in themselves
     if options.csv:

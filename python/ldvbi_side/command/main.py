@@ -132,7 +132,7 @@ def _options(words, settings=None):
         parser.error("--recovered goes with --document or --into, not with --no-recover")
     if options.as_read and not options.into:
         parser.error("--as-read is of --into")
-    if _files(options).count(STANDARD_OUTPUT) + _is_printed(options) > 1 and STANDARD_OUTPUT in _files(options):
+    if _files(options).count(STANDARD_OUTPUT) + _is_printed(options) > 1:
         parser.error("standard output takes one thing")
     is_open = options.into or None in settings_given(options)
     options.waits = True  # if the side is a pipe

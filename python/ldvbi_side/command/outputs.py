@@ -43,7 +43,7 @@ def whole_file(path: str) -> Iterator[IO[str]]:
         raise_lost()
         _rename(part, target)
     except BaseException:
-        with contextlib.suppress(FileNotFoundError, NotADirectoryError):
+        with contextlib.suppress(OSError):
             os.unlink(part)
         raise
 
@@ -206,7 +206,7 @@ before_sudden_end(_drop_own)
 
 def _is_there(process):
     try:
-        os.kill(process, 0)
+        os.getpgid(process)
     except ProcessLookupError:
         return False
     except OSError:

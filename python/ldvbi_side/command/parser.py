@@ -2,7 +2,6 @@
 
 import argparse
 import os
-import sys
 from typing import IO, Any, List, Optional, Sequence
 
 from ldvbi import System, __version__
@@ -20,7 +19,7 @@ class Parser(argparse.ArgumentParser):
     """One whose help isn't lost without a word if it can't be written."""
 
     def _print_message(self, message: str, file: Optional[IO[str]] = None) -> None:
-        (file or sys.stderr).write(message)
+        print(message, end="", file=file)
 
 
 class Version(argparse.Action):

@@ -88,7 +88,6 @@ class SideBySide:
         except (EOFError, OSError):  # it has ended, perhaps within a message
             worker.process.join()
             del self._workers[connection]
-            connection.close()
             index = self._end(worker)
             if index is not None:
                 yield index, Ended(worker.process.exitcode)
@@ -110,8 +109,7 @@ class SideBySide:
             process = context.Process(target=_run, args=(self._job, theirs), daemon=True)
             process.start()
             self._workers[ours] = _Worker(process)
-        theirs.close()
-        return ours
+        return ours  # the other end is closed here, as nothing refers to it any longer
 
 
 @contextlib.contextmanager
@@ -143,7 +141,7 @@ def _run(job, connection):
     heed(leave)
     signal.pthread_sigmask(signal.SIG_UNBLOCK, _ENDING)
     most = max(MOST_MEMORY, _peak())  # a process begins with what the one that started it took
-    with contextlib.suppress(EOFError, BrokenPipeError, ConnectionResetError):  # nobody listens any longer
+    with contextlib.suppress(EOFError, ConnectionError):  # nobody listens any longer
         while True:
             job(connection.recv(), lambda message: connection.send((False, message)))
             if _peak() > most:

@@ -14,7 +14,8 @@ _listeners: List[Listener] = []
 
 @contextlib.contextmanager
 def heard_by(listener: Listener) -> Iterator[None]:
-    """Has a function get what `Progress` would show, instead of it: how many fields are read, and of how many."""
+    """Has a function get what `Progress` would show, instead of it: how many fields are read, and of how many, unless
+    there are none."""
     _listeners.append(listener)
     try:
         yield
@@ -41,9 +42,6 @@ class Progress:
 
     def over(self, items: Iterable[Item], step: int = 1) -> Iterator[Item]:
         """Yields the items, each with this many fields, and shows how many fields have come with them."""
-        if not self._is_shown:
-            yield from items
-            return
         done = 0
         for item in items:
             yield item
@@ -52,13 +50,14 @@ class Progress:
 
     def reached(self, done: int) -> None:
         """Takes in that so many fields are done."""
-        if self._is_shown and (done == self._fields or time.monotonic() >= self._last + PAUSE):
+        if done == self._fields or time.monotonic() >= self._last + PAUSE:
             self._show(done)
 
     def _show(self, done):
         self._last = time.monotonic()
         if self._listener:
-            self._listener(done, self._fields)
+            if self._fields:
+                self._listener(done, self._fields)
             return
         text = "%d of %d fields, %d %%" % (done, self._fields, 100 * done // self._fields if self._fields else 100)
         if 0 < done < self._fields:

@@ -123,11 +123,11 @@ def _add_fields(side, name, metadata, is_all):
 
 def is_of_another(metadata: Metadata, name: str, count: int, cut: Optional[Cut], is_recovered: bool) -> bool:
     """Whether the metadata has another count of fields than the side with this name, which is said then."""
-    if metadata.fields in (None, count):
+    if metadata.fields is None or metadata.fields == count:
         return False
     rest = " and %d bytes" % cut.bytes if cut else ""
     say("%s: %d fields%s, %s says %d%s: another system, or another file's metadata?" % (
-        name, count, rest, metadata.path, metadata.fields or 0, _unused(metadata, is_recovered)))
+        name, count, rest, metadata.path, metadata.fields, _unused(metadata, is_recovered)))
     return True
 
 

@@ -151,7 +151,7 @@ class _Folder:
                   if row["fault"] is not None]
         with locked(self.path):  # another scan may have written pages meanwhile, and an index
             others = [os.path.join(self.path, name) for name, side in sides_of(self.path).items()
-                      if side and side not in read]
+                      if side not in read]
             faults += [one for one in faults_in(self.index) if one.side not in read and not is_gone(one.side)]
             text = index_of(self.index, [*pages, *filter(is_page, others)], faults, True)
             with whole_file(self.index) as file:
@@ -235,7 +235,7 @@ def _read_side(read, task, tell):
     begin, said = time.time_ns(), None
     notes = io.StringIO()
     try:
-        with heard_by(lambda done, fields: tell(done / fields if fields else 1.0)), contextlib.redirect_stderr(notes):
+        with heard_by(lambda done, fields: tell(done / fields)), contextlib.redirect_stderr(notes):
             for path in task.outputs().values():
                 _refuse_no_file(path)
             said = read(task)

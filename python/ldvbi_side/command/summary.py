@@ -109,7 +109,7 @@ def _lost_texts(lost, unit):
 
 def _lost_text(one, unit):
     """Lost fields with their place. Those of a minute may be lost anywhere in it."""
-    if unit == "minute" and one.fields is not None and one.after and one.before > one.after + 1:
+    if unit == "minute" and one.after and one.before > one.after + 1:
         return "%s, between fields %d and %d" % (lost_text(one), one.after + 1, one.before - 1)
     place = place_text(one.after, one.before)
     return "lost or shown again " + place if one.is_again() else "%s %s" % (lost_text(one), place)

@@ -7,8 +7,7 @@ from typing import Callable, Dict, List, NamedTuple, Optional, Sequence, Tuple, 
 
 from ldvbi import System, field_bytes
 from ldvbi.document import is_document
-from ldvbi.metadata import Metadata, beside, read_metadata, settings_of
-from ldvbi.stream import cut_of
+from ldvbi.metadata import Metadata, read_metadata, settings_of
 from ..answer.entries import Answer
 from ..join.captures import Capture, capture_of
 from ..outside import printable
@@ -27,7 +26,7 @@ from .faults import naming, no_metadata
 from .outputs import refuse_inputs, whole_files
 from .parser import Parser, add_settings, settings_in
 from .progress import Progress
-from .reading import loaded, options_of, source_of
+from .reading import loaded, options_of, settings_given, source_of
 from .statuses import OF_SIDE, statuses_text
 from .tables import print_rows
 
@@ -44,7 +43,7 @@ class _Opened(NamedTuple):
     """A capture: for the plan, and for copying."""
     source: Source
     input: Input
-    levels: Tuple[int, int]
+    black: int
 
 
 def parser_of_write(program: str) -> argparse.ArgumentParser:
@@ -118,7 +117,7 @@ def write_captures(options: argparse.Namespace, settings: Sequence[argparse.Name
         with naming(options.out):
             _write(dict(zip(targets, parts)), made, opened, options)
         refuse_changed(inputs)
-        again, answer = _read_again(dict(zip(targets, parts)), opened[0], options)
+        again, answer = _read_again(dict(zip(targets, parts)), options)
     return _outcome(made, answer, differences(made, again), options.sides)
 
 
@@ -162,10 +161,9 @@ def _opened(path: str, settings: argparse.Namespace, has_recovered: bool) -> _Op
         if len(source) != len(told):
             raise ValueError("%s has %d whole fields, and %s has %d" % (path, len(source), metadata.path, len(told)))
         side = loaded(source, metadata, given)
-        side.may_end = True
         capture = capture_of(side, path)
         return _Opened(Source(capture._replace(samples=None), told.facts(metadata)),
-                       input_of(path, metadata, told, side, states, has_recovered), (source.black, source.white))
+                       input_of(path, metadata, told, side, states, has_recovered), source.black)
 
 
 def _refuse_document(path):
@@ -187,8 +185,9 @@ def _add_rows(told: Told, metadata: Metadata) -> None:
 
 def _targets(out: str, inputs: List[Input]) -> Dict[str, str]:
     """The files to write, by the ends of their names: the TBC file last."""
+    form, = {one.form() for one in inputs}
     found = {end: base_of(out) + end for end in ends_of_sound(inputs)}
-    found.update({inputs[0].form(): out + inputs[0].form(), STRETCHES: base_of(out) + STRETCHES, ".tbc": out})
+    found.update({form: out + form, STRETCHES: base_of(out) + STRETCHES, ".tbc": out})
     return found
 
 
@@ -219,7 +218,7 @@ def _write(parts: Dict[str, str], made: Plan, opened: List[_Opened], options: ar
     inputs, sources = [one.input for one in opened], [one.source for one in opened]
     sizes = {}
     with open(parts[".tbc"], "xb") as new, Progress(made.fields) as progress:
-        for fields in copy_samples(new, made, inputs, opened[0].levels[0]):
+        for fields in copy_samples(new, made, inputs, opened[0].black):
             progress.reached(fields)
     for end in ends_of_sound(inputs):
         with open(parts[end], "xb") as new:
@@ -234,10 +233,10 @@ def _write(parts: Dict[str, str], made: Plan, opened: List[_Opened], options: ar
         print_rows(COLUMNS, rows_of(made, options.sides), table)
 
 
-def _read_again(parts: Dict[str, str], first: _Opened, options: argparse.Namespace) -> Tuple[Capture, Answer]:
+def _read_again(parts: Dict[str, str], options: argparse.Namespace) -> Tuple[Capture, Answer]:
     """The output as a capture, and the judge's answer for it."""
     metadata = read_metadata(parts.get(".json") or parts[".db"])
-    settings = settings_of(metadata, options.system, *first.levels)
+    settings = settings_of(metadata, *settings_given(options))
     with stream_of_tbc(parts[".tbc"], settings, metadata, not options.no_recover) as stream:
         with Progress(len(stream)) as progress:
             side = side_of_stream(stream, progress.over)

@@ -24,8 +24,7 @@ def write_discs(folder: str, discs: Sequence[OneDisc], tasks: Sequence[Task]) ->
     groups = [[by_path[side] for side in one.sides if not side.endswith(".json")] for one in discs]
     groups = [group for group in groups if len(group) > 1]
     make_folder(folder)
-    names = [os.path.splitext(page)[0] + TBC for page in page_names(
-        [(group[0].path, group[0].name) for group in groups], {})]
+    names = [os.path.splitext(page)[0] + TBC for page in page_names([("", group[0].name) for group in groups], {})]
     inputs = [file for task in tasks for file in _files_of(task)]
     if groups:
         say("%s: %d MB are free, and about %d MB are needed for %s" % (
