@@ -66,7 +66,8 @@ static int print_fields(uint32_t system, uint32_t black, uint32_t white) {
     }
     if (ferror(stdin)) return refuse(strerror(errno));
     if (length > 0) return refuse("the last field is cut");
-    return fflush(stdout) == 0 && !ferror(stdout) ? 0 : refuse(strerror(errno));
+    fflush(stdout);
+    return ferror(stdout) ? refuse(strerror(errno)) : 0;
 }
 
 /* A whole number from 0 to 255. */
