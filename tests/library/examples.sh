@@ -232,7 +232,8 @@ check 'player.py: no metadata' answers_so player.py 2 '' '*' "python3 $top/examp
 # Of a side that is read as a whole the pages with lines 16 to 18 are asked for ahead, once; of all that map a side
 # nothing else is read ahead. Of a file on standard input few bytes are read, and of a pipe all; it may begin after the
 # file's first field.
-bounded $cc -std=c99 -Wall -Wextra -Werror -shared -fPIC -o advised.so "$here/advised.c" -ldl
+bounded $cc -std=c99 -Wall -Wextra -Werror -shared -fPIC -I"$top/include" -o advised.so "$here/advised.c" \
+    -ldl
 awk -v fields=129 'BEGIN {
     print "random", 0, 478660 * fields
     for (rows = 15 * 1820; asked++ < fields; rows += 478660) print "asks", rows - rows % 4096, rows + 3 * 1820
@@ -284,6 +285,19 @@ for row in sys.stdin:
         line = drawn(tv, 0 if word == "-" else int(word, 16))
         sys.stdout.buffer.write(bytes(level + chance.randint(-12, 12) for level in line))
 END
+cat > resampled.py << 'END'
+import sys
+WIDTH, WHOLE, BEFORE = {"NTSC": (910, 858, 122), "PAL": (1135, 864, 132)}[sys.argv[1]]
+pixels = sys.stdin.buffer.read()
+for begin in range(0, len(pixels), 720):
+    line = pixels[begin:begin + 720]
+    if begin % 2160 == 0:
+        sys.stdout.buffer.write(b"%d %d " % (16 * 257, 235 * 257))
+    for place, part in (divmod(column * WHOLE, WIDTH) for column in range(WIDTH)):
+        one, other = line[place - BEFORE:][:2] if BEFORE <= place < BEFORE + 719 else (16, 16)
+        level = (one * (WIDTH - part) + other * part) * 257 // WIDTH
+        sys.stdout.buffer.write(level.to_bytes(2, "little"))
+END
 printf '%s\n' '- F00001 F00001' '- - -' '82CFFF F00004 F00004 stop' '- F79999 82CFFF' '8AE712 87FFFF F0DD09' \
     '8BA0A1 807DDD 88FFFF' 'AAAAAA 800000 FFFFFF' > pixels.txt
 for half_cell in 1 0.82; do
@@ -291,9 +305,13 @@ for half_cell in 1 0.82; do
         PYTHONPATH=$PYTHONPATH:$here bounded python3 pixels.py $system $half_cell < pixels.txt > lines.y8
         check "pixels: lines of $system at 13.5 MHz, half cells of $half_cell microseconds" \
             prints 0 "$(cat pixels.txt)" sh -c "./pixels $system 16 235 < lines.y8"
+        bounded python3 resampled.py $system < lines.y8 > resampled
+        rm -f rows.advice
+        bounded env ADVISED=rows.advice LD_PRELOAD="$work/advised.so" ./pixels $system 16 235 < lines.y8 > out
+        check "pixels: each sample of $system, half cells of $half_cell microseconds" cmp rows.advice resampled
     done
 done
-head -c 2159 lines.y8 > part.y8
+head -c 1 lines.y8 > part.y8
 check 'pixels: no line' answers_so pixels 0 '' '' './pixels NTSC 16 235'
 check 'pixels: levels of as many digits, and the highest' answers_so pixels 0 '' '' './pixels NTSC 016 255'
 while IFS='|' read -r words said; do
