@@ -19,7 +19,7 @@ seek='seek seek.py'
 stops='stops stops_cpp'
 player='player player.py'
 whole='whole whole.py'
-for name in seek stops player whole pixels; do
+for name in say seek stops player whole pixels; do
     bounded $cc -std=c99 $strict -o $name "$top/examples/$name.c" $linked
 done
 bounded $cxx -std=c++17 $strict -o stops_cpp "$top/examples/stops.cpp" $linked
@@ -84,7 +84,12 @@ check 'a worn side: no line shows its word' [ "$(jq -c '[.fields[].vbi.vbiData[]
 mkdir folder.tbc
 ln -s /dev/null null.tbc
 bounded python3 "$tests/cli/answers.py" draw misread clock slow rare away scratch dark few || exit 1
+does sh "$top/examples/side.sh" ./missing
+check 'side.sh without its program' [ "$status" = 127 ]
 bounded sh "$top/examples/side.sh" "$program"
+# What the documents show of these sides comes of each of their samples.
+check 'side.sh draws this side, and no other' [ "$(cat side.tbc side.tbc.json | cksum)" = '2606455723 56485998' ]
+check 'sides of twelve fields and of eleven' [ "$(cat cav.tbc | wc -c) $(cat clv.tbc | wc -c)" = '5743920 7815610' ]
 # Parts of sides: so many fields, and bytes of the next one
 for part in stops_4_478659 stops_5_0 stops_5_1 stops_8_32760 ten_18_478659 ten_20_478659 gaps_110_0; do
     fields=${part#*_}
@@ -95,6 +100,21 @@ for side in nowhere folder null empty cav side stops both misread worn stops_4_4
     settles $side $on_cav
 done
 settles clv $on_clv
+
+# A line that shows a picture, a line without a word, one that shows a chapter, and one that lacks a byte
+while read -r field line bytes ending said; do
+    tail -c +$((478660 * (field - 1) + 1820 * (line - 1) + 1)) cav.tbc | head -c $bytes > line.raw
+    printf '%s' "${said:+picture $said
+}" > said
+    does sh -c './say < line.raw' || :
+    check "say: line $line of field $field, $bytes bytes" [ "$status $(cmp out said 2>&1)" = "$ending " ]
+done << END
+7 18 1820 0 3
+7 16 1820 0
+4 17 1820 0
+3 16 1820 0
+7 18 1819 1
+END
 
 # What examples are asked (examples.py)
 cut='the last field is cut: field'
