@@ -33,7 +33,7 @@ WRITTEN = re.compile(r"^[^\w\n]+ from [\w./-]+: \w+\b.*?^[^\w\n]+ to here\b|<!--
 TOLD = re.compile(r'"(?:description|title|\$comment)": ("(?:\\.|[^"])*")')
 WORD = r" ([\w./$(){}%\"'-]+)"
 PLACED = re.compile(r"^[\t ]+@?(?:cd|cp|git|install|ln|mv|python3|rm|sed|sh|tar)\b.*" + 2 * WORD + "$", re.M)
-IN_ANY_ORDER = re.compile(r"\b(?:strcmp|(?:max|min)(?:<\w+>)?)$")  # calls whose arguments are swapped without effect
+IN_ANY_ORDER = re.compile(r"\b(?:strcmp|calloc|(?:max|min)(?:<\w+>)?)$")  # arguments that are swapped without effect
 DECLARED = re.compile(r"^\s*#!?\[|\bfn \w+(?:<[^()]*)?$|^\w[\w *]*$")
 
 

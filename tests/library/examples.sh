@@ -22,7 +22,7 @@ whole='whole whole.py'
 for name in say seek stops player whole pixels; do
     bounded $cc -std=c99 $strict -o $name "$top/examples/$name.c" $linked
 done
-bounded $cxx -std=c++17 $strict -o stops_cpp "$top/examples/stops.cpp" $linked
+bounded $cxx -std=c++17 $strict -D_GLIBCXX_ASSERTIONS -o stops_cpp "$top/examples/stops.cpp" $linked
 for most in player.c:120 seek.c:80; do
     check "${most%:*} has at most ${most#*:} lines" [ "$(wc -l < "$top/examples/${most%:*}")" -le ${most#*:} ]
 done
@@ -286,10 +286,14 @@ check 'seek: a file that cannot be mapped' answers_so seek 2 '' 'no field of the
     "sh -c 'ulimit -v 500000 && exec ./seek great.tbc $on_cav 3'"
 
 # Nobody reads what these print: the pipe is closed before they write. One in C ends so by itself.
-for words in "seek.py cav.tbc $on_cav 3" "player.py long.tbc search 3 play"; do
-    { sleep 1; bounded python3 "$top"/examples/$words 2> err; echo $? > ended; } | :
-    check "${words%% *}: its output isn't read" [ "$(cat ended err)" = 141 ]
-done
+{
+    sleep 1
+    for words in "seek.py cav.tbc $on_cav 3" "player.py long.tbc search 3 play" "whole.py cav.tbc $on_cav"; do
+        bounded python3 "$top"/examples/$words 2> err
+        echo "${words%% *} $? $(cat err)" >> ended
+    done
+} | :
+check 'an output that nobody reads' [ "$(paste -s -d ' ' ended)" = 'seek.py 141  player.py 141  whole.py 141 ' ]
 
 # Lines at 13.5 MHz, drawn by the standards alone, with a little noise: words as the disc has them, and nearly as short
 # as the library takes them, where samples that lie too far apart read nothing. Each begins at another part of a pixel.
