@@ -35,9 +35,9 @@ static Side open_side(const char *path, const char *map) {
     return side;
 }
 static Part read_around(const Side *side, size_t field, size_t reach) { /* and as many before it, as far as they go */
-    size_t bytes = ldvbi_field_bytes(side->system), from = field < reach ? 0 : field - reach;
+    size_t bytes = ldvbi_field_bytes(side->system), from = field < reach ? 0 : field - reach, to = field + reach + 1;
     Part p;
-    p.from = from, p.count = (side->fields - field > reach ? field + reach + 1 : side->fields) - from;
+    p.from = from, p.count = (to < side->fields ? to : side->fields) - from;
     check(ldvbi_recover_fields(side->system, side->black, side->white, side->bytes + from * bytes, p.count * bytes,
                                p.read, p.count));
     return p;

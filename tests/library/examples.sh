@@ -26,17 +26,6 @@ bounded $cxx -std=c++17 $strict -D_GLIBCXX_ASSERTIONS -o stops_cpp "$top/example
 for most in player.c:120 seek.c:80; do
     check "${most%:*} has at most ${most#*:} lines" [ "$(wc -l < "$top/examples/${most%:*}")" -le ${most#*:} ]
 done
-# answers_so NAME STATUS OUT SAID COMMAND: whether a line for the shell ends with this status, and writes these lines,
-# which ; parts. It says nothing, or this line after the example's name, or one line of its own where that is *.
-answers_so() {
-    said_line "${4:+$1: $4}"
-    printf '%s' "${3:+$3;}" | tr ';' '\n' > wanted_out
-    status=0
-    eval "bounded $5" < empty > out 2> err || status=$?
-    [ "$4" != '*' ] || [ "$(grep -c "^$1: " err)" != 1 ] || cp err wanted
-    [ "$status" = "$2" ] && cmp -s out wanted_out && cmp -s err wanted && [ "$(wc -l < err)" -le 1 ]
-}
-
 # Discs by the standards' lines: stops and marks where the number is on line 18 alone, and lines 17 and 18 that differ,
 # on a side whose numbers can be judged, and on some that have too few for that
 output_of draw $ntsc "$top/examples/cav.words" > cav.tbc
@@ -54,7 +43,8 @@ stops|$ntsc|- F00001 F00001;- 800DDD 800DDD;- F00002 F00007;- 800DDD 800DDD;82CF
 marks|$pal|8AE000 87FFFF F0DD00;- 800DDD 800DDD;8AE001 F0DD00 F0DD00;8AE002 F0DD00 F0DD01;8AE003 87FFFF F1DD09
 END
 # Sides of ten pictures in order, and lead-out; of twelve parts of five pictures, with a gap between two of these; on
-# which numbers go back, another side begins, the beginning isn't seen, or a field is swapped; and of 129 fields
+# which numbers go back, another side begins, the beginning isn't seen, or a field is swapped; and of 129 fields, with
+# all numbers, with few of them, and with chapters 24 fields before a stop, and a stop in lead-out
 awk 'function draw(side, first, last) {
     for (; first <= last; first++) printf "- F%05d F%05d\n- - -\n", first, first > side ".words"
 }
@@ -66,9 +56,17 @@ BEGIN {
     for (field = 1; field <= 101; field++) print "- - -" > "late.words"
     draw("late", 2, 9)
     draw("swapped", 1, 9); print "- - -\n- F00010 F00010" > "swapped.words"; draw("swapped", 11, 20)
-    for (field = 1; field <= 129; field++) printf "- F%05d -\n", (field + 1) / 2 > "long.words"
+    for (field = 1; field <= 129; field++) {
+        number = sprintf("F%05d", (field + 1) / 2)
+        print "- " number " -" > "long.words"
+        line = field == 29 || field == 38 || field == 125 ? "82CFFF " : "- "
+        print line (field ~ /^(3|27|47|57|59|61|65|67)$/ ? number " " number : "- -") > "sparse.words"
+        chapter = field ~ /^[1246]$/ ? "802DDD" : field ~ /^1[468]$/ ? "803DDD" : field ~ /^[67][02468]$/ ? "805DDD" : \
+            field > 120 ? "80EEEE" : "-"
+        print line (field % 2 && field > 1 && field < 120 ? number " -" : chapter " " chapter) > "reach.words"
+    }
 }'
-for name in ten gaps back joined late swapped long; do
+for name in ten gaps back joined late swapped long sparse reach; do
     output_of draw $ntsc $name.words > $name.tbc
 done
 # A worn side, where no line shows its word: whoever finds one has recovered it. A stop on line 16 alone isn't enough.
@@ -96,7 +94,8 @@ for part in stops_4_478659 stops_5_0 stops_5_1 stops_8_32760 ten_18_478659 ten_2
     head -c $((478660 * ${fields%_*} + ${fields#*_})) ${part%%_*}.tbc > $part.tbc
 done
 # The settings of all, as players take them: metadata, and the first rows of a map
-for side in nowhere folder null empty cav side stops both misread worn stops_4_478659 ten_18_478659; do
+for side in nowhere folder null empty cav side stops both misread worn long sparse reach stops_4_478659 \
+    ten_18_478659; do
     settles $side $on_cav
 done
 settles clv $on_clv
@@ -170,6 +169,13 @@ $player|1|search: field 7 picture 4;play: field 8;play: field 9 picture 5;play: 
 $player|1|play: field 2;play: field 3 picture 2;play: field 5 picture 3;play: not found|both|@ play play play play|
 $player|0|play: field 23 picture 112;play: field 35 picture 118|misread|@ play play|
 $player|0|search: field 23 picture 12;play: field 39 picture 20|worn|@ search 12 play|
+$player|0|search: field 65 picture 33|long|@ search 33|
+$player|0|play: field 29 picture 15|sparse|@ play|
+$player|0|next: field 14;play: field 29 picture 15;play: field 38;next: field 60|reach|@ next play play next|
+$player|0|search: field 39 picture 20;next: field 1|reach|@ search 20 next|
+$player|0|search: field 13 picture 7;next: field 14|reach|@ search 7 next|
+$player|1|search: field 75 picture 38;play: field 125;next: not found;previous: field 60|reach\
+|@ search 38 play next previous|
 $player|1|search: not found|clv|@ search 3;@ search 9:59:59.24|
 $player|1|search: not found|cav|@ search 9:59:59.29|
 $player|1|chapter: not found|cav|@ chapter 79|
