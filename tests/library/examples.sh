@@ -61,7 +61,7 @@ BEGIN {
         print "- " number " -" > "long.words"
         line = field == 29 || field == 38 || field == 125 ? "82CFFF " : "- "
         print line (field ~ /^(3|27|47|57|59|61|65|67)$/ ? number " " number : "- -") > "sparse.words"
-        chapter = field ~ /^[1246]$/ ? "802DDD" : field ~ /^1[468]$/ ? "803DDD" : field ~ /^[67][02468]$/ ? "805DDD" : \
+        chapter = field ~ /^[1246]$/ ? "802DDD" : field ~ /^1[468]$/ ? "803DDD" : field ~ /^[67][02468]$/ ? "879DDD" : \
             field > 120 ? "80EEEE" : "-"
         print line (field % 2 && field > 1 && field < 120 ? number " -" : chapter " " chapter) > "reach.words"
     }
@@ -132,6 +132,7 @@ $seek|1|not found|stops|@ 7;@ 79999;@ chapter 79;@ 9:59:59.29|
 $seek|1|not found|scant;marks;clv|@ 1;@ 0:00:00.02;@ chapter 1;@ 9:59:59.24|
 $seek|0|field 23|worn|@ 12|
 $seek|0|field 19|ten|@ 10|
+$seek|0|field 60|reach|@ chapter 79|
 $seek|1|not found|ten_18_478659|@ 10|
 $seek|1|not found|stops_4_478659|@ 3|
 $seek|0|field 5|stops_8_32760|@ 3|
