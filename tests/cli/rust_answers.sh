@@ -23,8 +23,8 @@ done
 draws_sides
 asks rust Side::seek
 
-# What the two write line by line, what they refuse, and what is asked of the system for a file. Of the side `both` all
-# fields of a picture have its stop.
+# What `whole` writes line by line, what it refuses, and what it asks of the system for a file; and where a player goes
+# that finds no time, or, on the side `both`, a stop on all fields of a picture. What else it plays rust_crate.sh has.
 printf '%s\n' '- F00001 F00001' '82CFFF - -' '82CFFF F00002 F00002' '82CFFF F00002 F00002' '82CFFF F00003 F00003' \
     '82CFFF - -' '- F00004 -' '- F00004 -' | bounded "$program" draw $ntsc - > both.tbc
 settles both $on_cav
@@ -32,17 +32,9 @@ bounded $cc -std=c99 -shared -fPIC -I"$top/include" -o advised.so "$tests/librar
 while IFS='|' read -r name ending words wrote said; do
     check "$name $words" answers_so $name "$ending" "$wrote" "$said" "./$name $words"
 done << END
-player|1|side.tbc search 30 play search 7 play still search 79999 still search 10|search: field 65 picture 30\
-;play: field 97 picture 46;search: field 21 picture 7;play: field 33 picture 17;still: field 33 picture 17\
-;search: not found, field 109 picture 52;still: field 109 picture 52;search: not found, field 25 picture 9|
-player|1|side.tbc chapter 1 next next previous previous chapter 3|chapter: field 36;next: field 78;next: not found\
-;previous: field 36;previous: field 10;chapter: not found|
 player|1|clock.tbc search 1:00:00.00 search 1:00:00.01|search: not found, field 23;search: not found, field 25|
 player|1|tenbit.tbc search 0:00:02.05 search 0:00:02.04|search: not found, field 121;search: not found, field 99|
 player|1|both.tbc play play play play|play: field 2;play: field 3 picture 2;play: field 5 picture 3;play: not found|
-player|2|||usage: player FILE search PLACE, chapter N, next, previous, play, still ..
-player|2|side.tbc search 3x||neither a picture nor a time: 3x
-player|2|side.tbc stop||no such command: stop
 whole|1|side.tbc $on_cav cut|whole: no [IsLost, IsOff];lost 8: field 25 has 9, field 27 has 14\
 ;still 2: field 41 has 21, field 43 has 21;still 2: field 43 has 21, field 45 has 21\
 ;still 2: field 45 has 21, field 47 has 21|
