@@ -44,7 +44,8 @@ marks|$pal|8AE000 87FFFF F0DD00;- 800DDD 800DDD;8AE001 F0DD00 F0DD00;8AE002 F0DD
 END
 # Sides of ten pictures in order, and lead-out; of twelve parts of five pictures, with a gap between two of these; on
 # which numbers go back, another side begins, the beginning isn't seen, or a field is swapped; and of 129 fields, with
-# all numbers, with few of them, and with chapters 24 fields before a stop, and a stop in lead-out
+# all numbers; with few, so that the number of a stop is due 24 fields before one which another supports 24 fields on;
+# and with chapters 24 fields before a stop, and a stop in lead-out
 awk 'function draw(side, first, last) {
     for (; first <= last; first++) printf "- F%05d F%05d\n- - -\n", first, first > side ".words"
 }
@@ -60,7 +61,7 @@ BEGIN {
         number = sprintf("F%05d", (field + 1) / 2)
         print "- " number " -" > "long.words"
         line = field == 29 || field == 38 || field == 125 ? "82CFFF " : "- "
-        print line (field ~ /^(3|27|47|57|59|61|65|67)$/ ? number " " number : "- -") > "sparse.words"
+        print line (field ~ /^(21|23|27|53|77)$/ ? number " " number : field == 55 ? number " -" : "- -") > "sparse.words"
         chapter = field ~ /^[1246]$/ ? "802DDD" : field ~ /^1[468]$/ ? "803DDD" : field ~ /^[67][02468]$/ ? "879DDD" : \
             field > 120 ? "80EEEE" : "-"
         print line (field % 2 && field > 1 && field < 120 ? number " -" : chapter " " chapter) > "reach.words"
@@ -94,8 +95,8 @@ for part in stops_4_478659 stops_5_0 stops_5_1 stops_8_32760 ten_18_478659 ten_2
     head -c $((478660 * ${fields%_*} + ${fields#*_})) ${part%%_*}.tbc > $part.tbc
 done
 # The settings of all, as players take them: metadata, and the first rows of a map
-for side in nowhere folder null empty cav side stops both misread worn long sparse reach stops_4_478659 \
-    ten_18_478659; do
+for side in nowhere folder null empty cav side stops both scant misread worn long sparse reach \
+    stops_4_478659 ten_18_478659; do
     settles $side $on_cav
 done
 settles clv $on_clv
@@ -149,9 +150,9 @@ seek.py player.py whole.py|2||nowhere;folder;null|@ &|*
 player.py whole.py|2||empty|@ &|no field in empty.tbc
 $stops|0|0 stops|clv;empty|@|
 $stops|0|field 5 picture 3;field 8;field 9 picture 5;3 stops|stops|@;NTSC 000016384 000051200|
-stops_cpp|0|field 1;field 2 picture 3;2 stops|differ|@|
+$stops|0|field 1;field 2 picture 3;2 stops|differ|@|
 $stops|0|field 3 picture 2;field 21 picture 11;field 39 picture 20;3 stops|worn|@|
-stops_cpp|0|0 stops|stops_4_478659|@|$cut 5 has 478659 of 478660 bytes
+$stops|0|0 stops|stops_4_478659|@|$cut 5 has 478659 of 478660 bytes
 $stops|0|field 5 picture 3;1 stops|stops_5_0|@|
 $stops|0|field 5 picture 3;1 stops|stops_5_1|@|$cut 6 has 1 of 478660 bytes
 stops|2||folder|@|Is a directory
@@ -171,7 +172,9 @@ $player|1|play: field 2;play: field 3 picture 2;play: field 5 picture 3;play: no
 $player|0|play: field 23 picture 112;play: field 35 picture 118|misread|@ play play|
 $player|0|search: field 23 picture 12;play: field 39 picture 20|worn|@ search 12 play|
 $player|0|search: field 65 picture 33|long|@ search 33|
+$player|0|next: field 10|side|@ next|
 $player|0|play: field 29 picture 15|sparse|@ play|
+$player|0|still: field 1|scant|@ still|
 $player|0|next: field 14;play: field 29 picture 15;play: field 38;next: field 60|reach|@ next play play next|
 $player|0|search: field 39 picture 20;next: field 1|reach|@ search 20 next|
 $player|0|search: field 13 picture 7;next: field 14|reach|@ search 7 next|
@@ -286,6 +289,17 @@ for name in $stops; do
     check "$name of a file that is shorter by now" answers_so ${name%_cpp} 0 '0 stops' '' \
         "sh -c '{ head -c 478660 > skipped; : > shorter.tbc; ./$name $on_cav; } < shorter.tbc'"
 done
+
+# A stop is written as soon as its field is read: the pipe ends when it is there.
+{
+    cat stops_5_0.tbc
+    for turn in $(seq 100); do
+        [ ! -s written ] || break
+        sleep 0.1
+    done
+    cp written early
+} | bounded ./stops $on_cav > written
+check 'stops: a stop before the pipe ends' [ "$(cat early)" = 'field 5' ]
 
 # A file that can't be mapped
 truncate -s $((478660 * 220000)) great.tbc
