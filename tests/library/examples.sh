@@ -201,7 +201,7 @@ clv|@ search 0:00:00.25
 END
 done >> rows
 cat >> rows << END
-$player|2||cav|@ stop|no such command*
+$player|2||cav|@ stop|no such command
 $seek $stops $whole|2||cav|SECAM 16384 51200 &;pal 1 2 &;1 16384 51200 &|$no_system
 $seek $stops $whole|2||cav|NTSC 51200 16384 &;NTSC 16384 16384 &;NTSC 65535 65535 &|$low*
 $stops whole|2||cav|NTSC 16384 65536|$low*
