@@ -96,7 +96,7 @@ for part in stops_4_478659 stops_5_0 stops_5_1 stops_8_32760 ten_18_478659 ten_2
 done
 # The settings of all, as players take them: metadata, and the first rows of a map
 for side in nowhere folder null empty cav side stops both scant misread worn long sparse reach \
-    stops_4_478659 ten_18_478659; do
+    stops_4_478659 stops_5_0 ten_18_478659; do
     settles $side $on_cav
 done
 settles clv $on_clv
@@ -173,6 +173,8 @@ $player|0|play: field 23 picture 112;play: field 35 picture 118|misread|@ play p
 $player|0|search: field 23 picture 12;play: field 39 picture 20|worn|@ search 12 play|
 $player|0|search: field 65 picture 33|long|@ search 33|
 $player|0|next: field 10|side|@ next|
+$player|1|play: field 5;play: not found|stops_5_0|@ play play|
+$player|1|chapter: not found, field 1|reach|@ chapter 1|
 $player|0|play: field 29 picture 15|sparse|@ play|
 $player|0|still: field 1|scant|@ still|
 $player|0|next: field 14;play: field 29 picture 15;play: field 38;next: field 60|reach|@ next play play next|
