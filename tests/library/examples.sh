@@ -332,19 +332,6 @@ for row in sys.stdin:
         line = drawn(tv, 0 if word == "-" else int(word, 16))
         sys.stdout.buffer.write(bytes(level + chance.randint(-12, 12) for level in line))
 END
-cat > resampled.py << 'END'
-import sys
-WIDTH, WHOLE, BEFORE = {"NTSC": (910, 858, 122), "PAL": (1135, 864, 132)}[sys.argv[1]]
-pixels = sys.stdin.buffer.read()
-for begin in range(0, len(pixels), 720):
-    line = pixels[begin:begin + 720]
-    if begin % 2160 == 0:
-        sys.stdout.buffer.write(b"%d %d " % (16 * 257, 235 * 257))
-    for place, part in (divmod(column * WHOLE, WIDTH) for column in range(WIDTH)):
-        one, other = line[place - BEFORE:][:2] if BEFORE <= place < BEFORE + 719 else (16, 16)
-        level = (one * (WIDTH - part) + other * part) * 257 // WIDTH
-        sys.stdout.buffer.write(level.to_bytes(2, "little"))
-END
 printf '%s\n' '- F00001 F00001' '- - -' '82CFFF F00004 F00004 stop' '- F79999 82CFFF' '8AE712 87FFFF F0DD09' \
     '8BA0A1 807DDD 88FFFF' 'AAAAAA 800000 FFFFFF' > pixels.txt
 for half_cell in 1 0.82; do
@@ -352,7 +339,7 @@ for half_cell in 1 0.82; do
         PYTHONPATH=$PYTHONPATH:$here bounded python3 pixels.py $system $half_cell < pixels.txt > lines.y8
         check "pixels: lines of $system at 13.5 MHz, half cells of $half_cell microseconds" \
             prints 0 "$(cat pixels.txt)" sh -c "./pixels $system 16 235 < lines.y8"
-        bounded python3 resampled.py $system < lines.y8 > resampled
+        bounded python3 "$here/resampled.py" $system < lines.y8 > resampled
         rm -f rows.advice
         bounded env ADVISED=rows.advice LD_PRELOAD="$work/advised.so" ./pixels $system 16 235 < lines.y8 > out
         check "pixels: each sample of $system, half cells of $half_cell microseconds" cmp rows.advice resampled
