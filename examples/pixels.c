@@ -11,7 +11,7 @@
 #include <string.h>
 
 /* The 720 samples are active video (ITU-R BT.601). This many others stand before them, from the line's beginning on. */
-enum { PIXELS = 720, NTSC_BEFORE = 122, PAL_BEFORE = 132, LONGEST = 1135 };
+enum { PIXELS = 720, NTSC_BEFORE = 122, PAL_BEFORE = 132 };
 
 /* Samples of 16 bits as the library takes them: the low byte first. */
 static void put(uint8_t *line, size_t column, uint32_t sample) {
@@ -53,20 +53,21 @@ static int refuse(const char *why) {
 
 /* Reads whole fields until there are no more. Returns the program's status. */
 static int print_fields(uint32_t system, uint32_t black, uint32_t white) {
-    static uint8_t pixels[3 * PIXELS], lines[3 * 2 * LONGEST];
-    size_t length, line = ldvbi_line_bytes(system);
+    size_t length, line = ldvbi_line_bytes(system), whole = 3 * line;
+    uint8_t pixels[3 * PIXELS], lines[whole];
     while ((length = fread(pixels, 1, sizeof pixels, stdin)) == sizeof pixels) {
         LdvbiFieldReadings field;
         uint32_t stop;
         for (size_t i = 0; i < 3; i++) resample(system, black, pixels + i * PIXELS, lines + i * line);
-        uint32_t status = ldvbi_recover_rows(system, black * 257, white * 257, lines, 3 * line, &field);
+        uint32_t status = ldvbi_recover_rows(system, black * 257, white * 257, lines, whole, &field);
         if (status == LDVBI_DONE) status = ldvbi_judge_stops(&field, 1, &stop, 1);
         if (status != LDVBI_DONE) return refuse(ldvbi_status_text(status));
         print_field(&field, stop);
     }
     if (ferror(stdin)) return refuse(strerror(errno));
     if (length > 0) return refuse("the last field is cut");
-    return fflush(stdout) == 0 && !ferror(stdout) ? 0 : refuse(strerror(errno));
+    fflush(stdout);
+    return ferror(stdout) ? refuse(strerror(errno)) : 0;
 }
 
 /* A whole number from 0 to 255. */

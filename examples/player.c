@@ -19,7 +19,7 @@ static void require(int holds, const char *fault) { if (!holds) exit((fprintf(st
 static void check(uint32_t status) { require(status == LDVBI_DONE, ldvbi_status_text(status)); }
 static Side open_side(const char *path, const char *map) {
     const char *rows = "kind,number,field,frame,how system,%4[A-Z],1,1,side black,%5u,1,1,side white,%5u";
-    Side side = {0, 0, 0, NULL, 0, 0};
+    Side side;
     char name[5];
     FILE *file = fopen(map, "r");
     require(file && fscanf(file, rows, name, &side.black, &side.white) == 3, "no system and levels in the map");
@@ -35,9 +35,9 @@ static Side open_side(const char *path, const char *map) {
     return side;
 }
 static Part read_around(const Side *side, size_t field, size_t reach) { /* and as many before it, as far as they go */
-    size_t bytes = ldvbi_field_bytes(side->system), from = field < reach ? 0 : field - reach;
+    size_t bytes = ldvbi_field_bytes(side->system), from = field < reach ? 0 : field - reach, to = field + reach + 1;
     Part p;
-    p.from = from, p.count = (side->fields - field > reach ? field + reach + 1 : side->fields) - from;
+    p.from = from, p.count = (to < side->fields ? to : side->fields) - from;
     check(ldvbi_recover_fields(side->system, side->black, side->white, side->bytes + from * bytes, p.count * bytes,
                                p.read, p.count));
     return p;
@@ -70,10 +70,10 @@ static size_t chapter_from(const Side *side, int at, int step) { /* the first on
     return found;
 }
 static size_t search(const Side *side, int is_chapter, const char *place, uint32_t *is_lacking) {
-    uint32_t n[4] = {0, 0, 0, 0}, counted = LDVBI_PICTURES, rate = side->system == LDVBI_NTSC ? 30 : 25;
-    int parts = place[strspn(place, "0123456789:.")] ? 0 : sscanf(place, "%5u:%2u:%2u.%2u", n, n + 1, n + 2, n + 3);
-    require(parts == 1 ? !is_chapter || n[0] < 80 : parts == 4 && !is_chapter && n[1] < 60 && n[2] < 60 &&
-            n[3] < rate, "no picture, no time, and no chapter");
+    uint32_t n[4], counted = LDVBI_PICTURES, rate = side->system == LDVBI_NTSC ? 30 : 25;
+    int end, parts = sscanf(place, "%5u%n:%2u:%2u.%2u%n", n, &end, n + 1, n + 2, n + 3, &end);
+    require(place[strspn(place, "0123456789:.")] == '\0' && (parts == 1 ? !is_chapter || n[0] < 80 : parts == 4 &&
+            !is_chapter && n[0] < 10 && n[1] < 60 && n[2] < 60 && n[3] < rate) && place[end] == '\0', "no such place");
     if (parts == 4) counted = LDVBI_TIMES, n[0] = ((n[0] * 60 + n[1]) * 60 + n[2]) * rate + n[3];
     if (is_chapter) return *is_lacking = seek_chapter(side, n[0]) == side->fields, chapter_from(side, (int)n[0], 1);
     LdvbiSought sought;

@@ -58,10 +58,11 @@ def search(side, text):
     rate = 30 if side.system == ldvbi.System.NTSC else 25
     if not (int(time[4]) < rate if time else re.fullmatch("[0-9]{1,5}", text)):
         raise ValueError("neither a picture nor a time: " + text)
-    number, counted = int(text) if not time else 0, "times" if time else "pictures"
     if time:
         hours, minutes, seconds, picture = map(int, time.groups())
-        number = ((hours * 60 + minutes) * 60 + seconds) * rate + picture
+        number, counted = ((hours * 60 + minutes) * 60 + seconds) * rate + picture, "times"
+    else:
+        number, counted = int(text), "pictures"
     sought = ldvbi.seek(side, number, counted)
     if sought is not None:
         return sought.field, True

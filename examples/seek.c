@@ -11,7 +11,6 @@
 #include <string.h>
 #include <sys/mman.h>
 #include <unistd.h>
-typedef struct { uint32_t system, black, white; const uint8_t *bytes; size_t length, fields; } Side;
 static void require(int holds, const char *fault) { if (!holds) exit((fprintf(stderr, "seek: %s\n", fault), 2)); }
 static void check(uint32_t status) { require(status == LDVBI_DONE, ldvbi_status_text(status)); }
 
@@ -33,26 +32,27 @@ static uint32_t parse_time(const char *text, uint32_t rate) { /* the pictures fr
 int main(int count, char **words) {
     int is_chapter = count == 7 && strcmp(words[5], "chapter") == 0;
     require(count == 6 || is_chapter, "usage: seek FILE NTSC|PAL BLACK WHITE NUMBER|H:MM:SS.PP|chapter N");
-    Side side = {0, parse_number(words[3], 65535), parse_number(words[4], 65535), NULL, 0, 0};
-    side.system = strcmp(words[2], "NTSC") == 0 ? LDVBI_NTSC : strcmp(words[2], "PAL") == 0 ? LDVBI_PAL : 0;
+    uint32_t system = strcmp(words[2], "NTSC") == 0 ? LDVBI_NTSC : strcmp(words[2], "PAL") == 0 ? LDVBI_PAL : 0;
+    uint32_t black = parse_number(words[3], 65535), white = parse_number(words[4], 65535);
     int is_time = !is_chapter && strchr(words[5], ':') != NULL;
-    uint32_t wanted = is_time ? parse_time(words[5], side.system == LDVBI_NTSC ? 30 : 25)
+    uint32_t wanted = is_time ? parse_time(words[5], system == LDVBI_NTSC ? 30 : 25)
                               : parse_number(words[count - 1], is_chapter ? 79 : 79999);
-    check(ldvbi_recover_fields(side.system, side.black, side.white, NULL, 0, NULL, 0)); /* tests the numbers */
+    check(ldvbi_recover_fields(system, black, white, NULL, 0, NULL, 0)); /* tests the numbers */
     int file = open(words[1], O_RDONLY);
-    side.fields = (size_t)lseek(file, 0, SEEK_END) / ldvbi_field_bytes(side.system);
-    side.length = side.fields * ldvbi_field_bytes(side.system);
-    void *bytes = mmap(NULL, side.length, PROT_READ, MAP_SHARED, file, 0);
-    require(bytes != MAP_FAILED, "no field of the file can be mapped");
-    madvise(bytes, side.length, MADV_RANDOM); /* few pages are read: read none ahead */
-    side.bytes = (const uint8_t *)bytes;
+    size_t fields = (size_t)lseek(file, 0, SEEK_END) / ldvbi_field_bytes(system);
+    size_t length = fields * ldvbi_field_bytes(system);
+    void *mapped = mmap(NULL, length, PROT_READ, MAP_SHARED, file, 0);
+    require(mapped != MAP_FAILED, "no field of the file can be mapped");
+    madvise(mapped, length, MADV_RANDOM); /* few pages are read: read none ahead */
+    const uint8_t *bytes = (const uint8_t *)mapped;
     LdvbiPlace place;
     LdvbiSought sought;
-    if (is_chapter) check(ldvbi_seek_chapter(side.system, side.black, side.white, side.bytes, side.length, wanted,
-                                             &place));
-    else check(ldvbi_seek(side.system, side.black, side.white, is_time ? LDVBI_TIMES : LDVBI_PICTURES, LDVBI_FIND_PACE,
-                          side.bytes, side.length, wanted, &sought));
+    if (is_chapter) check(ldvbi_seek_chapter(system, black, white, bytes, length, wanted, &place));
+    else check(ldvbi_seek(system, black, white, is_time ? LDVBI_TIMES : LDVBI_PICTURES, LDVBI_FIND_PACE, bytes, length,
+                          wanted, &sought));
     size_t field = is_chapter ? place.field : sought.field;
-    if (field == side.fields) return puts("not found"), 1;
-    return printf("field %zu\n", field + 1) < 0 ? 2 : 0;
+    if (field < fields) printf("field %zu\n", field + 1);
+    else puts("not found");
+    require(fflush(stdout) == 0, "the answer can't be written");
+    return field < fields ? 0 : 1;
 }

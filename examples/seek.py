@@ -39,7 +39,7 @@ def main():
     if len(sys.argv) != 6 + is_chapter:
         raise ValueError("usage: seek.py FILE NTSC|PAL BLACK WHITE NUMBER|H:MM:SS.PP|chapter N")
     path, system, *levels, wanted = *sys.argv[1:5], sys.argv[-1]
-    with ldvbi.Stream(path, system, *(whole_number(level, 65535) for level in levels), recover=True) as side:
+    with ldvbi.Stream(path, system, *(whole_number(level, 65535) for level in levels)) as side:
         if is_chapter:
             place = ldvbi.seek_chapter(side, whole_number(wanted, 79))
         else:

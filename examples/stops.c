@@ -18,13 +18,11 @@ static int refuse(const char *why) {
     return 2;
 }
 
-/* A whole number in decimal digits alone. */
+/* A whole number, in at most nine decimal digits alone. */
 static int parse_number(const char *text, uint32_t *number) {
-    size_t length = strlen(text);
-    errno = 0;
-    unsigned long value = strtoul(text, NULL, 10);
-    *number = (uint32_t)value;
-    return length > 0 && strspn(text, "0123456789") == length && errno == 0 && value <= UINT32_MAX;
+    size_t length = strspn(text, "0123456789");
+    *number = (uint32_t)strtoul(text, NULL, 10);
+    return 0 < length && length < 10 && text[length] == '\0';
 }
 
 /* Reads a field of standard input. If that is a file, the field begins at its byte `at`, and only lines 16 to 18 are
@@ -67,11 +65,12 @@ static int list_stops(uint32_t system, uint32_t black, uint32_t white, uint8_t *
         printf("field %lu\n", fields);
         fflush(stdout); /* for whoever waits at the other end of a pipe */
     }
-    if (length < 0) return refuse(strerror(errno));
+    if (length == -1) return refuse(strerror(errno));
     if (length > 0)
         fprintf(stderr, "stops: the last field is cut: field %lu has %zd of %zd bytes\n", fields + 1, length, whole);
     printf("%lu stops\n", stops);
-    return fflush(stdout) == 0 && !ferror(stdout) ? 0 : refuse(strerror(errno));
+    fflush(stdout);
+    return ferror(stdout) ? refuse(strerror(errno)) : 0;
 }
 
 int main(int count, char **words) {

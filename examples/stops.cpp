@@ -30,12 +30,11 @@ std::uint32_t parse_system(const std::string &text) {
     throw std::invalid_argument(ldvbi_status_text(LDVBI_BAD_SYSTEM));
 }
 
-// A whole number in decimal digits alone.
+// A whole number, in at most nine decimal digits alone.
 std::uint32_t parse_number(const std::string &name, const std::string &text) {
-    const bool has_digits = !text.empty() && text.find_first_not_of("0123456789") == std::string::npos;
-    const unsigned long number = has_digits ? std::strtoul(text.c_str(), nullptr, 10) : UINT64_MAX;
-    if (number > UINT32_MAX) throw std::invalid_argument(name + " is not a whole number");
-    return static_cast<std::uint32_t>(number);
+    if (text.empty() || text.size() > 9 || text.find_first_not_of("0123456789") != std::string::npos)
+        throw std::invalid_argument(name + " is not a whole number");
+    return static_cast<std::uint32_t>(std::strtoul(text.c_str(), nullptr, 10));
 }
 
 void check(std::uint32_t status) {
@@ -136,7 +135,8 @@ void print_stops(std::uint32_t system, const std::vector<LdvbiFieldReadings> &fi
         if (pictures[i]) std::cout << " picture " << *pictures[i];
         std::cout << '\n';
     }
-    std::cout << stops << " stops\n";
+    std::cout << stops << " stops\n" << std::flush;
+    if (!std::cout) throw std::runtime_error("the stops can't be written");
 }
 
 } // namespace

@@ -16,14 +16,14 @@
 #include <sys/mman.h>
 #include <unistd.h>
 
-enum { ROOM = 10, REASONS = 15, KINDS = 9, BLOCK = 64 }; /* a block is of fields */
-static const char *const reasons[REASONS] = {
+static const char *const reasons[] = {
     "fields are lost", "too many fields", "numbers go back", "another side begins", "it begins late",
     "fields are swapped", "first and last number don't fit", "no numbers", "no lead-out", "its beginning isn't seen",
     "many numbers are in doubt", "fields may be lost", "fields don't belong there", "fields are padding",
     "over 100 fields without a number"};
-static const char *const kinds[KINDS] = {
+static const char *const kinds[] = {
     "unknown", "lost", "held", "back", "still", "joined", "open", "inserted", "replaced"};
+enum { ROOM = 10, BLOCK = 64, REASONS = sizeof reasons / sizeof *reasons, KINDS = sizeof kinds / sizeof *kinds };
 
 static void require(int holds, const char *fault) {
     if (!holds) exit((fprintf(stderr, "whole: %s\n", fault), 2));
@@ -45,7 +45,8 @@ static void fetch(uint32_t system, uint8_t *side, size_t from, size_t to) {
     }
 }
 
-/* Reads all fields, with the next block's pages fetched meanwhile. From a disk that takes a quarter of the time. */
+/* Reads all fields, a BLOCK of them at a time, with the next one's pages fetched meanwhile. From a disk that takes a
+ * quarter of the time. */
 static void read_side(uint32_t system, uint32_t black, uint32_t white, uint8_t *side, size_t fields,
                       LdvbiFieldReadings *read) {
     size_t bytes = ldvbi_field_bytes(system);

@@ -26,13 +26,10 @@ VERDICTS = {Verdict.whole: ("yes", 0), Verdict.not_whole: ("no", 1), Verdict.can
 
 
 def judged_by(readings, system, counted, may_end):
-    """The answer by the clock that is found. A few minutes don't show enough of drop-frame: if no clock is found, what
-    is whole by that is whole."""
-    found = ldvbi.judge_side(readings, system, counted, may_end=may_end, clock="find")
-    if found.clock.kind != ldvbi.ClockKind.plain or system != "NTSC" or counted != ldvbi.Counted.times:
-        return found
-    drop_frame = ldvbi.Clock(ldvbi.ClockKind.drop_frame)
-    dropped = ldvbi.judge_side(readings, system, counted, may_end=may_end, clock=drop_frame)
+    """The answer by the clock that is found. A few minutes don't show enough of drop-frame: what is whole by that is
+    whole. Pictures, and the times of PAL, keep to no clock, so that both answers are the same."""
+    found, dropped = (ldvbi.judge_side(readings, system, counted, may_end=may_end, clock=clock)
+                      for clock in ("find", ldvbi.Clock(ldvbi.ClockKind.drop_frame)))
     return dropped if dropped.verdict == Verdict.whole else found
 
 

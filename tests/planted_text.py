@@ -33,6 +33,7 @@ WRITTEN = re.compile(r"^[^\w\n]+ from [\w./-]+: \w+\b.*?^[^\w\n]+ to here\b|<!--
 TOLD = re.compile(r'"(?:description|title|\$comment)": ("(?:\\.|[^"])*")')
 WORD = r" ([\w./$(){}%\"'-]+)"
 PLACED = re.compile(r"^[\t ]+@?(?:cd|cp|git|install|ln|mv|python3|rm|sed|sh|tar)\b.*" + 2 * WORD + "$", re.M)
+IN_ANY_ORDER = re.compile(r"\b(?:strcmp|calloc|(?:max|min)(?:<\w+>)?)$")  # arguments that are swapped without effect
 DECLARED = re.compile(r"^\s*#!?\[|\bfn \w+(?:<[^()]*)?$|^\w[\w *]*$")
 
 
@@ -153,7 +154,8 @@ def words(code, text):
 
 def arguments(code, text):
     for one in re.finditer(r"[\w>!]\(", code):
-        if DECLARED.search(code[code.rfind("\n", 0, one.start()) + 1:one.start() + 1]):
+        before = code[code.rfind("\n", 0, one.start()) + 1:one.start() + 1]
+        if DECLARED.search(before) or IN_ANY_ORDER.search(before):
             continue
         end, commas = end_of(code, one.end())
         places = [one.end() - 1, *commas, end]

@@ -58,7 +58,6 @@ ROWS = (
     ("share/schema/", "", (WRITTEN, SCHEMA, NAMED, script("cli/docs"))),
     ("share/", "", (WRITTEN, script("cli/manual"), NAMED, script("cli/docs"))),
     ("examples/rust/", PROJECT, (script("cli/rust_answers"), script("cli/rust_crate"))),
-    ("examples/say.c", "cc -fsyntax-only -Iinclude $FILE", (script("library/installed"),)),
     ("examples/stops.cpp", "c++ -std=c++17 -fsyntax-only -Iinclude $FILE", (script("library/examples"),)),
     ("examples/seek.", "", (script("library/fetched"), script("library/examples"), script("cli/docs"))),
     ("examples/", "case $FILE in *.c) cc -fsyntax-only -Iinclude $FILE ;; *.sh) sh -n $FILE ;; esac",

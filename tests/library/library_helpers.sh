@@ -22,3 +22,14 @@ prints() {
 with_python() {
     export LDVBI_LIBRARY="$built/libldvbi.so.2" PYTHONPATH="$top/python" PYTHONDONTWRITEBYTECODE=1
 }
+
+# answers_so NAME STATUS OUT SAID COMMAND: whether a line for the shell ends with this status, and writes these lines,
+# which ; parts. It says nothing, or this line after the example's name, or one line of its own where that is *.
+answers_so() {
+    said_line "${4:+$1: $4}"
+    printf '%s' "${3:+$3;}" | tr ';' '\n' > wanted_out
+    status=0
+    eval "bounded $5" < empty > out 2> err || status=$?
+    [ "$4" != '*' ] || [ "$(grep -c "^$1: " err)" != 1 ] || cp err wanted
+    [ "$status" = "$2" ] && cmp -s out wanted_out && cmp -s err wanted && [ "$(wc -l < err)" -le 1 ]
+}

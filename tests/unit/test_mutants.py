@@ -85,9 +85,9 @@ OTHERS = [
      "a < 2 -> false | a < 2 -> true | < -> <= | < -> >= | 2 -> 1 | 2 -> 3 | 2 -> 4 | go(b, 0..1u8); -> nothing | "
      "b, 0..1u8 -> 0..1u8, b | 0 -> 1 | .. -> ..= | 1 -> 0 | 1 -> 2"),
     ("a.rs", "const A: bool = \"x 1\" == b && c; // d(e, 5)\n", '"x 1" -> "x 1~" | == -> != | && -> ||'),
-    ("a.c", "int f(int a, int b) {\n    while (a || 0x0F) g('9');\n}\n",
-     "while (a || 0x0F) g('9'); -> nothing | a || 0x0F -> false | || -> && | 0x0F -> 0x0E | 0x0F -> 0x10 | "
-     "0x0F -> 0x1E"),
+    ("a.c", "int f(int a, int b) {\n    while (a || 0x0F) g('9' + strcmp(a, b));\n}\n",
+     "while (a || 0x0F) g('9' + strcmp(a, b)); -> nothing | a || 0x0F -> false | || -> && | 0x0F -> 0x0E | "
+     "0x0F -> 0x10 | 0x0F -> 0x1E"),
     ("a.h", "/* 7 is a number */\nstruct S {\n    uint8_t a;\n    T b;\n};\n",
      "7 -> 8 | uint8_t -> uint16_t | uint8_t a; -> nothing | T b; -> nothing"),
     ("a.h", "struct S {\n    size_t a[3];\n    int b;\n};\n",
