@@ -39,10 +39,9 @@ class Layout:
         if fields > 0:
             self._add(Stretch(self.out, fields, first, last, None, None, PADDING))
 
-    def has_swapped(self, source: int, field: int, fields: int) -> bool:
-        """Whether fields of a swapped pair are among these."""
-        pairs = self._pairs[source]
-        return bool(pairs) and any(one in pairs for one in range(field, field + fields))
+    def has_swapped(self, source: int) -> bool:
+        """Whether a capture has a swapped pair."""
+        return bool(self._pairs[source])
 
     def take(self, source: int, field: int, fields: int, first: Optional[int], last: Optional[int], how: str) -> None:
         """Adds fields of a capture, those of a swapped pair in their right order."""
