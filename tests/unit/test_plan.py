@@ -372,9 +372,9 @@ def test_the_judge_says_what_is_padding(text, pad, said):
 
 
 def test_seams():
-    """Where frames or the colour don't go on; one field alone whose colour doesn't is misread."""
-    phase = [1, 2, 3, 4, 2, 2, 3, 4, 2, 3]
-    one = source("NTSC 1..5")._replace(facts=Facts([True, False] * 2 + [False, True] * 3, phase))
-    found = seams_of([Stretch(1, 10, 1, 5, 0, 1, "whole")], [one])
+    """Where frames or the colour don't go on; one field alone whose colour doesn't is misread, and 0 isn't known."""
+    phase = [1, 3, 3, 4, 2, 2, 3, 4, 2, 4, 4, 0, 0, 3]
+    one = source("NTSC 1..7")._replace(facts=Facts([True, False] * 2 + [False, True] * 5, phase))
+    found = seams_of([Stretch(1, 14, 1, 7, 0, 1, "whole")], [one])
     assert [tuple(seam) for seam in found] == [("parity", 4, 5), ("phase", 8, 9)]
     assert seams_of([Stretch(1, 10, 1, 5, None, None, "padding")], [one]) == []
