@@ -141,7 +141,7 @@ def _begins_whole(rank: int, fields: int, lengths: Lengths) -> bool:
 
 def _fields_of(ranks: range, lengths: Lengths) -> int:
     """How many fields these numbers have; more than look alike, if they are many."""
-    return 2 * FAR if len(ranks) > FAR else sum(map(lengths.of, ranks))
+    return sum(map(lengths.of, ranks[:FAR]))
 
 
 def _whole_fields(rank: int, fields: int, lengths: Lengths) -> int:
