@@ -51,7 +51,7 @@ def runs_of(place: int, capture: Followed, known: Known, disputed: Set[int], is_
             blocks = _minute_blocks(anchors, capture.going, MINUTE_FIELDS[answer.system][0])
         else:
             blocks = _with_end(blocks_of(anchors), anchors[-1], after, capture, known, is_sure)
-            blocks = _with_begin(blocks, anchors[0], before, capture, known, is_sure)
+            blocks = _with_begin(blocks, anchors[0], before, capture, known)
         blocks = [one if _is_sure(one, capture, known) else one._replace(doubt=OPEN) for one in blocks
                   if one.doubt == KNOWN or one.field not in disputed]
         runs += _sure_runs(place, blocks) if is_sure else [Run(place, blocks)]
@@ -211,8 +211,8 @@ def _with_end(blocks: List[Block], last: Anchor, after: Optional[Anchor], captur
     return found
 
 
-def _with_begin(blocks: List[Block], first: Anchor, before: Optional[Anchor], capture: Followed, known: Known,
-                is_taken_surely: bool) -> List[Block]:
+def _with_begin(blocks: List[Block], first: Anchor, before: Optional[Anchor], capture: Followed, known: Known
+                ) -> List[Block]:
     """The blocks with what is there, or may be, of numbers before the first one that aren't read."""
     lengths = known.lengths
     if before is None:
@@ -220,7 +220,7 @@ def _with_begin(blocks: List[Block], first: Anchor, before: Optional[Anchor], ca
     else:
         shared = _shared(before, first, capture, lengths)
         room = first.rank - (before.rank + 1 if before.rank < first.rank else known.extent.start)
-    left, field, found = shared.sure_before if is_taken_surely else shared.before, first.field, blocks
+    left, field, found = shared.before, first.field, blocks
     for rank in range(first.rank - 1, first.rank - 1 - room, -1):
         if not left:
             break
