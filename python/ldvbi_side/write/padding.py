@@ -46,13 +46,11 @@ class Layout:
     def take(self, source: int, field: int, fields: int, first: Optional[int], last: Optional[int], how: str) -> None:
         """Adds fields of a capture, those of a swapped pair in their right order."""
         pairs = self._pairs[source]
-        fields_there = range(field, field + fields)
-        places: Sequence[int] = [pairs.get(one, one) for one in fields_there] if pairs else fields_there
-        begin = 0
-        for place in range(1, fields + 1) if pairs else (fields,):
-            if place == fields or places[place] != places[place - 1] + 1:
-                self._take(source, places[begin], place - begin, first, last, how)
-                begin = place
+        if not pairs:
+            self._take(source, field, fields, first, last, how)
+            return
+        for one in range(field, field + fields):  # those that go on become one stretch
+            self._take(source, pairs.get(one, one), 1, first, last, how)
 
     def _take(self, source, field, fields, first, last, how):
         if self._is_film and self.stretches and self.stretches[-1].source is None:
