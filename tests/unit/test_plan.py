@@ -28,7 +28,7 @@ from simulate import captures
 NAMES = {"DETOUR": "1..50 151..170 71..100", "CUT": "NTSC f1..60 61..90 f91..120", "SIDE": "L 1..20 O",
          "ODD": "lost=1 B 5..20", "LACKS": "lost=21..24 1..40"}
 PLANS = list(table_in(os.path.join(os.path.dirname(__file__), "plans.txt")))
-OPTION = re.compile(r"(lost|pad|dropouts)=(\S*) ")
+OPTION = re.compile(r"(lost|grey|pad|dropouts)=(\S*) ")
 
 
 def numbers_in(text):
@@ -38,7 +38,8 @@ def numbers_in(text):
 
 def source(text, name="a"):
     """A capture of the side with this text. Before it may stand which of its fields are `lost` (frames and colour of
-    the others are known then), which of these are padding (`pad`), and which have 900 samples in `dropouts`."""
+    the others are known then, but for the colour of `grey` ones), which of these are padding (`pad`), and which have
+    900 samples in `dropouts`."""
     text, known = NAMES.get(text, text), {}
     while OPTION.match(text):
         option, text = OPTION.match(text), OPTION.sub("", text, 1)
@@ -49,7 +50,8 @@ def source(text, name="a"):
         system, text = ("NTSC", text[5:]) if text.startswith("NTSC ") else ("PAL", text)
         found = rows(text, 30 if system == "NTSC" else 25)
         places = [place for place in range(len(found)) if place + 1 not in known["lost"]]
-        facts = Facts([place % 2 == 0 for place in places], [place % PHASES[system] + 1 for place in places])
+        facts = Facts([place % 2 == 0 for place in places],
+                      None if "grey" in known else [place % PHASES[system] + 1 for place in places])
         capture = capture_of(side([found[place] for place in places], system, facts.first), name)
     fields = range(1, capture.answer.fields + 1)
     return Source(capture, facts._replace(
@@ -257,6 +259,8 @@ WRONG = """
     fields 21 to 21 stand for more numbers than they have fields | LACKS
         | 1+20 1-10 a1, 21+1 11-12 x, 22+59 13-40 a18
     11 to 12 are padding, and a capture has one of them | LACKS ; 5..20 | 1+20 1-10 a1, 21+4 11-12 x, 25+56 13-40 a21
+    11 to 12 are padding, and a capture has one of them | LACKS ; 1..3 6..11 ; 1..4 7..11
+        | 1+20 1-10 a1, 21+4 11-12 x, 25+56 13-40 a21
 """
 
 
@@ -273,7 +277,7 @@ def stretches_of(text):
 @pytest.mark.parametrize("said, sides, stretches", cells_of(WRONG))
 def test_a_wrong_plan_is_refused(said, sides, stretches):
     found, sources = planned(sides.split(" ; ")[0])
-    sources = [source(one, name) for one, name in zip(sides.split(" ; "), "ab")]
+    sources = [source(one, name) for one, name in zip(sides.split(" ; "), "abc")]
     assert reason(refuse_wrong, found._replace(stretches=stretches_of(stretches)), sources) == (
         "the plan is wrong: " + said)
 
@@ -368,9 +372,9 @@ def test_the_judge_says_what_is_padding(text, pad, said):
 
 
 def test_seams():
-    """Where frames or the colour don't go on; one field alone whose colour doesn't is misread."""
-    phase = [1, 2, 3, 4, 2, 2, 3, 4, 2, 3]
-    one = source("NTSC 1..5")._replace(facts=Facts([True, False] * 2 + [False, True] * 3, phase))
-    found = seams_of([Stretch(1, 10, 1, 5, 0, 1, "whole")], [one])
+    """Where frames or the colour don't go on; one field alone whose colour doesn't is misread, and 0 isn't known."""
+    phase = [1, 3, 3, 4, 2, 2, 3, 4, 2, 4, 4, 0, 0, 3]
+    one = source("NTSC 1..7")._replace(facts=Facts([True, False] * 2 + [False, True] * 5, phase))
+    found = seams_of([Stretch(1, 14, 1, 7, 0, 1, "whole")], [one])
     assert [tuple(seam) for seam in found] == [("parity", 4, 5), ("phase", 8, 9)]
     assert seams_of([Stretch(1, 10, 1, 5, None, None, "padding")], [one]) == []

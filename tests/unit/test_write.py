@@ -11,7 +11,6 @@ from discs import pictures
 from ldvbi.metadata import Metadata
 from ldvbi_side.command import write as command
 from ldvbi_side.write import copying, told
-from ldvbi_side.write.stretches import Stretch
 import pytest
 from room import IN_PLACE, in_database, SIZE
 
@@ -174,6 +173,9 @@ def test_numbers_set_aside_are_no_words(room):
     room.run_words("write", "new.tbc", name)
     assert room.text("new.tbc.json") == room.text(name + ".json").replace('"isMapped": false', '"isMapped": true')
     assert b",two\xff.tbc," in room.read("new.stretches.csv")
+    draw(room.named("one.tbc"), VIDEO, VIDEO.order[6:7])
+    room.run_words("write one_too.tbc one.tbc")
+    assert places_in(room.named("one_too.tbc"), VIDEO) == [6, None]
 
 
 def test_seams(room):
@@ -306,21 +308,6 @@ def test_refused_databases_and_words(room):
         assert (status, printed, said.split(": error: ")[1]) == (2, "", text + "\n")
 
 
-OLDER = (  # what is taken before and after two fields of padding, which of its fields are padding there, and the first
-    ((1, 2), (5, 2), "--pp--", (0, 2)), ((1, 2), (5, 2), "--p---", None), ((1, 2), (5, 2), "------", None),
-    (None, (3, 2), "pp--", (0, 0)), (None, (2, 2), "pp--", None), (None, (3, 2), None, None),
-    ((1, 2), None, "--pp", (0, 2)), ((1, 2), None, "--p", None), ((1, 2), None, "p-pp", (0, 2)),
-    ((1, 2), (9, 2), "--pp--pp--", (0, 2)), ((1, 2), (9, 2), "------pp--", (0, 6)))
-
-
-@pytest.mark.parametrize("before, after, pads, wanted", OLDER)
-def test_padding_that_is_padding_already(before, after, pads, wanted):
-    parts = [one and Stretch(1, one[1], 1, 1, 0, one[0], "whole") for one in (before, after)]
-    found = [one for one in (parts[0], Stretch(1, 2, 1, 1, None, None, "padding"), parts[1]) if one]
-    pad = pads and [one == "p" for one in pads]
-    assert copying._older(found, int(before is not None), [pad]) == wanted
-
-
 def test_a_full_disk(room, monkeypatch):
     """What 48 fields of 60 need, with a part of what is beside them; a byte less isn't enough."""
     words = drawn(room, "whole")
@@ -384,16 +371,3 @@ def test_it_ends_in_order(room, monkeypatch):
     with contextlib.chdir(room.folder), pytest.raises(KeyboardInterrupt):
         command.write_side("ldvbi-side", words.split()[1:])
     assert room.files() == before
-
-
-def test_without_the_systems_own_copy_and_of_a_text_beyond_ascii(room, monkeypatch):
-    """Letters of more than a byte stand before the fields, and in them."""
-    words = drawn(room, "whole")
-    room.write("a.tbc.json", room.text("a.tbc.json").replace('"diskLoc"', '"\u00fc":"\u20ac","diskLoc"'))
-
-    def none(*_):
-        raise OSError("not here")
-    monkeypatch.setattr(os, "copy_file_range", none)
-    assert room.run_words(words)[0] == 0
-    assert places_in(room.named("out.tbc"), VIDEO) == inside(VIDEO)
-    assert all(one["\u00fc"] == "\u20ac" for one in entries_of(room.named("out.tbc")))

@@ -73,7 +73,7 @@ def anchored(source: Source, ranks: Ranks) -> List[List[Anchor]]:
     if answer.pace != "both":
         return parts
     befores = [0, *(part[-1].last for part in parts)]
-    return [_aligned(part, max([before, *(field - 1 for field in range(before + 1, part[0].field + 1)
+    return [_aligned(part, max([before, *(field - 1 for field in range(before, part[0].field + 1)
                                           if told[field] > told[field - 1])])) for before, part in zip(befores, parts)]
 
 
@@ -128,9 +128,9 @@ def _aligned(part: List[Anchor], before: int) -> List[Anchor]:
 
 
 def blocks_of(anchors: List[Anchor]) -> List[Block]:
-    """The blocks of a run: each goes to the next number that is read. The last one has a single field as yet."""
+    """The blocks of a run: each goes to the next number that is read. The last number has none as yet."""
     return [Block(one.rank, other.rank - one.rank, one.field, other.field - one.field)
-            for one, other in zip(anchors, anchors[1:])] + [Block(anchors[-1].rank, 1, anchors[-1].field, 1)]
+            for one, other in zip(anchors, anchors[1:])]
 
 
 class Aside:

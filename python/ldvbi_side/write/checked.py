@@ -6,7 +6,7 @@ import ldvbi
 from ldvbi import Fault, Rule, Spacing, State
 from ldvbi.judging import PACKED_NUMBER
 from ..join.disagreements import disagreements_of, disputed_in
-from .following import agreed_ends, followed
+from .following import agreed, followed
 from .lengths import Lengths
 from .plan import Plan
 from .ranks import Ranks
@@ -50,7 +50,6 @@ class _Shown:
 
     def __init__(self, made: Plan, sources: Sequence[Source]) -> None:
         self.sources, self.ranks = sources, Ranks(set(made.left_out))
-        self.is_video = sources[0].answer.pace in ("video", "both")
         self.places: List[Dict[int, int]] = []
         for source in sources:
             pairs = straightened(source.answer)
@@ -65,16 +64,15 @@ class _Shown:
                 PACKED_NUMBER.pack_into(room, PACKED_NUMBER.size * (field - 1), self.ranks.of(number), State.believed)
             yield room
 
-    def set_aside(self, made: Plan) -> None:
+    def set_aside(self, made: Plan, begun: "_Begun") -> None:
         """Leaves out the numbers of fields that aren't taken, of which it isn't sure that they are these numbers', or
         whose run another capture disputes."""
         taken = {(one.source, field) for one in made.stretches for field in one.taken()}
         captures = [source.capture for source in self.sources]
         disputed = disputed_in(disagreements_of(captures))
-        read = [self.ranks.of(number) for places in self.places for number in places.values()]
         following = [followed(source, self.ranks) for source in self.sources]
-        known = Known(self.ranks, Lengths(following), range(min(read), max(read) + 1), agreed_ends(following, -1),
-                      agreed_ends(following, 1))
+        known = Known(self.ranks, Lengths(following), range(begun.rank, begun.end), set(),
+                      agreed([one.last() for one in following]))
         for place, (one, places) in enumerate(zip(following, self.places)):
             runs = runs_of(place, one, known, {field for name, field in disputed if name == one.source.capture.name})
             sure = {block.field for run in runs for block in run.blocks if block.is_sure}
@@ -112,11 +110,9 @@ def _stretches(made: Plan, shown: _Shown, begun: _Begun) -> List[ldvbi.Stretch]:
     for one in made.stretches:
         if one.first is not None:
             begins = shown.ranks.of(one.first)
-            if before is not None and one.first in before.numbers():  # goes on with its number
-                if one.source is None:
-                    begins += 1
-                elif before.source is not None:  # a swapped pair cuts it
-                    begins = begun.rank + (one.out - begun.out + 1) // 2
+            if before is not None and one.first in before.numbers() and (
+                    one.source is None or before.source is not None):  # it goes on with it, or a swapped pair cuts it
+                begins += 1
             rank, before = max(rank, begins), one
         elif before is not None:
             rank = begun.end
@@ -130,7 +126,7 @@ def _fault(made: Plan, shown: _Shown) -> Optional[str]:
     stretches, spacing = _stretches(made, shown, begun), _SPACINGS[str(shown.sources[0].answer.pace)]
     found = ldvbi.check_plan(shown.packed(), stretches, begun.end, spacing, begin=begun.out - 1)
     if found and found.rule == Rule.hidden:
-        shown.set_aside(made)
+        shown.set_aside(made, begun)
         found = ldvbi.check_plan(shown.packed(), stretches, begun.end, spacing, begin=begun.out - 1)
     return found and _text_of(found, made, shown)
 

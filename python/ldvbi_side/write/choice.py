@@ -39,11 +39,12 @@ class Choice:
         self._begins: Dict[int, List[int]] = {}
         for place, run in enumerate(runs):
             self._begins.setdefault(run.first(), []).append(place)
-        self._ways: Dict[Optional[int], _Way] = {None: _Way(0, None, 0)}
+        self._ways: Dict[Optional[int], _Way] = {}
         self._next: Dict[int, int] = {}  # of each run that has a rank, the block that begins next
 
     def nodes(self, ranks: range) -> List[Node]:
         """The nodes of the cheapest way through these ranks."""
+        self._ways[None] = _Way(0, None, ranks.start)
         for rank in ranks:
             self._step(rank)
         node = self._cheapest(ranks.stop).node
@@ -78,12 +79,9 @@ class Choice:
 
     def _entered(self, place: int, block: Block, cheapest: _Way) -> _Way:
         """The cheapest way that ends in this block of a run: from within the run, or from the cheapest way."""
-        node, way = cheapest.node, self._ways.get(place)
-        is_first = node is None or node.run is None and node.before is None
-        enter = cheapest.cost + (0 if is_first else self._change)
-        if way is None or enter < way.cost:
-            way = _Way(enter, Node(place, block.rank, node), 0)
-        return _Way(way.cost + self._price(self._runs[place], block), way.node, block.end())
+        way, enter = self._ways.get(place), cheapest.cost + self._change  # also for the first one, which each way has
+        cost, node = way[:2] if way and way.cost <= enter else (enter, Node(place, block.rank, cheapest.node))
+        return _Way(cost + self._price(self._runs[place], block), node, block.end())
 
     def _price(self, run: Run, block: Block) -> int:
         sums = self._damage[run.source]

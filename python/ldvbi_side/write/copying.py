@@ -20,7 +20,7 @@ READ = 1 << 22  # bytes that are held, if the system can't copy by itself
 def copy_samples(new: IO[bytes], made: Plan, inputs: Sequence[Input], black: int) -> Iterator[int]:
     """Writes the samples of each field: those of padding are black. Yields how many fields are written by then."""
     size = field_bytes(System[made.system])
-    blank, most = black.to_bytes(2, "little") * (size // 2), max(PIECE // size, 1)
+    blank, most = black.to_bytes(2, "little") * (size // 2), PIECE // size
     with contextlib.ExitStack() as stack:
         files = [stack.enter_context(open(one.path, "rb")) for one in inputs]
         for one in made.stretches:

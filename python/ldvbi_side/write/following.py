@@ -28,6 +28,14 @@ class Followed(NamedTuple):
     going: Going
     aside: Aside
 
+    def first(self) -> Anchor:
+        """Its first number."""
+        return self.parts[0][0]
+
+    def last(self) -> Anchor:
+        """Its last number."""
+        return self.parts[-1][-1]
+
     def is_on_both(self) -> bool:
         """Whether both fields of a picture have its number."""
         return self.source.answer.pace == "both"
@@ -45,13 +53,13 @@ class Followed(NamedTuple):
     def shown(self, anchor: Anchor, step: int, count: int) -> int:
         """How many of these fields are shown to be the disc's next ones by more than their frames and the colour: up to
         the last one that shows a number which goes on with this one, even if that isn't believed."""
-        of_picture = anchor.last - anchor.field if self.is_on_both() and step > 0 else 0
+        of_picture = anchor.last - anchor.field if step > 0 else 0
         return max([min(of_picture, count), *(place for place in range(1, count + 1) if self.aside.shows(
             anchor, anchor.field + step * place))])
 
     def end(self, step: int) -> End:
         """What stands after its last number (step 1), or before its first one (-1)."""
-        anchor = self.parts[-1][-1] if step > 0 else self.parts[0][0]
+        anchor = self.last() if step > 0 else self.first()
         count, is_seen = self.reach(anchor, step)
         there = anchor.field + step * (count + 1)
         is_seen = is_seen and (count == LONGEST or self.going.is_end(there) or self.going.is_pad(there))
@@ -63,7 +71,7 @@ def followed(source: Source, ranks: Ranks) -> Followed:
     return Followed(source, anchored(source, ranks), Going(source), Aside(source, ranks))
 
 
-def agreed_ends(captures: Sequence[Followed], step: int) -> Set[int]:
-    """The rank that two captures or more have last (step 1), or first (-1)."""
-    ranks = [one.end(step).rank for one in captures]
+def agreed(ends: Sequence[Anchor]) -> Set[int]:
+    """The ranks that two captures or more have last, or first, of all that they have there."""
+    ranks = [one.rank for one in ends]
     return {one for one in ranks if ranks.count(one) >= AGREEING}

@@ -38,7 +38,7 @@ def join(captures: List[Capture]) -> Joined:
     rows = [entries.Source(unit.text_of(one.number), one.capture.name, one.field,
                            frame_of(one.field, one.capture.answer.frame_begin),
                            TOGETHER if one.number in piled else one.how) for one in taken]
-    missing = lacking_in(captures, [*(number for number in made.padded if first < number < last),
+    missing = lacking_in(captures, [*(number for number in made.padded if number in range(first, last)),
                                     *_beyond(captures, last)])
     grounds = grounds_of(captures, made, rows, missing)
     return Joined(
@@ -78,8 +78,8 @@ def _of_capture(capture):
 
 def _skipped(made: Plan, first: int, last: int, unit: Unit) -> List[Lacking]:
     """The numbers between these that the disc's clock leaves out."""
-    return [Lacking(*one) for one in stretches_with([number for number in made.left_out if first < number < last],
-                                                    lambda _: CLOCK, unit, set())]
+    numbers = [number for number in made.left_out if number in range(first, last)]
+    return [Lacking(*one) for one in stretches_with(numbers, lambda _: CLOCK, unit, set())]
 
 
 def _lacks(capture: Capture, captures: List[Capture], taken: List[Taken], left_out: Set[int]) -> List[Lack]:
@@ -113,4 +113,4 @@ def _ranges(made: Plan, captures: List[Capture], unit: Unit) -> List[Range]:
     return [Range(unit.text_of(one.numbers()[0]), unit.text_of(one.numbers()[-1]),
                   sum(number not in left_out for number in one.numbers()),
                   captures[one.source].name, one.taken()[0], one.taken()[-1], one.how)
-            for one in made.stretches if one.source is not None and one.first is not None]
+            for one in made.stretches if one.source is not None]

@@ -39,21 +39,18 @@ class Layout:
         if fields > 0:
             self._add(Stretch(self.out, fields, first, last, None, None, PADDING))
 
-    def has_swapped(self, source: int, field: int, fields: int) -> bool:
-        """Whether fields of a swapped pair are among these."""
-        pairs = self._pairs[source]
-        return bool(pairs) and any(one in pairs for one in range(field, field + fields))
+    def has_swapped(self, source: int) -> bool:
+        """Whether a capture has a swapped pair."""
+        return bool(self._pairs[source])
 
     def take(self, source: int, field: int, fields: int, first: Optional[int], last: Optional[int], how: str) -> None:
         """Adds fields of a capture, those of a swapped pair in their right order."""
         pairs = self._pairs[source]
-        fields_there = range(field, field + fields)
-        places: Sequence[int] = [pairs.get(one, one) for one in fields_there] if pairs else fields_there
-        begin = 0
-        for place in range(1, fields + 1) if pairs else (fields,):
-            if place == fields or places[place] != places[place - 1] + 1:
-                self._take(source, places[begin], place - begin, first, last, how)
-                begin = place
+        if not pairs:
+            self._take(source, field, fields, first, last, how)
+            return
+        for one in range(field, field + fields):  # those that go on become one stretch
+            self._take(source, pairs.get(one, one), 1, first, last, how)
 
     def _take(self, source, field, fields, first, last, how):
         if self._is_film and self.stretches and self.stretches[-1].source is None:

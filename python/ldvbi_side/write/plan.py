@@ -12,7 +12,7 @@ from ..join.others import refuse_other_discs
 from ..judge.paces import MINUTE_FIELDS, RATES, Unit
 from .blocks import Block, Run
 from .choice import CHANGE, PADDED, Choice, Node
-from .following import Followed, agreed_ends, followed
+from .following import Followed, agreed, followed
 from .lengths import Lengths
 from .padding import Layout
 from .ranks import Ranks, ranks_of
@@ -86,7 +86,7 @@ def planned(sources: Sequence[Source], disagreements: Sequence[Disagreement], wa
     ranks = ranks_of(sources)
     following = [followed(source, ranks) for source in sources]
     known = Known(ranks, Lengths(following), _extent_of(captures, disputed, ranks, wanted.start),
-                  agreed_ends(following, -1), agreed_ends(following, 1))
+                  agreed([one.first() for one in following]), agreed([one.last() for one in following]))
     runs = _runs_of(following, known, disputed, wanted.sure)
     del following  # of which a long side has much
     if not runs:
@@ -206,9 +206,9 @@ class _Making:
             self._unsure += range(block.rank, block.end())
 
     def _parts(self, source: int, block: Block) -> List[Tuple[Block, int, int]]:
-        """A block with its first field and the one after its last. One of several numbers with swapped fields, which
-        stand in stretches of their own, has a part for each number."""
-        if not self._layout.has_swapped(source, block.field, block.fields):
+        """A block with its first field and the one after its last. One of several numbers has a part for each, if the
+        capture has swapped fields, which stand in stretches of their own."""
+        if not self._layout.has_swapped(source):
             return [(block, block.field, block.field + block.fields)]
         ends = [block.field + block.fields * step // block.ranks for step in range(block.ranks + 1)]
         return [(block._replace(rank=block.rank + step, ranks=1), ends[step], ends[step + 1])

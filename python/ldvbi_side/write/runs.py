@@ -51,7 +51,7 @@ def runs_of(place: int, capture: Followed, known: Known, disputed: Set[int], is_
             blocks = _minute_blocks(anchors, capture.going, MINUTE_FIELDS[answer.system][0])
         else:
             blocks = _with_end(blocks_of(anchors), anchors[-1], after, capture, known, is_sure)
-            blocks = _with_begin(blocks, anchors[0], before, capture, known, is_sure)
+            blocks = _with_begin(blocks, anchors[0], before, capture, known)
         blocks = [one if _is_sure(one, capture, known) else one._replace(doubt=OPEN) for one in blocks
                   if one.doubt == KNOWN or one.field not in disputed]
         runs += _sure_runs(place, blocks) if is_sure else [Run(place, blocks)]
@@ -101,21 +101,18 @@ def _shared(last: Anchor, first: Anchor, capture: Followed, lengths: Lengths) ->
     either run: then both get them, and none surely."""
     fields = first.field - last.field - 1
     after, before = capture.reach(last, 1, fields)[0], capture.reach(first, -1, fields)[0]
-    either = max(after + before - fields, 0)
-    return _Shared(min(_whole_fields(last.rank, 1 + after - either, lengths) - 1, after),
-                   capture.shown(last, 1, after - either), before, capture.shown(first, -1, before - either))
+    own_after, own_before = min(after, fields - before), min(before, fields - after)
+    return _Shared(min(_whole_fields(last.rank, 1 + own_after, lengths) - 1, after),
+                   capture.shown(last, 1, own_after), before, capture.shown(first, -1, own_before))
 
 
-def _is_seen(end: End, step: int, capture: Followed, known: Known) -> bool:
-    """Whether the fields after the last number of a capture (step 1), or before its first one (-1), are seen to be the
-    disc's: it cut no frame elsewhere, or another one has the same number there. They aren't if another one has so many
-    numbers more that their fields may be lost here, and leave it looking the same."""
-    is_agreed = end.rank in (known.ends if step > 0 else known.begins)
+def _is_seen(end: End, is_agreed: bool, due: int, capture: Followed, known: Known) -> bool:
+    """Whether the fields after the last number of a capture, or before its first one, are seen to be the disc's: it cut
+    no frame elsewhere, or it `is_agreed` that another one has the same number there. They aren't if another one has so
+    many numbers more that their fields, those that are `due` here, may be lost, and leave it looking the same."""
     if not end.is_seen or not is_agreed and _cuts_frames(capture, known.lengths):
         return False
-    ranks = range(end.rank, known.extent.stop) if step > 0 else range(known.extent.start, end.rank)
-    lost = _fields_of(ranks, known.lengths) - end.fields - (step > 0)
-    return not end.is_marked or lost < capture.source.period()
+    return not end.is_marked or due - end.fields < capture.source.period()
 
 
 def _cuts_frames(capture: Followed, lengths: Lengths) -> bool:
@@ -144,7 +141,7 @@ def _begins_whole(rank: int, fields: int, lengths: Lengths) -> bool:
 
 def _fields_of(ranks: range, lengths: Lengths) -> int:
     """How many fields these numbers have; more than look alike, if they are many."""
-    return 2 * FAR if len(ranks) > FAR else sum(map(lengths.of, ranks))
+    return sum(map(lengths.of, ranks[:FAR]))
 
 
 def _whole_fields(rank: int, fields: int, lengths: Lengths) -> int:
@@ -162,7 +159,9 @@ def _after_last(capture: Followed, known: Known) -> Tuple[_Shared, int]:
     more = end.fields
     if end.is_marked and more > 1 and not known.lengths.is_film:
         more -= 1 - more % 2  # lead-out has fields that aren't read, too
-    seen = more if _is_seen(end, 1, capture, known) else capture.shown(capture.parts[-1][-1], 1, more)
+    due = _fields_of(range(end.rank, known.extent.stop), known.lengths) - 1  # its own first one is there
+    is_seen = _is_seen(end, end.rank in known.ends, due, capture, known)
+    seen = more if is_seen else capture.shown(capture.last(), 1, more)
     if capture.source.period() == 1 and not end.is_marked:
         seen = min(seen, known.lengths.of(end.rank) - 1)  # of other numbers nothing is seen
     shared = _Shared(after=more, sure_after=seen)
@@ -175,8 +174,10 @@ def _before_first(capture: Followed, known: Known) -> Tuple[_Shared, int]:
     more = end.fields
     if end.is_marked and not known.lengths.is_film:
         more -= more % 2  # lead-in has fields that aren't read, too
-    is_seen = (capture.source.period() > 1 or end.is_marked) and _is_seen(end, -1, capture, known)
-    seen = more if is_seen else capture.shown(capture.parts[0][0], -1, more)
+    due = _fields_of(range(known.extent.start, end.rank), known.lengths)
+    is_seen = (capture.source.period() > 1 or end.is_marked) and _is_seen(
+        end, end.rank in known.begins, due, capture, known)
+    seen = more if is_seen else capture.shown(capture.first(), -1, more)
     shared = _Shared(before=more, sure_before=seen)
     return shared, end.rank - known.extent.start
 
@@ -192,7 +193,7 @@ def _with_end(blocks: List[Block], last: Anchor, after: Optional[Anchor], captur
         shared = _shared(last, after, capture, lengths)
         room = after.rank - last.rank if after.rank > last.rank else known.extent.stop - last.rank
     sure = 1 + shared.sure_after
-    left, field, found = sure if is_taken_surely else 1 + shared.after, last.field, blocks[:-1]
+    left, field, found = sure if is_taken_surely else 1 + shared.after, last.field, blocks
     for rank in range(last.rank, last.rank + room):
         if not left:
             break
@@ -210,8 +211,8 @@ def _with_end(blocks: List[Block], last: Anchor, after: Optional[Anchor], captur
     return found
 
 
-def _with_begin(blocks: List[Block], first: Anchor, before: Optional[Anchor], capture: Followed, known: Known,
-                is_taken_surely: bool) -> List[Block]:
+def _with_begin(blocks: List[Block], first: Anchor, before: Optional[Anchor], capture: Followed, known: Known
+                ) -> List[Block]:
     """The blocks with what is there, or may be, of numbers before the first one that aren't read."""
     lengths = known.lengths
     if before is None:
@@ -219,7 +220,7 @@ def _with_begin(blocks: List[Block], first: Anchor, before: Optional[Anchor], ca
     else:
         shared = _shared(before, first, capture, lengths)
         room = first.rank - (before.rank + 1 if before.rank < first.rank else known.extent.start)
-    left, field, found = shared.sure_before if is_taken_surely else shared.before, first.field, blocks
+    left, field, found = shared.before, first.field, blocks
     for rank in range(first.rank - 1, first.rank - 1 - room, -1):
         if not left:
             break

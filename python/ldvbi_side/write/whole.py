@@ -5,7 +5,7 @@ from typing import Iterator, List, Optional, Sequence, Set, Tuple
 from ..answer.ends import end_of
 from ..answer.entries import Ground
 from ..answer.last import Last, last_of
-from ..answer.whole import NO, OPEN, YES
+from ..answer.whole import NO, OPEN, YES, whole_of
 from ..join.captures import DUE, NEIGHBOURS, Capture
 from ..join.entries import Lacking, Source
 from ..join.lacking import LOST, UNDECIDED
@@ -74,9 +74,9 @@ def _ends(captures: Sequence[Capture], begins: Sequence[Capture], ends: Sequence
         yield "begins" if is_known else "ends", NO if is_known else OPEN, text % (unit, taken[0].number)
     if all(_of(one, "lead-in") for one in captures):
         yield "lead-in", NO, "no lead-in"
-    lead_outs = [_of(one, "lead-out") for one in ends]
-    if lead_outs[0] and all(lead_outs):
-        yield "lead-out", lead_outs[0].whole, "no lead-out after %s %s" % (unit, taken[-1].number)
+    lead_outs = [ground for one in ends for ground in [_of(one, "lead-out")] if ground]
+    if len(lead_outs) == len(ends):
+        yield "lead-out", whole_of(lead_outs), "no lead-out after %s %s" % (unit, taken[-1].number)
     elif all(end_of(one.answer) for one in ends) and not lasts_of(ends):
         yield "ends", OPEN, "numbers after %s %s may be lost" % (unit, taken[-1].number)
 

@@ -1,0 +1,73 @@
+"""What `write` copies of captures, and how: words that were recovered, older padding, and files in parts."""
+
+import os
+
+from captured import draw, drawn, entries_of, inside, places_in, SETUPS, VIDEO
+import ldvbi
+from ldvbi_side.write import copying
+from ldvbi_side.write.stretches import Stretch
+import pytest
+from room import in_database
+from streams import worn_line
+
+
+def test_a_line_that_was_recovered(room):
+    """Its word is written if it's asked for. In a database a field may have no row of words yet, and fields no column
+    for the colour."""
+    for form in ("json", "db"):
+        path = room.named("a-%s.tbc" % form)
+        draw(path, VIDEO, VIDEO.order, form=form)
+        field, word = VIDEO.at[9], VIDEO.words[VIDEO.at[9]][1]
+        with open(path, "r+b") as file:
+            file.seek(field * ldvbi.field_bytes("NTSC") + 16 * ldvbi.line_bytes("NTSC"))
+            file.write(worn_line(word, SETUPS["NTSC"], 9, 10))
+        if form == "db":
+            in_database(path + ".db", "DELETE FROM vbi WHERE field_id IN (%d, 9)" % field)
+        for words, wanted in (("", 0), (" --recovered", word)):
+            assert room.run_words("write out-{0}.tbc a-{0}.tbc{1}".format(form, words))[0] == 0
+            entries = entries_of(room.named("out-%s.tbc" % form))
+            assert [one["vbi"]["vbiData"] for one in entries] == [
+                [0, wanted, word] if place == field else VIDEO.words[place] for place in inside(VIDEO)]
+    in_database(path + ".db", "ALTER TABLE field_record DROP COLUMN field_phase_id")
+    assert room.run_words("write out.tbc a-db.tbc --plan")[0] == 0
+
+
+OLDER = (  # what is taken before and after two fields of padding, which of its fields are padding there, and the first
+    ((1, 2), (5, 2), "--pp--", (0, 2)), ((1, 2), (5, 2), "--p---", None), ((1, 2), (5, 2), "------", None),
+    (None, (3, 2), "pp--", (0, 0)), ((None, 1), (3, 2), "pp--", (0, 0)), (None, (2, 2), "pp--", None),
+    (None, (3, 2), None, None),
+    ((1, 2), None, "--pp", (0, 2)), ((1, 2), None, "--p", None), ((1, 2), None, "p-pp", (0, 2)),
+    ((1, 2), (9, 2), "--pp--pp--", (0, 2)), ((1, 2), (9, 2), "------pp--", (0, 6)))
+
+
+@pytest.mark.parametrize("before, after, pads, wanted", OLDER)
+def test_padding_that_is_padding_already(before, after, pads, wanted):
+    parts = [one and Stretch(1, one[1], 1, 1, 0 if one[0] else None, one[0], "whole") for one in (before, after)]
+    found = [one for one in (parts[0], Stretch(1, 2, 1, 1, None, None, "padding"), parts[1]) if one]
+    pad = pads and [one == "p" for one in pads]
+    assert copying._older(found, int(before is not None), [pad]) == wanted
+
+
+def test_the_system_copies_a_part_at_once(room, monkeypatch):
+    words, counts = drawn(room, "whole"), []
+
+    def some(old, new, size, begin):
+        counts.append(os.write(new, os.pread(old, min(size, 1 << 20), begin)))
+        return counts[-1]
+    monkeypatch.setattr(os, "copy_file_range", some)
+    assert room.run_words(words)[0] == 0
+    assert places_in(room.named("out.tbc"), VIDEO) == inside(VIDEO)
+    assert sum(counts) == sum(os.path.getsize(room.named("out" + end)) for end in (".tbc", ".pcm", ".efm"))
+
+
+def test_without_the_systems_own_copy_and_of_a_text_beyond_ascii(room, monkeypatch):
+    """Letters of more than a byte stand before the fields, and in them."""
+    words = drawn(room, "whole")
+    room.write("a.tbc.json", room.text("a.tbc.json").replace('"diskLoc"', '"\u00fc":"\u20ac","diskLoc"'))
+
+    def none(*_):
+        raise OSError("not here")
+    monkeypatch.setattr(os, "copy_file_range", none)
+    assert room.run_words(words)[0] == 0
+    assert places_in(room.named("out.tbc"), VIDEO) == inside(VIDEO)
+    assert all(one["\u00fc"] == "\u20ac" for one in entries_of(room.named("out.tbc")))
