@@ -134,9 +134,11 @@ def test_chains():
     assert chain([], VIDEO) == []
     for text, wanted in cells_of(CHAINS):
         ones, sure = parsed(text)
-        assert " ".join(map(str, believed(ones, sure))) == wanted, text
+        assert " ".join(str(one.field) for one in chosen(ones, VIDEO, sure)) == wanted, text
         if not sure:
             assert [one.field for one in chain(ones, VIDEO)] == list(believed(ones))
+    # a chapter that stays is no jump back
+    assert len(chain(parsed("1:5/2 3:5/2 5:40/4")[0], PACES["chapters"])) == 2
 
 
 def test_between_two_that_are_sure():
