@@ -84,7 +84,7 @@ def believed(ones, sure=()):
 # Many numbers, one in four fields or more, are noise if few go on with one of the four before.
 def test_noise():
     noise = [Reading(4 * place, place ** 3 % 10007, 4, (17, 18)) for place in range(1, 1002)]
-    assert not believed(noise)
+    assert not believed(noise) and not believed(noise[:-1] + [noise[-1]._replace(field=4008)])
     for others in (noise[:1000], noise[:-1] + [noise[-1]._replace(field=4009)],  # few, and too far apart
                    noise[:749] + readings(*range(252), first=3001)):
         assert believed(others)
@@ -119,6 +119,7 @@ CHAINS = """
     59:30/4= 101:32819/4 104:32820/4= | 59 101 104 || 59:30/4= 101:32819/3 103:9/1 104:32820/4= | 59 101 104
     59:30/4= 101:40000/4 103:9/1 105:900/1 107:90/1 111:40004/4= | 59 101 111
     59:30/4= 101:40000/4 103:9/1 104:9000/1 105:900/1 107:90/1 111:40004/4= | 59 111
+    1:5/2 3:6/2 5:7/2 7:8/2 201:40/2 203:41/2 205:42/2 207:43/2 401:173/4 403:174/4 405:175/4 | 1 3 5 7 401 403 405
 """
 
 
@@ -133,9 +134,11 @@ def test_chains():
     assert chain([], VIDEO) == []
     for text, wanted in cells_of(CHAINS):
         ones, sure = parsed(text)
-        assert " ".join(map(str, believed(ones, sure))) == wanted, text
+        assert " ".join(str(one.field) for one in chosen(ones, VIDEO, sure)) == wanted, text
         if not sure:
             assert [one.field for one in chain(ones, VIDEO)] == list(believed(ones))
+    # a chapter that stays is no jump back
+    assert len(chain(parsed("1:5/2 3:5/2 5:40/4")[0], PACES["chapters"])) == 2
 
 
 def test_between_two_that_are_sure():
@@ -168,6 +171,7 @@ TURNED = """
     WHEEL 19:13 | 18:12/1 | 18 || WHEEL 19:13 | 18:13/1 | 18 || 1:10 3:10 5:10 7:10 9:10 11:11 | 10:13/2 | none
     FAR 91:13 | 51:15/2 | 51 || FAR 91:13 | 52:15/2 | none || FAR 91:13 | 50:15/2 | none
     FAR 91:17 | 51:15/2 | 51 || FAR 91:18 | 51:15/2 | none || FAR 87:13 | 47:15/2 | 47 || FAR 88:13 | 47:15/2 | none
+    1:10 5:12 9:14 13:16 | 10:15/2 | none || 1:10 3:12 5:12 7:14 | 8:15/2 | 8
     FAR 57:13 59:13 60:14 | 55:15/2 | 55 || FAR 57:13 59:13 60:14 | 56:15/2 | none
     1:10 3:11 | 4:13/2 6:13/2 8:13/2 10:14/2 | 4 6 8 10 || 1:10 3:11 | 4:13/2 6:13/2 8:13/2 | none
     NONE | 1:5/4 3:5/4 5:5/4 7:5/4 | none

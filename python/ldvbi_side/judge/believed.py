@@ -141,29 +141,16 @@ def stretch_at(speeds: Tuple[Stretch, ...], field: int) -> Optional[Stretch]:
     return speeds[place] if place >= 0 and field <= speeds[place].last else None
 
 
-def line_from(numbers: Numbers, reading: Reading, is_before: bool) -> Line:
-    """The line on which the numbers go on from a reading, or on which they lead to it."""
-    begin = reading.field if is_before else reading.field - 1
-    stretch = stretch_at(numbers.speeds, begin)
-    return stretch.line if stretch and begin < stretch.last else Line(
-        1, 2, reading.field - reading.variant, reading.number)
-
-
-def _lines_between(numbers, before, after):
-    """The lines on which the numbers go on from a reading and come to another; None if neither is in a stretch."""
-    one, other = stretch_at(numbers.speeds, before.field), stretch_at(numbers.speeds, after.field)
-    if one and other and one.line[:2] == other.line[:2]:  # fields may be lost in between
-        return one.line, other.line
-    return (line_from(numbers, before, True), line_from(numbers, after, False)) if one or other else None
+def line_from(numbers: Numbers, reading: Reading) -> Line:
+    """The line on which the numbers lead to a reading, and go on from it."""
+    stretch = stretch_at(numbers.speeds, reading.field)
+    return stretch.line if stretch else Line(1, 2, reading.field - reading.variant, reading.number)
 
 
 def off_at_speed(numbers: Numbers, before: Reading, after: Reading) -> Optional[int]:
     """How many fields are too many (or, negative, too few) between two readings at one other speed. It is 0 if the
     speed changes between them in a picture in which both lines have the same number; None for all others."""
-    lines = _lines_between(numbers, before, after)
-    if lines is None:
-        return None
-    line, other = lines
+    line, other = line_from(numbers, before), line_from(numbers, after)
     if line[:2] == other[:2] == _NORMAL or not line.has(before) or not other.has(after):
         return None
     if line[:2] != other[:2]:
@@ -181,7 +168,7 @@ def off_at_speed(numbers: Numbers, before: Reading, after: Reading) -> Optional[
 
 def passed_between(numbers: Numbers, before: Reading, after: Reading) -> List[Tuple[int, int]]:
     """The numbers that are due between two readings that fit at another speed, each with its field."""
-    line, other = _lines_between(numbers, before, after)
+    line, other = line_from(numbers, before), line_from(numbers, after)
     turn = meeting(line, other, before, after)
     if turn is None:
         return []
@@ -193,5 +180,5 @@ def meeting(line: Line, other: Line, before: Reading, after: Reading) -> Optiona
     """The first field of the picture in which two lines have the same number, between two readings near each other."""
     if after.field - before.field > APART or (line.field - other.field) % 2:
         return None
-    return next((field for field in range(before.field - before.variant, after.field + 1, 2)
+    return next((field for field in range(before.field - before.variant, after.field + 1)
                  if line.number_at(field) == other.number_at(field)), None)

@@ -168,7 +168,7 @@ def _cost(pace, before, after, is_still=False):
     if step == 0 and isinstance(pace, Pace):
         return 0 if is_still else STILL
     off = pace.least_off(apart, before.number, step)
-    return price(off) + (BACK if step < 0 else 0) if off else 0
+    return price(off) + (BACK if step < 0 else 0)
 
 
 def _without_ties(readings, places, pace):

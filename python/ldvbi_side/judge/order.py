@@ -131,7 +131,7 @@ def _loose(numbers, readings):
 def _lines(loose, is_both):
     """The lines on which enough of these readings are, each with its readings."""
     found = []
-    for step, phase in itertools.product(STEPS, (0, 1)) if len(loose) >= LEAST else ():
+    for step, phase in itertools.product(STEPS, (0, 1)):
         # if both fields of a picture have its number, it begins with an odd one or with an even one
         near = loose if is_both else [one for one in loose if one.field % 2 == phase]
         for ones in _groups(near, [one.number - step * ((one.field - phase) // 2) for one in near]):
@@ -178,11 +178,11 @@ def _extent(numbers, line, ones):
     if line.fields == SLOW:
         return first, last
     if before:
-        turn = meeting(line_from(numbers, before, True), line, before, ones[0])
+        turn = meeting(line_from(numbers, before), line, before, ones[0])
         first = first if turn is None else turn
     if after:
         end = ones[-1]._replace(variant=(last - line.field) % 2)
-        turn = meeting(line, line_from(numbers, after, False), end, after)
+        turn = meeting(line, line_from(numbers, after), end, after)
         last = last if turn is None else turn
     return first, last
 
@@ -235,7 +235,7 @@ def _of_both(numbers, readings):
         places = {one.field: one.field + 1, other.field: one.field}
         ones = [near for near in numbers.believed[numbers.places_in(*around)] if near.field not in places]
         ones = [(near, places.get(near.field, near.field)) for near in ones + [one, other]]
-        if all(near.number == before.number + (due - begin) // 2 for near, due in ones) and (one.field - begin) % 2:
+        if all(near.number == before.number + (due - begin) // 2 for near, due in ones):
             found.update((near.field, (near._replace(variant=(due - begin) % 2), due)) for near, due in ones)
     return found
 
