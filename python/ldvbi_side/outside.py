@@ -57,7 +57,10 @@ def end_in_order() -> None:
     ours, theirs = os.pipe()
     os.set_blocking(theirs, False)
     before = signal.pthread_sigmask(signal.SIG_BLOCK, _STOPPING)  # for the thread, which is to get none itself
-    _thread.start_new_thread(_watch, (ours,))
+    begun = _thread.allocate_lock()
+    begun.acquire()
+    _thread.start_new_thread(_watch, (ours, begun))
+    begun.acquire()  # Python would crash if it came to its end before a thread comes to its begin
     signal.pthread_sigmask(signal.SIG_SETMASK, before)
     signal.set_wakeup_fd(theirs)
     _heed(_stop)
@@ -68,9 +71,10 @@ def before_sudden_end(act: Callable[[], None]) -> None:
     _last_acts.append(act)
 
 
-def _watch(pipe):
+def _watch(pipe, begun):
     """Ends the process by a signal that isn't heeded for a while. The system writes the numbers of signals to the
     pipe."""
+    begun.release()
     while True:
         number, = os.read(pipe, 1)
         end, spent = time.monotonic() + _UNHEEDED, time.process_time() + _HELD
