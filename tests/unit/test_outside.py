@@ -272,3 +272,19 @@ def test_which_are_refused(room):
                 (new, [new, new], []), (again, [new, again], []), (near, [None, near], [side, meta]),
                 (side, [number, side], []), (number, [number], [side])):
             assert reason(outputs.refuse_inputs, written_to, inputs) == (name and IN_PLACE % name)
+
+
+@pytest.mark.parametrize("share, waits", ((0, 500), (0.04, 500), (0.0625, 400), (1, 25)))
+def test_a_process_that_heeds_no_signal_ends_without_its_parts(room, share, waits):
+    """Once it has had half a second of a processor, of which it gets such a share, or ten seconds. It looks fifty times
+    a second. Another signal is heeded meanwhile."""
+    part, (ours, theirs) = room.write("part", "old"), os.pipe()
+    handlers = iter((outside._stop, signal.SIG_IGN, signal.SIG_IGN, *[outside._stop] * 1000))
+    os.write(theirs, bytes([signal.SIGINT, signal.SIGTERM]))
+    with mock.patch.object(outputs, "_own", [part]), mock.patch.object(signal, "getsignal", lambda _: next(handlers)), \
+            mock.patch("time.sleep") as wait, mock.patch("time.monotonic", lambda: wait.call_count / 50), \
+            mock.patch("time.process_time", lambda: share * wait.call_count / 50), \
+            mock.patch.object(os, "_exit", side_effect=SystemExit) as end, pytest.raises(SystemExit):
+        outside._watch(ours, mock.Mock())
+    end.assert_called_once_with(128 + signal.SIGTERM)
+    assert (wait.mock_calls, room.names()) == ([mock.call(0.02)] * (1 + waits), [])

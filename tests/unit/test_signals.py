@@ -15,7 +15,7 @@ from unittest import mock
 import ldvbi_side
 from ldvbi_side import outside
 from ldvbi_side.__main__ import main
-from ldvbi_side.command import main as command, outputs
+from ldvbi_side.command import main as command
 from ldvbi_side.command.outputs import whole_file, whole_path
 import pytest
 
@@ -136,22 +136,6 @@ def test_a_second_one(signals):
         assert 0 < signal.getitimer(signal.ITIMER_REAL)[0] <= 0.25
         signal.raise_signal(signal.SIGHUP)
     assert end.mock_calls == [mock.call(143), mock.call(129)]
-
-
-@pytest.mark.parametrize("share, waits", ((0, 500), (0.04, 500), (0.0625, 400), (1, 25)))
-def test_a_process_that_heeds_no_signal_ends_without_its_parts(room, share, waits):
-    """Once it has had half a second of a processor, of which it gets such a share, or ten seconds. It looks fifty times
-    a second. Another signal is heeded meanwhile."""
-    part, (ours, theirs) = room.write("part", "old"), os.pipe()
-    handlers = iter((outside._stop, signal.SIG_IGN, signal.SIG_IGN, *[outside._stop] * 1000))
-    os.write(theirs, bytes([signal.SIGINT, signal.SIGTERM]))
-    with mock.patch.object(outputs, "_own", [part]), mock.patch.object(signal, "getsignal", lambda _: next(handlers)), \
-            mock.patch("time.sleep") as wait, mock.patch("time.monotonic", lambda: wait.call_count / 50), \
-            mock.patch("time.process_time", lambda: share * wait.call_count / 50), \
-            mock.patch.object(os, "_exit", side_effect=SystemExit) as end, pytest.raises(SystemExit):
-        outside._watch(ours, mock.Mock())
-    end.assert_called_once_with(128 + signal.SIGTERM)
-    assert (wait.mock_calls, room.names()) == ([mock.call(0.02)] * (1 + waits), [])
 
 
 def test_the_thread_that_watches_has_begun():

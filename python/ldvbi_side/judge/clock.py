@@ -12,7 +12,7 @@ docs/SIDES.md."""
 
 import itertools
 from collections import Counter
-from typing import Dict, List, Set
+from typing import List, Set
 
 from ldvbi import Clock, ClockKind
 from ldvbi.sides import MINUTE
@@ -46,7 +46,7 @@ def _ruled_out(period, singles, runs):
     is none that the library knows, but no loss either: so the gaps near a rest count for it."""
     alone = [one.start for one in singles if len(one) == 1]
     gone = Counter((number + off) % period for number in alone for off in range(-OFF, OFF + 1))
-    steps: Dict[int, int] = Counter()  # what a rest has more than the one before it
+    steps = Counter()  # what a rest has more than the one before it
     for run in runs:
         whole, more = divmod(max(len(run) - 2, 0), period)  # a number at an end shows nothing
         begin = (run.start + 1) % period
