@@ -88,6 +88,7 @@ class SideBySide:
         except (EOFError, OSError):  # it has ended, perhaps within a message
             worker.process.join()
             del self._workers[connection]
+            connection.close()
             index = self._end(worker)
             if index is not None:
                 yield index, Ended(worker.process.exitcode)
@@ -109,7 +110,8 @@ class SideBySide:
             process = context.Process(target=_run, args=(self._job, theirs), daemon=True)
             process.start()
             self._workers[ours] = _Worker(process)
-        return ours  # the other end is closed here, as nothing refers to it any longer
+        theirs.close()
+        return ours
 
 
 @contextlib.contextmanager
