@@ -17,7 +17,7 @@ import discs
 from ldvbi_side import outside
 from ldvbi_side.command import outputs
 from ldvbi_side.command.outputs import whole_file, whole_files, whole_path
-from ldvbi_side.draw.index import faults_in, head_of, index_of, PART
+from ldvbi_side.draw.index import faults_in, head_of, index_of, PART, sides_of
 from ldvbi_side.draw.page import MARK
 from ldvbi_side.join.heads import said_of
 from ldvbi_side.outside import bytes_of_document, legible, printable, shown, uncontrolled
@@ -148,6 +148,8 @@ def test_what_pages_of_others_say(room, said):
             refused(room, page_saying(room, {**said, name: value}))
     for name in said.keys() - {"version"}:
         refused(room, page_saying(room, {one: value for one, value in said.items() if one != name}))
+    page_saying(room, {**said, "side": ["/x/side"]})
+    assert sides_of(room.folder) == {"page.html": None}
     said["reasons"] = [{"why": "x", "whole": "no", "text": "a reason" * 20000}]
     assert len(json.dumps(said)) > 2 * PART
     assert head_of(page_saying(room, said)) == ("side", said)
