@@ -154,7 +154,7 @@ def test_marks_of_a_page():
             assert (reason(marks_in, said, "a", kind=(TypeError, ValueError, KeyError)) is None) == is_good, text
     for part, other in (('"8BA000"', "1"), ('"0A1"', "1"), ('"chapter"', '"ch"'), ("[0, 1]", "[0]"), ("[0, 1]", "0")):
         said = {"marks": json.loads(texts.replace(part, other)), "system": "PAL", "unit": "picture"}
-        assert reason(marks_in, said, "a", kind=(TypeError, ValueError, KeyError)), part
+        assert reason(marks_in, said, "a", kind=(TypeError, ValueError, KeyError)) is not None, part
 
 
 def test_a_confirmed_number_is_between_those_that_are_read_and_due():
