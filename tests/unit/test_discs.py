@@ -27,6 +27,8 @@ TABLE = """
     not by more | USERS 1..40 O ; USERS 1..29 O | none
     unless its last ones are unread | USERS 1..40 O ; USERS 1..20 Bx20 O | a b by users' code
     or are in either | USERS 1..20 O ; USERS 1..25 Bx30 O ; USERS 1..20 O | a b c by users' code
+    so of two | USERS 1..20 O ; USERS 1..25 Bx30 O | a b by users' code
+    so whichever comes first | USERS 1..20 Bx20 O ; USERS 1..40 O | a b by users' code
     some whose end isn't shown | USERS 1..60 ; USERS 1..40 O ; USERS 1..60 | a b c by users' code
     a side begins elsewhere | L USERS 1..40 ; L USERS 12..40 | none || by ten | L USERS 1..40 ; L USERS 11..40
         | a b by users' code

@@ -50,6 +50,8 @@ MARKS = (
      "lost fields 10: lost: 2 fields" + LOST + "or a number was skipped by the disc itself"),
     ("lost", {"unit": "minute", "after": 3610, "before": 7111, "fields": 90, "or_more": True},
      "lost fields 3611-7110: lost: at least 90 fields between fields 3611 and 7110, by the minute's length"),
+    ("lost", {"unit": "minute", "before": 11},  # of which one field is there
+     "lost fields 10: lost: 1 field between fields 10 and 10, by the minute's length"),
     ("breaks", {}, "jumps 12: 4 fields too many, from 5 in field 9 to 6 in field 12"),
     ("breaks", {"kind": "back", "to": 2}, "jumps 12: back from 5 in field 9 to 2 in field 12"),
     *(("doubtful", {"why": why}, DOUBT + PASS_2 + text) for why, text in (

@@ -154,7 +154,7 @@ def test_marks_of_a_page():
             assert (reason(marks_in, said, "a", kind=(TypeError, ValueError, KeyError)) is None) == is_good, text
     for part, other in (('"8BA000"', "1"), ('"0A1"', "1"), ('"chapter"', '"ch"'), ("[0, 1]", "[0]"), ("[0, 1]", "0")):
         said = {"marks": json.loads(texts.replace(part, other)), "system": "PAL", "unit": "picture"}
-        assert reason(marks_in, said, "a", kind=(TypeError, ValueError, KeyError)), part
+        assert reason(marks_in, said, "a", kind=(TypeError, ValueError, KeyError)) is not None, part
 
 
 def test_a_confirmed_number_is_between_those_that_are_read_and_due():
@@ -164,6 +164,7 @@ def test_a_confirmed_number_is_between_those_that_are_read_and_due():
         confirmed=[7], unread=[], showings=[*known.showings, Showing(4, 7, 7)]))
     ones = [capture_of(one, name) for one, name in zip((capture("1..40 7=B"), near, capture("1..40 7=-/-/#4*")), "abc")]
     assert [told(as_json(join(ones[:count])), "better") for count in (2, 3)] == ["b 4 1", "c 4 1"]
+    assert [(one.lines, one.sure) for one in ones[1].places if one.number == 4] == [(0, 0)]
 
 
 def test_texts():

@@ -17,7 +17,7 @@ import discs
 from ldvbi_side import outside
 from ldvbi_side.command import outputs
 from ldvbi_side.command.outputs import whole_file, whole_files, whole_path
-from ldvbi_side.draw.index import faults_in, head_of, index_of, PART
+from ldvbi_side.draw.index import Fault, faults_in, head_of, index_of, PART, sides_of
 from ldvbi_side.draw.page import MARK
 from ldvbi_side.join.heads import said_of
 from ldvbi_side.outside import bytes_of_document, legible, printable, shown, uncontrolled
@@ -126,7 +126,7 @@ def test_how_much_of_a_page_is_read(room):
 
 
 def test_pages_of_one_name(room, said):
-    """An index has the paths of their sides, as far as they are known, and what to try."""
+    """An index has the paths of their sides, as far as they are known, and what to try; so of a side without a page."""
     pages = []
     for name, path in (("a", None), ("b", "/x/side"), ("c", "/y/side")):
         said["side"], said["try"] = path, path and "--black 5"
@@ -136,6 +136,8 @@ def test_pages_of_one_name(room, said):
         text = index_of(room.named("index.html"), some).replace("<wbr/>", "")
         assert [re.findall("<a href=.*?>(.*?)</a>", text),
                 re.findall('role="cell">(--.*?|)</td><td role="cell">PAL<', text)] == wanted
+    text = index_of(room.named("index.html"), pages[1:2], [Fault("/z/side", "side", "odd")]).replace("<wbr/>", "")
+    assert {"/x/side", "/z/side"} == set(re.findall("/[xz]/side", re.sub("<meta.*?>", "", text)))
 
 
 def test_what_pages_of_others_say(room, said):
@@ -148,6 +150,8 @@ def test_what_pages_of_others_say(room, said):
             refused(room, page_saying(room, {**said, name: value}))
     for name in said.keys() - {"version"}:
         refused(room, page_saying(room, {one: value for one, value in said.items() if one != name}))
+    page_saying(room, {**said, "side": ["/x/side"]})
+    assert sides_of(room.folder) == {"page.html": None}
     said["reasons"] = [{"why": "x", "whole": "no", "text": "a reason" * 20000}]
     assert len(json.dumps(said)) > 2 * PART
     assert head_of(page_saying(room, said)) == ("side", said)

@@ -122,7 +122,8 @@ def test_their_columns_count_for_nothing(room):
     by 12 in three captures, which count 8.4 by seven tenths; without four by 9, which count 6.3. The word is nearer
     than none by some 660: as a code it needs 4 in 288 of that, 9.2, or as any word 8, and 3 in 288, 6.9."""
     for dropouts, wanted in (([(8, 17, 411, 415)], "together"), ([(8, 17, 411, 414)], "neighbours"),
-                             ([(8, 18, 411, 415)], "neighbours"), ([(9, 17, 411, 415)], "neighbours")):
+                             ([(8, 18, 411, 415)], "neighbours"), ([(7, 17, 411, 415)], "neighbours"),
+                             ([(9, 17, 411, 415)], "neighbours")):
         ones = [capture(room, str(cell), NTSC, {5: [worn_line(picture(5), NTSC, 9, 15, cell, 15), 0]}, dropouts)
                 for cell in (5, 12, 19)]
         assert how(*ones) == {5: wanted}

@@ -97,7 +97,7 @@ def _distances(one: Capture, other: Capture) -> Iterator[Disagreement]:
         return
     slack = 2 if "both" in paces else 1
     ones = [(capture, _told_before(capture)) for capture in (one, other)]
-    before, offset = None, 0
+    before = None
     disputed: List[int] = []
     for number in sorted(one.first.keys() & other.first.keys()):
         apart = one.first[number].field - other.first[number].field

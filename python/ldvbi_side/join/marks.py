@@ -92,7 +92,7 @@ def marks_in(said: Dict[str, Any], name: str) -> Optional[Marks]:
     texts = [*(one.value for one in beside[STATUS]), *(digits for _, digits in users)]
     if not (all(type(one) is int and abs(one) < BEYOND for one in [*values, *(digit for digit, _ in users)])
             and all(isinstance(one, str) for one in texts)):
-        raise TypeError("marks of another form")
+        raise TypeError
     return Marks(name, said["system"], said["unit"], plain["pace"], beside,
                  [range(*one) for one in plain["lasting"]], users, begins, ends)
 
