@@ -98,7 +98,7 @@ LASTS = """
     100 | 1..90 51..60 -193:194 | lost 180-181 20 number, 191-193 2 number
     90 | 1..93 | said can't tell: it ends at 93, after 90 that was given as the last | no missing lost
     0:03 | 1..93 | said can't tell: 0:03, given as the last, is none of its numbers || 93 | t0..59 | reasons last
-    0:00:00.25 | t0..59 | reasons last || 7 | Bx9 | reasons numbers
+    0:00:00.25 | t0..59 | reasons last || 7 | Bx9 | reasons numbers || 0:07 | Bx9 | reasons numbers
     0:00:02 | t0..59 | said yes || 0:00 | t0..59 | said yes || 0:00:01 | t0..59 | reasons last
     0:00:03 | t0..59 | said no: at least 32 fields lost; 16 times lost | missing 0:00:02.10-0:00:03.00 lost
     100 | 1..90 Bx20 | said can't tell: 10 pictures undecided | no lost || 100 | 1..90 ?x20 | said yes

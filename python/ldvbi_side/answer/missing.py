@@ -114,8 +114,8 @@ def _passed_over(places: Places, breaks: List[Break], losses: Between, codes: Co
                 spans[why].append((first, last))
             shown = map(codes.sure_picture, range(one.after + 1, one.before))
             spans["undecided"] += [(number, number) for number in shown if number is not None]
-    between = (sorted((before.number, after.number)) for before, after in places.joins)
-    return [*spans.items(), ("unshown", [(low + 1, high - 1) for low, high in between])]
+    between = (sorted((before.number, after.number)) for before, after in places.joins)  # these two are shown
+    return [*spans.items(), ("unshown", [(low, high) for low, high in between])]
 
 
 def _fate(one, numbers, fields):
