@@ -59,7 +59,8 @@ DETOURS = """
     replaced | 1..10 40011..40040 41..50 | no lost breaks doubtful | count 50 | whys undecided
         | detours replaced 21-80 40011-40040
     replaced replaced | 1..60 40061..40070 71..90 50091..50099 100..140 | no lost breaks | doubtful x38
-        | said can't tell: fields 121 to 140 show pictures 40061 to 40070, misread or played in the place of others (..
+        | said ..40070, misread or played in the place of others (and 1 more place); 19 pictures undecided; numbers set
+        aside in 19 of 140 fields
     replaced | t0..199 t12200..12209 t210..399 | no lost breaks unread missing | count 400 | doubtful x10
         | completed x10
     replaced | 1..100 103..140 139..200 | no lost breaks doubtful | missing 101-102 undecided | count 198
