@@ -114,6 +114,7 @@ LASTS = """
     90 | 1..50 61..90 -/#55/#55 B | missing 51-60 lost | aside 161, 161
     100 | 1..97 | lost 194-195 6 number || 99 | Lx2 1..97 Ox2 | is_strict | said no: 4 fields lost; 2 pictures lost
     97 | Lx2 1..97 | is_strict | said yes
+    0:02:00.00 | NTSC t0..3403!400,1401,2402 | said no: 394 fields lost; 197 times lost
 """
 
 
