@@ -59,7 +59,8 @@ DETOURS = """
     replaced | 1..10 40011..40040 41..50 | no lost breaks doubtful | count 50 | whys undecided
         | detours replaced 21-80 40011-40040
     replaced replaced | 1..60 40061..40070 71..90 50091..50099 100..140 | no lost breaks | doubtful x38
-        | said can't tell: fields 121 to 140 show pictures 40061 to 40070, misread or played in the place of others (..
+        | said ..40070, misread or played in the place of others (and 1 more place); 19 pictures undecided; numbers set
+        aside in 19 of 140 fields
     replaced | t0..199 t12200..12209 t210..399 | no lost breaks unread missing | count 400 | doubtful x10
         | completed x10
     replaced | 1..100 103..140 139..200 | no lost breaks doubtful | missing 101-102 undecided | count 198
@@ -98,7 +99,7 @@ LASTS = """
     100 | 1..90 51..60 -193:194 | lost 180-181 20 number, 191-193 2 number
     90 | 1..93 | said can't tell: it ends at 93, after 90 that was given as the last | no missing lost
     0:03 | 1..93 | said can't tell: 0:03, given as the last, is none of its numbers || 93 | t0..59 | reasons last
-    0:00:00.25 | t0..59 | reasons last || 7 | Bx9 | reasons numbers
+    0:00:00.25 | t0..59 | reasons last || 7 | Bx9 | reasons numbers || 0:07 | Bx9 | reasons numbers
     0:00:02 | t0..59 | said yes || 0:00 | t0..59 | said yes || 0:00:01 | t0..59 | reasons last
     0:00:03 | t0..59 | said no: at least 32 fields lost; 16 times lost | missing 0:00:02.10-0:00:03.00 lost
     100 | 1..90 Bx20 | said can't tell: 10 pictures undecided | no lost || 100 | 1..90 ?x20 | said yes
@@ -113,6 +114,7 @@ LASTS = """
     90 | 1..50 61..90 -/#55/#55 B | missing 51-60 lost | aside 161, 161
     100 | 1..97 | lost 194-195 6 number || 99 | Lx2 1..97 Ox2 | is_strict | said no: 4 fields lost; 2 pictures lost
     97 | Lx2 1..97 | is_strict | said yes
+    0:02:00.00 | NTSC t0..3403!400,1401,2402 | said no: 394 fields lost; 197 times lost
 """
 
 

@@ -73,16 +73,15 @@ def analysed(fields: Fields) -> Analysis:
 def _of_numbers(places: Places, gaps: Gaps, doubtful: List[Doubt]) -> Dict[str, Any]:
     """The numbers, and where they stand: these members of the answer."""
     text_of, showings = places.numbers.unit.text_of, places.showings
-    # what was read instead of a number that is due: the first word of its field that is set aside
-    due = {field for _, field in places.due}
-    read = {one.field: one.said() for one in reversed(doubtful) if one.field in due}
+    # of each field the first word that is set aside: what was read instead of a number that is due there
+    read = {one.field: one for one in reversed(doubtful)}
     numbers = {one.number for one in showings}
     return {
         "numbers": Extent(len(numbers), *(text_of(end(numbers)) if numbers else None for end in (min, max))),
-        "showings": showings if places.numbers.unit.name == "picture" else [
-            Showing(text_of(number), first, last) for number, first, last in showings],
+        "showings": [Showing(text_of(number), first, last) for number, first, last in showings],
         "completed": sorted(places.numbers.completed), "confirmed": list(places.confirmed),
-        "unread": [Unread(text_of(number), field, read.get(field)) for number, field in places.due],
+        "unread": [Unread(text_of(number), field, read[field].said() if field in read else None)
+                   for number, field in places.due],
         "breaks": _breaks(places, gaps.breaks), "detours": _breaks(places, gaps.detours),
         "stills": [one._replace(number=text_of(one.number)) for one in places.stills],
         "repeated": repeated_of(places),

@@ -4,9 +4,8 @@ import array
 import functools
 from typing import Any, Callable, Dict, List, Mapping, Optional, Tuple, cast
 
-from ldvbi import Cause, Counted, Kind, Pace as JudgedPace, judge
+from ldvbi import Counted, Kind, Pace as JudgedPace, judge
 from ldvbi.codes import LINES
-from ldvbi.readings import PACKED_LINE
 from ..judge.believed import Numbers
 from ..judge.chain import sure_in
 from ..judge.numbers import Found
@@ -106,7 +105,7 @@ def _second_rows(codes: Codes, numbers: Numbers, rest: List[Reading]) -> List[Se
 def _row_of(codes, numbers, rest):
     """Those of these readings that the library believes of a side on which nothing else was read."""
     fields, lines = codes.fields, array.array("Q", codes.fields.packed)  # a line has eight bytes
-    left = array.array("Q", PACKED_LINE.pack(Cause.blank, 0, 0, 0)) * len(lines)
+    left = array.array("Q", bytes(len(fields.packed)))  # no line has a word
     for one in rest:
         begin = len(LINES) * (one.field - 1) - LINES[0]
         for line in one.lines:

@@ -142,8 +142,8 @@ class _Known:
         first, last = gap.after + 1, gap.before + 1
         rows = [(number, gap.to) for number in self.shown.get(first, ()) if number != gap.from_]
         rows += [(gap.from_, number) for number in self.shown.get(last, ()) if number != gap.to]
-        pace = self.places.numbers.pace
-        return any(last - first == pace.between(one, other - one, 0, 0) for one, other in rows)
+        least_off = self.places.numbers.pace.least_off  # in which field of its picture each stands isn't known
+        return any(least_off(last - first, one, other - one) == 0 for one, other in rows)
 
     def _is_video(self, gap):
         """Whether a film may have video there, with two fields to each picture: it has fields for all of that. If a
@@ -182,9 +182,10 @@ def is_outside(judged: JudgedSide, one: Break) -> bool:
 def _off_in(places, judged):
     """The breaks that are known here of numbers that go on to within a field: which field of a picture was read if both
     have its number, and where all numbers of film stand a field off from there on."""
-    shifts = () if judged.on_both else _shifts(judged)
-    return [one for one in places.breaks if judged.on_both or
-            any(one.after <= last and first < one.before - 1 for first, last in shifts)]
+    if judged.on_both:
+        return places.breaks
+    shifts = _shifts(judged)
+    return [one for one in places.breaks if any(one.after <= last and first < one.before - 1 for first, last in shifts)]
 
 
 def _shifts(judged):

@@ -40,11 +40,9 @@ def last_of(answer: Answer, unit: Unit, clock: Clock) -> Optional[Last]:
     before = min((one.first for one in ends if one.first > own.last), default=answer.fields + 1)
     # at least how many fields the number has after the last one that shows it
     number, there, rest = max(first, greatest), before - own.last - 1, int(answer.pace in ("video", "film"))
-    due = _due(number, greatest, rest, answer, clock)
-    if number == greatest:  # lead-out may begin with the last picture's other field
-        due = (rest, rest) if before > answer.fields else (0, 0)
-    least, most = (max(fields - there, 0) for fields in due)
-    if number == greatest and not least:
+    least, most = (max(fields - there, 0) for fields in _due(number, greatest, rest, answer, clock))
+    # lead-out may begin with the last picture's other field
+    if number == greatest and (not least or before <= answer.fields):
         return Last(number, greatest, False)
     lacks = Break("lost" if least else "held", own.last + min(there, rest), before, greatest, number + 1, most)
     return Last(number, greatest, False, lacks, least, number > greatest and (least != most or first != last))

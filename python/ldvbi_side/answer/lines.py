@@ -49,7 +49,7 @@ def levels_of(rates: Dict[int, Rates], bad: List[BadLine], fields: Fields) -> Op
     if not count or FEW * words >= 2 * count:
         return None
     lines = [one for one in bad if one.line != 16]
-    is_blank = shown.bad() <= shown.blank or not lines
+    is_blank = shown.bad() <= shown.blank  # else there are lines
     field, line = (count // 2 + 1, 17) if is_blank else lines[len(lines) // 2][:2]
     return FewWords("blank" if is_blank else "bad", words, shown.bad(), shown.blank, field, line,
                     fields.try_levels() if fields.try_levels else None)

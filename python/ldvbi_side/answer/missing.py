@@ -114,8 +114,8 @@ def _passed_over(places: Places, breaks: List[Break], losses: Between, codes: Co
                 spans[why].append((first, last))
             shown = map(codes.sure_picture, range(one.after + 1, one.before))
             spans["undecided"] += [(number, number) for number in shown if number is not None]
-    between = (sorted((before.number, after.number)) for before, after in places.joins)
-    return [*spans.items(), ("unshown", [(low + 1, high - 1) for low, high in between])]
+    between = (sorted((before.number, after.number)) for before, after in places.joins)  # these two are shown
+    return [*spans.items(), ("unshown", [(low, high) for low, high in between])]
 
 
 def _fate(one, numbers, fields):
@@ -145,7 +145,7 @@ def lost_fields(places: Places, gaps: Gaps, first: Sequence[bool]) -> List[Lost]
                    for one in ones if one.kind == "lost"], key=lambda one: one.after)
     numbers, sides = places.numbers, Between([(before.field, after.field) for before, after in places.joins] +
                                              [(one.after, one.before) for one in gaps.joins])
-    alike = {field for field in range(2, len(first) + 1) if first[field - 1] == first[field - 2]}
+    alike = {field for field, (before, after) in enumerate(zip(first, first[1:]), 2) if before == after}
     # two swapped fields make the first of them, and the one after both, look like the field before
     swapped = {field for begin in pairs_of(numbers.swapped) if {begin, begin + 2} <= alike
                for field in (begin, begin + 2)}

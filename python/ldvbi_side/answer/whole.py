@@ -3,7 +3,7 @@ library's, and what the answer's other members say beyond gaps."""
 
 import bisect
 from collections import Counter, defaultdict
-from typing import Iterator, List, Optional, Sequence, Tuple
+from typing import Iterator, List, Optional, Sequence, Tuple, cast
 
 from ldvbi import JudgedSide, Kind, Reason, State
 from ..texts import counted, counted_by, detour_text, lost_fields_text
@@ -169,7 +169,7 @@ def _undecided(answer: Answer, gaps: Gaps) -> Found:
         yield "parity", "a field was shown again, or lost, before field %d%s" % (again[0], _and_more(again))
     judged = gaps.judged
     if gaps.more is not None and judged:
-        where = "fields %d to %d" % ((judged.first or 0) + 1, (judged.last or 0) + 1)
+        where = "fields %d to %d" % (cast(int, judged.first) + 1, cast(int, judged.last) + 1)
         yield "off", "%s are %s %s than their numbers count to" % (
             where, counted(abs(gaps.more), "field"), "more" if gaps.more > 0 else "fewer"
             ) if gaps.more else "a field may be lost or too many in " + where
