@@ -208,6 +208,7 @@ WHOLE = """
     38 | 1..40 ; 1..38 | last | can't tell: a: it ends at 40, after 38 that was given as the last
     0:00:34 | NTSC t0..1019!31%100 ; NTSC t0..99 | missing, unsure
         | no: 1 time lost; 1 time may have another's field (0:00:33.29)
+    0:00:01.12 | NTSC/0 t0..39 Bx4 ; NTSC t44..59 | missing, undecided, last | no: 1 time lost; 1 time undecided; ..
     5 | t0..39 ; t0..9 | lead-out, last | can't tell: no lead-out after time 0:00:01.14; ..
 """
 
