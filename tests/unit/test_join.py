@@ -209,6 +209,9 @@ WHOLE = """
     38 | 1..40 ; 1..38 | last | can't tell: a: it ends at 40, after 38 that was given as the last
     0:00:34 | NTSC t0..1019!31%100 ; NTSC t0..99 | missing, unsure
         | no: 1 time lost; 1 time may have another's field (0:00:33.29)
+    0:00:01.12 | NTSC/0 t0..39 Bx4 ; NTSC t44..59 | missing, undecided, last | no: 1 time lost; 1 time undecided; ..
+    0:01:40.08 | NTSC t0..3006!7%1000 ; NTSC t0..99 | missing, unsure
+        | no: 1 time lost; 1 time may have another's field (0:01:40.06)
     5 | t0..39 ; t0..9 | lead-out, last | can't tell: no lead-out after time 0:00:01.14; ..
 """
 
@@ -245,6 +248,7 @@ def test_chapters_and_stops_together():
         (1, 1, "b", 1, 1, 1)]
     assert together("S/-/- 1..40 62=?/#31/#31", "1..40").stops == [(1, "b", 1, 1, "read")]
     assert together("1..9", "B 1..9 1:9=B").stops == []
+    assert together("S/-/- B 1..40", "1..40").stops == []  # near no number
     worn = together("1..9 3=S^/#2/#2 5=S^/#3/#3 7=S/#4/#4 -11:14", "1..9 3=S^/#2/#2 5=S/#3/#3 7=S^/#4/#4")
     assert [row for row in joined_rows(worn, ()) if row[0] == "stop"] == [
         ("stop", 2, 3, 2, "unsure", "b"), ("stop", 3, 5, 3, "read", "b"), ("stop", 4, 7, 4, "read", "b")]

@@ -38,8 +38,8 @@ def numbers_in(text):
 
 def source(text, name="a"):
     """A capture of the side with this text. Before it may stand which of its fields are `lost` (frames and colour of
-    the others are known then, but for the colour of `grey` ones), which of these are padding (`pad`), and which have
-    900 samples in `dropouts`."""
+    the others are known then, but for the colour of `grey` ones, which are all if none is said), which of these are
+    padding (`pad`), and which have 900 samples in `dropouts`."""
     text, known = NAMES.get(text, text), {}
     while OPTION.match(text):
         option, text = OPTION.match(text), OPTION.sub("", text, 1)
@@ -50,8 +50,9 @@ def source(text, name="a"):
         system, text = ("NTSC", text[5:]) if text.startswith("NTSC ") else ("PAL", text)
         found = rows(text, 30 if system == "NTSC" else 25)
         places = [place for place in range(len(found)) if place + 1 not in known["lost"]]
-        facts = Facts([place % 2 == 0 for place in places],
-                      None if "grey" in known else [place % PHASES[system] + 1 for place in places])
+        grey = known.get("grey")
+        facts = Facts([place % 2 == 0 for place in places], None if grey == set() else [
+            0 if place + 1 in (grey or ()) else place % PHASES[system] + 1 for place in places])
         capture = capture_of(side([found[place] for place in places], system, facts.first), name)
     fields = range(1, capture.answer.fields + 1)
     return Source(capture, facts._replace(
@@ -236,7 +237,7 @@ def test_how_much_is_damaged(side_text, has_dropouts, sums):
 @pytest.mark.parametrize("sides, wanted", (
     ("1..2", "F1 s2 F3 s4"), ("NTSC 2..3 & start=1", "F3 s4 F1 s2 F3 s4"), ("lost=1 NTSC B 1..2", "F1 s2 F3 s4 F1"),
     ("lost=1..2 NTSC 1..3 & start=1", "F1 s2 F3 s4 F1 s2"), ("lost=5,6 NTSC 1..4", "F1 s2 F3 s4 F1 s2 F3 s4"),
-    ("lost=1..3 2..4", "F3 s4 F5 s6")))
+    ("lost=1..3 2..4", "F3 s4 F5 s6"), ("lost= grey=3 NTSC 1..2", "F1 s2 F3 s4")))
 def test_what_begins_a_frame_and_where_the_colour_is(sides, wanted):
     found, sources = planned(sides)
     assert " ".join("sF"[one.is_first] + str(one.phase) for one in fields_of(found, sources)) == wanted

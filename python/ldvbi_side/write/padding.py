@@ -39,10 +39,6 @@ class Layout:
         if fields > 0:
             self._add(Stretch(self.out, fields, first, last, None, None, PADDING))
 
-    def has_swapped(self, source: int) -> bool:
-        """Whether a capture has a swapped pair."""
-        return bool(self._pairs[source])
-
     def take(self, source: int, field: int, fields: int, first: Optional[int], last: Optional[int], how: str) -> None:
         """Adds fields of a capture, those of a swapped pair in their right order."""
         pairs = self._pairs[source]
@@ -59,10 +55,10 @@ class Layout:
 
     def _fit_padding(self, source, field):
         """Makes the padding before a field a field or two longer or shorter, if only so the two go on as on the disc:
-        if a picture of film is lost in part, its length is a guess."""
+        if a picture of film is lost in part, its length is a guess. After two fewer the colour is as after two more."""
         padding = self.stretches[-1]
-        for off in (0, 1, -1, 2, -2):
-            if padding.fields + off >= 0 and self.fits(source, field, off):
+        for off in (0, 1, -1, 2):
+            if self.fits(source, field, off):
                 self.out += off
                 self.stretches[-1:] = [padding._replace(fields=padding.fields + off)] * (padding.fields + off > 0)
                 return

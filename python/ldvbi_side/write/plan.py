@@ -2,7 +2,7 @@
 It is pure: no file is read. docs/ANSWER.md has its rules."""
 
 import bisect
-from typing import Dict, List, NamedTuple, Optional, Sequence, Set, Tuple
+from typing import Dict, Iterator, List, NamedTuple, Optional, Sequence, Set, Tuple
 
 from ldvbi.collector import paused
 from ..answer.ends import FIRST
@@ -195,8 +195,8 @@ class _Making:
             return
         layout.pad(block.lead, first, first)
         how = WHOLE if block.is_sure else UNSURE
-        for one, begin, end in self._parts(source, block):
-            layout.take(source, begin, end - begin, number(one.rank), number(one.end() - 1), how)
+        for rank, begin, end in self._parts(block):
+            layout.take(source, begin, end - begin, number(rank), number(rank), how)
         for step in range(block.ranks if not self._known.lengths.is_film else 1):
             self._first_field[block.rank + step] = layout.out - block.fields - block.lead + 2 * step
         layout.pad(block.trail, last, last)
@@ -205,14 +205,12 @@ class _Making:
         if not block.is_sure:
             self._unsure += range(block.rank, block.end())
 
-    def _parts(self, source: int, block: Block) -> List[Tuple[Block, int, int]]:
-        """A block with its first field and the one after its last. One of several numbers has a part for each, if the
-        capture has swapped fields, which stand in stretches of their own."""
-        if not self._layout.has_swapped(source):
-            return [(block, block.field, block.field + block.fields)]
+    @staticmethod
+    def _parts(block: Block) -> Iterator[Tuple[int, int, int]]:
+        """The numbers of a block, each with its first field and the one after its last: if the capture has swapped
+        fields, those of each number stand in stretches of their own."""
         ends = [block.field + block.fields * step // block.ranks for step in range(block.ranks + 1)]
-        return [(block._replace(rank=block.rank + step, ranks=1), ends[step], ends[step + 1])
-                for step in range(block.ranks)]
+        return zip(range(block.rank, block.end()), ends, ends[1:])
 
     def _blocks(self, node: Node, stop: Optional[int]) -> List[Tuple[int, Block]]:
         """The blocks that are taken for a node's ranks, which end before `stop`, each with its capture."""
