@@ -73,6 +73,7 @@ DETOURS = """
     replaced | 1..100 92..101 111..200 | no lost breaks doubtful | missing 102-110 undecided
     replaced | NTSC f1..100 f103..120 f119..200 | no lost breaks doubtful | missing 101-102 undecided
     replaced | b1..100 b111..120 b111..200 | no lost breaks repeated | missing 101-110 undecided | doubtful x40
+    replaced | b1..100 <111..120 -/#N/#N -/#N/#N+1> b111..200 | no own lost repeated | doubtful x40
     replaced | b1..100 b103..140 b139..200 | no lost breaks doubtful | missing 101-102 undecided
     replaced | 1..59 -/#60/#60x60 B 61..99 | no detours doubtful missing | stills 60@119-178
     replaced | t0..199 t12205..12214 t210..399 | no lost breaks | missing 0:00:08.00-0:00:08.09 unread | count 390
