@@ -127,10 +127,10 @@ class JudgedSide(NamedTuple):
     """The library's answer for a whole side. `first` and `last` are the first and the last field with a believed
     number, `swap` is the first field of the reason `is_swapped`, and `blank` that of `is_blank`. Each is counted from
     0, and None if there is none. `padded` is how many fields are padding. `pace` is the one that the side was judged
-    by, `on_both` says whether numbers were taken to be on both fields of a picture, and `numbers` is what `judge` answers
-    at this pace, but for those that are set aside: the numbers of a `replaced` run are doubtful if on this side more
-    numbers go on with those around it, and it has none of the numbers that are due there. `aside` are their fields,
-    counted from 0. `clock` is the one that the side was judged by."""
+    by, `on_both` says whether numbers were taken to be on both fields of a picture, and `numbers` is what `judge`
+    answers at this pace, but for those that are set aside: the numbers of a `replaced` run are doubtful if on this side
+    more numbers go on with those around it, and it has none of the numbers that are due there. `aside` are their
+    fields, counted from 0. `clock` is the one that the side was judged by."""
     verdict: Verdict
     reasons: Reason
     first: Optional[int]

@@ -6,8 +6,7 @@ import contextlib
 import sqlite3
 from typing import Dict, Iterable, Iterator
 
-from ldvbi.database import (BESIDE, column_of_fields, columns_with, limit_steps, opened, quoted, refuse_code,
-                            tables_of)
+from ldvbi.database import column_of_fields, columns_with, limit_steps, opened, quoted, refuse_code, tables_of
 from .field import Words
 
 _WORDS = "CREATE TEMP TABLE words (field_id INTEGER PRIMARY KEY, vbi0 INTEGER, vbi1 INTEGER, vbi2 INTEGER)"

@@ -1,18 +1,24 @@
 """Which capture shows each number better than others."""
 
+import enum
 from typing import Dict, List, NamedTuple, Set, Tuple
 
 from .captures import Capture, Place
 
-# How a number stands in a capture: no other has it, this one shows it better than any other, or another one shows it as
-# well
-ALONE, BETTER, ALIKE = range(3)
 Rank = Tuple[bool, bool, int, int]  # of a place: the least one is shown best
+
+
+class How(enum.Enum):
+    """How a number stands in a capture: no other has it, this one shows it better than any other, or another one shows
+    it as well."""
+    ALONE = enum.auto()
+    BETTER = enum.auto()
+    ALIKE = enum.auto()
 
 
 class Standing(NamedTuple):
     """How a number stands, and the name of the capture that shows it best."""
-    how: int
+    how: How
     capture: str
 
 
@@ -32,7 +38,7 @@ def standings_of(captures: List[Capture], disputed: Set[Tuple[str, int]]) -> Dic
 
 def _standing(ones: List[Tuple[Rank, str]]) -> Standing:
     (rank, name), *others = sorted(ones, key=lambda one: one[0])
-    return Standing(ALONE if not others else BETTER if rank < others[0][0] else ALIKE, name)
+    return Standing(How.ALONE if not others else How.BETTER if rank < others[0][0] else How.ALIKE, name)
 
 
 def _rank_of(capture: Capture, place: Place, disputed: Set[Tuple[str, int]]) -> Rank:

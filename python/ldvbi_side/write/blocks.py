@@ -2,7 +2,7 @@
 numbers that are read are taken with the first of these, whatever they show. What is taken together is a block."""
 
 import bisect
-from typing import Dict, List, NamedTuple, Optional, Sequence, Set, Tuple
+from typing import Dict, List, NamedTuple, Optional, Set, Tuple
 
 from ldvbi import Kind
 from ..answer.entries import Answer

@@ -2,7 +2,7 @@
 pictures that may have another's field, then by those whose fields only their frames and the colour show, then by
 samples in dropouts and changes from run to run."""
 
-from typing import Dict, List, NamedTuple, Optional, Sequence, Tuple
+from typing import Dict, List, NamedTuple, Optional, Sequence
 
 from .blocks import KNOWN, OPEN, SEEN, Block, Run
 from .sources import Source

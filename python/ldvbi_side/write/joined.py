@@ -12,7 +12,7 @@ from ..join.entries import Alike, Dispute, Held, Joined, Lack, Lacking, Range, S
 from ..join.lacking import CLOCK, lacking_in, stretches_with
 from ..join.others import refuse_other_discs, shown_by
 from ..join.piles import read_together
-from ..join.standing import ALIKE, ALONE, BETTER, Standing, standings_of
+from ..join.standing import How, Standing, standings_of
 from ..judge.paces import Unit
 from .marks import chapters_at, stops_at
 from .plan import Plan, planned, refuse_unwritable
@@ -47,8 +47,8 @@ def join(captures: List[Capture]) -> Joined:
         [_of_capture(one) for one in captures], Extent(len(taken), unit.text_of(first), unit.text_of(last)),
         missing, _skipped(made, first, last, unit),
         [one for capture in captures for one in _lacks(capture, captures, taken, left_out)],
-        _shown(ALONE, standings, unit, left_out), _shown(BETTER, standings, unit, left_out),
-        [Alike(*one[:3]) for one in _standing_so(ALIKE, standings, lambda _: None, unit, left_out)],
+        _shown(How.ALONE, standings, unit, left_out), _shown(How.BETTER, standings, unit, left_out),
+        [Alike(*one[:3]) for one in _standing_so(How.ALIKE, standings, lambda _: None, unit, left_out)],
         [Dispute(one.why, [_told(one.one, unit), _told(one.other, unit)]) for one in found],
         rows, _ranges(made, captures, unit), chapters_at(captures, taken, made), stops_at(captures, taken, unit),
         _written(made, captures), made.fields)
@@ -90,13 +90,13 @@ def _lacks(capture: Capture, captures: List[Capture], taken: List[Taken], left_o
     return [Lack(capture.name, *one) for one in stretches_with(lacking, having, capture.unit(), left_out)]
 
 
-def _shown(how: int, standings: Dict[int, Standing], unit: Unit, left_out: Set[int]) -> List[Shown]:
+def _shown(how: How, standings: Dict[int, Standing], unit: Unit, left_out: Set[int]) -> List[Shown]:
     """The numbers that stand so in a capture, with that one's name."""
     return [Shown(name, first, last, count) for first, last, count, name in _standing_so(
         how, standings, lambda number: standings[number].capture, unit, left_out)]
 
 
-def _standing_so(how: int, standings: Dict[int, Standing], said_of: Callable[[int], Any], unit: Unit,
+def _standing_so(how: How, standings: Dict[int, Standing], said_of: Callable[[int], Any], unit: Unit,
                  left_out: Set[int]) -> List[Any]:
     """The numbers that stand so, in stretches of which the same is said."""
     return stretches_with([number for number in sorted(standings) if standings[number].how == how], said_of, unit,

@@ -2,7 +2,6 @@
 
 from typing import List, NamedTuple, Optional, Sequence, Tuple
 
-from ..join.entries import UNSURE, WHOLE
 from .sources import PHASES, Source
 
 PADDING = "padding"
