@@ -8,6 +8,7 @@ from ldvbi.collector import paused
 from ..answer.ends import FIRST
 from ..join.captures import Capture
 from ..join.disagreements import Disagreement, disagreements_of, disputed_in
+from ..join.entries import UNSURE, WHOLE
 from ..join.others import refuse_other_discs
 from ..judge.paces import MINUTE_FIELDS, RATES, Unit
 from .blocks import Block, Run
@@ -18,7 +19,7 @@ from .padding import Layout
 from .ranks import Ranks, ranks_of
 from .runs import Known, runs_of, set_aside
 from .sources import Source
-from .stretches import UNSURE, WHOLE, Seam, Stretch, seams_of
+from .stretches import Seam, Stretch, seams_of
 
 MOST_PADDING = 10  # fields of the output to one of padding, at least, and
 FEW = 1000  # fields of padding that are never too many, if nothing else is said
