@@ -189,14 +189,17 @@ def test_attributes():
 
 
 def test_names():
-    """A number has the name that it has in the library's own source, in its place; an array has its length after it."""
+    """A number has the name that it has in the library's own source, in its place, and a pointer leads to the struct
+    that it has there. An array has its length after it."""
     for path in sorted(SOURCES.glob("*.rt")):
         for name, text in re.findall(r'extern "C" fn ldvbi_(\w+)\(([^)]+)\)', path.read_text("utf-8")):
             own = []
             for key, kind in re.findall(r"(\w+): (.+?)(?:,|$)", text, re.M):
-                own += [key] if "&" not in kind else [None] * (1 + ("[" in kind))
-            taken = [key for key, _, _ in parameters(name)]
-            expect(len(own) == len(taken) and all(one in (None, key) for one, key in zip(own, taken)), name, taken, own)
+                own += [key] if "&" not in kind else re.findall(r"Ldvbi(\w+)", kind) or [None]
+                own += [None] * ("[" in kind)
+            taken = [kind if is_pointer else key for key, kind, is_pointer in parameters(name)]
+            expect(len(own) == len(taken) and all(one in (None, other) for one, other in zip(own, taken)),
+                   name, taken, own)
 
 
 if __name__ == "__main__":
