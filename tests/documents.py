@@ -136,6 +136,24 @@ def faults():
     yield [*map(len, drawn)] == [most, most + 1], f"FORMATS.md draws gaps of {drawn}: a glitch has up to {most} columns"
 
 
+# A line of a manual page that marks something up, and words of the language of those pages
+MARKED = re.compile(r"^\.(?!Dd|Dt|Sh)[A-Z]\w (.+)$", re.M)
+MDOC = {"literal", "offset", "tag", "width", "indent"}
+
+
+def manuals():
+    """Each word that a manual page marks up by hand is one of a document or of the source, too; its title is its name."""
+    sources = ["LICENSE", "pyproject.toml", *documents(), *glob.glob("crates/vbi_cli/src/*.rt"),
+               *glob.glob("python/ldvbi*/**/*.py", recursive=True)]
+    known = MDOC.union(word.strip(".,:;'-") for path in sources for word in re.findall(r'[^\s`"()|=]+', read(path)))
+    for path in sorted(glob.glob("share/man/*.1")):
+        text = re.sub(r'^\.\\" from .*?^\.\\" to here$', "", read(path), flags=re.M | re.S)
+        yield f"\n.Dt {pathlib.Path(path).stem.upper()} 1\n" in text, f"{path} has another title"
+        for word in re.findall(r"[^\s()|]+", " ".join(MARKED.findall(text)).replace("\\&", "")):
+            name = word.strip(".,:;-").removesuffix("'s")
+            yield re.fullmatch("[A-Z][a-z]|", name) or name in known, f"{path} names '{word}'"
+
+
 SIDE, PILED = "crates/vbi_side/specs/", "crates/vbi_near/specs/Piled.antt"
 # Where numbers stand in the source, and sentences of Python with the same ones, in which # stands for each in turn, or
 # for one; of the order of bytes it stands for a word, in documents, too. texts/write.py writes all others.
@@ -211,7 +229,7 @@ def promises():
 
 # Each check, with the least that it has to look at
 CHECKS = {"promises": (promises, 17), "links": (links, 70), "paths": (paths, 120), "names": (names, 800),
-          "faults": (faults, 28), "numbers": (numbers, 35), "measured": (measured, 20)}
+          "faults": (faults, 28), "manuals": (manuals, 120), "numbers": (numbers, 35), "measured": (measured, 20)}
 
 
 def main():
