@@ -113,11 +113,12 @@ def test_refused(drawn):
 
 
 def test_usage(drawn):
+    none = [(" ", "the following arguments are required: side")]
     names = [(words + " ''", "a folder has to have a name" if "scan" in words and words[-6:] not in ("--meta", "-sides")
               else NO_NAME) for words in UNNAMED]
-    for words, why in cells_of(USAGE) + names:
+    for words, why in cells_of(USAGE) + names + none:
         status, text, said = drawn.run_command(words)
-        command = (" " + words.split()[0]) * (not words.startswith("side"))
+        command = "".join(" " + word for word in words.split()[:1]) * (not words.startswith("side"))
         assert (status, text, said[:18 + len(command)]) == (2, b"", "usage: ldvbi-side%s " % command)
         assert said.endswith("\nldvbi-side%s: error: %s\n" % (command, why))
 

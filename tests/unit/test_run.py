@@ -75,7 +75,9 @@ def test_metadata_is_taken(drawn):
         said = said.replace("ANOTHER", "another system, or another file's metadata?")
         assert drawn.run_words(words) == (int(status), *("" if one == "-" else begin + one + "\n" for begin, one in (
             ("", text), ("ldvbi-side: ", said))))
-    known = json.loads(drawn.run_command("cut.tbc --meta count.json --json")[1])
+    text = drawn.run_command("cut.tbc --meta count.json --json")[1]
+    assert text.endswith(b"}\n")
+    known = json.loads(text)
     assert (known["metadataFields"], known["frameBegin"]) == (11, 1)
     assert drawn.printed("side.tbc --white 51200 --document") == drawn.document
     assert drawn.printed("side.tbc LEVELS --document --recovered")[:12] == b'{"version":3'
