@@ -159,7 +159,7 @@ def table_of_fields(database: sqlite3.Connection) -> Optional[str]:
     """The name of the one table that has the fields; None if no table has them, or more than one."""
     tables = [table for table in tables_of(database)
               if {"field_id", "is_first_field"} <= set(columns_of(database, table))]
-    return tables[0] if len(tables) == 1 else None
+    return tables.pop() if len(tables) == 1 else None
 
 
 def has_column_of_fields(database: sqlite3.Connection, column: str) -> bool:

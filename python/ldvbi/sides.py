@@ -278,7 +278,7 @@ def _without_aside(judged, fields, gaps, clock=bytes(PACKED_CLOCK.size)):
     check(later_call("ldvbi_set_aside")(*fields.asked, fields.pace, fields.on_both, clock, gaps, len(judged.gaps),
                                         fields.numbers, fields.length, left, fields.length, ctypes.byref(count)))
     numbers = numbers_of(left)
-    aside = (field for field, pair in enumerate(zip(judged.numbers, numbers)) if pair[0] != pair[1])
+    aside = (field for field, number in enumerate(numbers) if number != judged.numbers[field])
     return judged._replace(numbers=numbers, aside=tuple(aside)) if count.value else judged
 
 

@@ -199,6 +199,7 @@ DRAWN = """
     <1..30 -/#N/#N -/cN/cN> | disc-label 1; 2; 3; 4; 5; 6; 7; 8; 9 || Lx6 1..45 | disc-label lead-in; chapter 0
     <1..35 -/#N/#N -/cN/cN> | disc-label 2; 4; 5; 6; 7; 9 || 1..480 102.16=S 104.16=S | #stop 2
     1..10 1.16=S 3.16=? | +line-16 line 16, field 3: change || 1..10 B 1.16=S 3.16=? | +line-16 field 3: noise
+    NTSC m59x45 m60x3 9.16=? | +line-16 field 9: change || -/c3/- -/c3/- | chapter chapter 3: fields 1 to 2
     1..50 151..170 71..100 | @jumps 101-140 630-822
       | jumps fields 101 to 140 show pictures 151 to 170, misread or played in the place of others
     PAL/60 1..30 -60 21..60 | +count lost fields: 1 | +lost-fields lost: 1 or more fields between fields 59 and 60

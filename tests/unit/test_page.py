@@ -291,7 +291,7 @@ def test_what_is_said():
     for text, wanted in (
             ("1..30", "lost, unread, repeated, doubtful"), ("1..30 -21:22", "unread, repeated, doubtful"), ("Bx9", ""),
             ("1..30 21=?/?/? 22=?/?/?", "lost, repeated, doubtful"), ("1..9 ?x4 14..30", "repeated, doubtful"),
-            ("1..40 -40", "unread, repeated, doubtful"),
+            ("1..40 -40", "unread, repeated, doubtful"), ("7..9", "unread, repeated, doubtful"),
             ("1..20 16..30", "lost, unread, doubtful"), ("1..30 9.18=#79999", "lost, unread, repeated")):
         assert re.findall("<p>nothing (.*)</p>", page(text)) == ([wanted] if wanted else []), text
     late = "<li>12 fields lost</li><li>6 pictures lost</li><li>begins at 7, ends at 9</li>"

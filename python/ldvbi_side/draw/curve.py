@@ -29,12 +29,12 @@ class Scale:
         """The count of a number of the answer: a picture, `h:mm:ss.pp` or `h:mm`."""
         if self.unit == "picture":
             return number
-        hours, minutes, *rest = number.split(":")
+        hours, minutes, *second = number.split(":")
         count = 60 * int(hours) + int(minutes)
         if self.unit == "minute":
             return count
-        second, _, picture = (rest[0] if rest else "0.0").partition(".")
-        return (60 * count + int(second)) * self.rate + int(picture)
+        whole, _, picture = "".join(second or "0.0").partition(".")
+        return (60 * count + int(whole)) * self.rate + int(picture)
 
     def text_of(self, count: int) -> str:
         """A count as a label: hours, minutes and seconds, with the picture if it isn't a whole second."""
