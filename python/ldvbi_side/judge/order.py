@@ -227,14 +227,15 @@ def _of_both(numbers, sure):
     for (field, number), one in shown.items():
         other = shown.get((field + 1, number - 1))
         inside = numbers.places_in(field - 1, field + 2)
-        before, after = numbers.beside(inside)
-        if other is None or not numbers.fit((before, after)):
+        around = [near for near in numbers.beside(inside) if near]
+        if other is None or len(around) == 2 and numbers.off(*around):
             continue
-        begin = before.field - before.variant
+        base = min(around, default=one)
+        begin = base.field - base.variant
         places = {field: other.field, other.field: field}
         ones = [near for near in numbers.believed[inside] if near.field not in places]
         ones = [(near, places.get(near.field, near.field)) for near in ones + [one, other]]
-        if all(near.number == before.number + (due - begin) // 2 for near, due in ones):
+        if all(near.number == base.number + (due - begin) // 2 for near, due in ones):
             found.update((near.field, (near._replace(variant=(due - begin) % 2), due)) for near, due in ones)
     return found
 
