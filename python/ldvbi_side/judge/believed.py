@@ -180,7 +180,7 @@ def off_at_speed(numbers: Numbers, before: Reading, after: Reading) -> Optional[
 def passed_between(numbers: Numbers, before: Reading, after: Reading) -> List[Tuple[int, int]]:
     """The numbers that are due between two readings that fit at another speed, each with its field."""
     line, other = line_from(numbers, before), line_from(numbers, after)
-    turn = line.meeting(other, before, after)
+    turn = after.field if line.has(after) else line.meeting(other, before, after)
     if turn is None:
         return []
     fields = range(before.field - before.variant + 2, after.field - after.variant, 2)
