@@ -71,7 +71,7 @@ def _style_of(text: str, begin: int) -> Tuple[str, str, str]:
 def _added(text: str, begin: int, end: int, member: str) -> Place:
     """The place of one more member in the object that stands there, after all others."""
     place = begin + len(text[begin:end - 1].rstrip(" \t\n\r"))
-    comma = _style_of(text, begin)[0] if place > begin + 1 else ""
+    comma = "" if text[place - 1] == "{" else _style_of(text, begin)[0]
     return Place(place, place, comma + member)
 
 

@@ -32,8 +32,7 @@ class Rows:
             fields = column_of_fields(database, "field_id")
             if fields is None:
                 fields = [field for field, in database.execute("SELECT field_id FROM vbi ORDER BY field_id")]
-        first = fields[0] if fields and isinstance(fields[0], int) else 0
-        if fields != list(range(first, first + len(fields))):
+        if fields and (not isinstance(fields[0], int) or fields != list(range(fields[0], fields[0] + len(fields)))):
             raise ValueError("%s: the fields' numbers, field_id, leave some out, or have one twice" % path)
         self._fields = fields
 
