@@ -154,7 +154,6 @@ class _Known(Dict[int, Any]):
     the same. Where a disc has no such word, nothing is said."""
 
     def __init__(self, kinds: Dict[Kind, ByField], lines: Lines) -> None:
-        super().__init__()
         self.lines = lines
         self.of_kind = [kinds.get(kind) for kind in Kind]  # by the kind's number
         self.is_there = [lines[0] in STANDARD_LINES.get(kind, ()) for kind in Kind]
