@@ -15,6 +15,7 @@ from ldvbi_side.judge.readings import Reading
 import pytest
 
 VIDEO = Pace("video")
+LINE = Line(2, 2, 1, 1)
 PACES = {"video": VIDEO, "both": Pace("both"), "film": Pace("film"), "minutes": MinutePace("PAL"),
          "NTSC minutes": MinutePace("NTSC"), "chapters": ChapterPace()}
 # Of a pace: fields, a number, the step to the next one and their variants, and how many fields are too many or too few.
@@ -189,10 +190,10 @@ def test_turned_by_hand():
 
 def test_which_fields_are_free():
     """Of those that were played at other speeds two stretches may share the field in which they meet."""
-    speeds = [Stretch(first, last, Line(2, 2, 1, 1)) for first, last in ((10, 20), (30, 40))]
+    speeds = [Stretch(first, last, LINE) for first, last in ((10, 20), (30, 40))]
     asked = (1, 10), (1, 11), (12, 15), (19, 30), (20, 30), (20, 31), (39, 50), (40, 50)
-    assert [one for one in asked if is_free(speeds, *one)] == [(1, 10), (20, 30), (40, 50)]
-    assert is_free([], 1, 99)
+    assert [one for one in asked if is_free(speeds, Stretch(*one, LINE))] == [(1, 10), (20, 30), (40, 50)]
+    assert is_free([], Stretch(1, 99, LINE))
 
 
 # Showings of minutes, fields with lead-in or lead-out, and the breaks: a minute that was held, or that has lost some of

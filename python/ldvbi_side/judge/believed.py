@@ -36,6 +36,14 @@ class Line(NamedTuple):
         is_begin = (reading.field - reading.variant - self.field) % 2 == 0
         return is_begin and self.number_at(reading.field) == reading.number
 
+    def meeting(self, other: "Line", before: Reading, after: Reading) -> Optional[int]:
+        """The first field of the picture in which another line has the same number, between two readings near each
+        other."""
+        if after.field - before.field > APART or (self.field - other.field) % 2:
+            return None
+        return next((field for field in range(before.field - before.variant, after.field + 1)
+                     if self.number_at(field) == other.number_at(field)), None)
+
     def name(self) -> str:
         """How many numbers a picture has."""
         return str(self.step) if self.fields == 2 else "1/3"
@@ -109,9 +117,12 @@ class Numbers(_Numbers):  # so that it can keep what was found of it
 
     def around(self, first: int, last: Optional[int] = None) -> Around:
         """The believed readings before a field and after it, or after another one; each may be None."""
-        inside = self.places_in(first, first if last is None else last)
-        return (self.believed[inside.start - 1] if inside.start else None,
-                self.believed[inside.stop] if inside.stop < len(self.fields) else None)
+        return self.beside(self.places_in(first, first if last is None else last))
+
+    def beside(self, places: slice) -> Around:
+        """The believed readings before these places and after them."""
+        return (self.believed[places.start - 1] if places.start else None,
+                self.believed[places.stop] if places.stop < len(self.fields) else None)
 
     def off(self, before: Reading, after: Reading) -> Optional[int]:
         """How many fields are too many (or, negative, too few) between two readings; None if the number stays."""
@@ -154,7 +165,7 @@ def off_at_speed(numbers: Numbers, before: Reading, after: Reading) -> Optional[
     if line[:2] == other[:2] == _NORMAL or not line.has(before) or not other.has(after):
         return None
     if line[:2] != other[:2]:
-        return None if meeting(line, other, before, after) is None else 0
+        return None if line.meeting(other, before, after) is None else 0
     if line.has(after):
         return 0
     over = after.number - line.number_at(after.field)
@@ -169,16 +180,8 @@ def off_at_speed(numbers: Numbers, before: Reading, after: Reading) -> Optional[
 def passed_between(numbers: Numbers, before: Reading, after: Reading) -> List[Tuple[int, int]]:
     """The numbers that are due between two readings that fit at another speed, each with its field."""
     line, other = line_from(numbers, before), line_from(numbers, after)
-    turn = meeting(line, other, before, after)
+    turn = after.field if line.has(after) else line.meeting(other, before, after)
     if turn is None:
         return []
     fields = range(before.field - before.variant + 2, after.field - after.variant, 2)
     return [((line if field <= turn else other).number_at(field), field) for field in fields]
-
-
-def meeting(line: Line, other: Line, before: Reading, after: Reading) -> Optional[int]:
-    """The first field of the picture in which two lines have the same number, between two readings near each other."""
-    if after.field - before.field > APART or (line.field - other.field) % 2:
-        return None
-    return next((field for field in range(before.field - before.variant, after.field + 1)
-                 if line.number_at(field) == other.number_at(field)), None)

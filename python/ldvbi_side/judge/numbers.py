@@ -48,17 +48,16 @@ class Times(NamedTuple):
                 for field in self.parts.keys() - {one.field for one in readings}
                 for number, state in [judged.numbers[field - 1]]
                 if number is not None and state in (State.believed, State.doubtful)]
-        return sorted(readings + more) if more else readings
+        return sorted(readings + more)
 
     def of_line(self, line: Line, fields: List[int]) -> List[Reading]:
         """The times of these fields of a line, in which only the second and the picture were read."""
         return [Reading(field, line.number_at(field), self.codes.weight(field, SECOND), SECOND) for field in fields
-                if field not in self.minutes and self.parts.get(field) == line.number_at(field) % self.whole]
+                if self.parts.get(field) == line.number_at(field) % self.whole]
 
-    def completed_weight(self, field: int, number: int) -> int:
-        """The weight of line 16, less that of any other minute which the field itself says."""
-        against = [self.codes.weight(field, lines) for minute, lines in self.minutes.get(field, {}).items()
-                   if minute != number // self.whole]
+    def completed_weight(self, field: int) -> int:
+        """The weight of line 16, less that of any minute which the field itself says: it is another one."""
+        against = [self.codes.weight(field, lines) for lines in self.minutes.get(field, {}).values()]
         return max(self.codes.weight(field, SECOND) - max(against, default=0), 0)
 
 
@@ -138,6 +137,6 @@ def _completions(times, numbers, readings):
         dues = [near.number + (field - near.field) // 2 for near in numbers.around(field) if near]
         found = {due - most + off for due in dues for off in [(times.parts[field] - due + most) % times.whole]
                  if off <= 2 * most}
-        more += [Reading(field, number, times.completed_weight(field, number), SECOND) for number in sorted(found)
+        more += [Reading(field, number, times.completed_weight(field), SECOND) for number in sorted(found)
                  if number >= 0 and (field, number) not in said]
     return more

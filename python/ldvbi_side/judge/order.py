@@ -9,7 +9,7 @@ import operator
 from collections import Counter
 from typing import Callable, Collection, Dict, List, Mapping, Sequence
 
-from .believed import APART, SLOW, Line, Numbers, Stretch, line_from, meeting
+from .believed import APART, SLOW, Line, Numbers, Stretch, line_from
 from .paces import price
 from .readings import WEIGHTS, Reading
 
@@ -61,8 +61,9 @@ def with_speeds(numbers: Numbers, readings: List[Reading],
                 complete: Callable[[Line, List[int]], List[Reading]] = lambda line, fields: []) -> Numbers:
     """These numbers, with the stretches at another speed that weigh more than what was believed in their fields.
     `readings` ascend by field. `complete` finds more readings of a line in fields that have none."""
-    kind = numbers.pace.kind if numbers.pace else None
-    if kind not in ("video", "both"):
+    assert numbers.pace is not None
+    kind = numbers.pace.kind
+    if kind == "film":
         return numbers
     loose, stays = _loose(numbers, readings)
     lines = _lines(loose, kind == "both") + _slow_lines(stays)
@@ -70,21 +71,22 @@ def with_speeds(numbers: Numbers, readings: List[Reading],
         return numbers
     fields, numbers = [one.field for one in readings], numbers._replace(believed=list(numbers.believed))
     for line, ones in sorted(lines, key=lambda found: -sum(one.weight for one in found[1])):
-        first, last = _extent(numbers, line, ones)
-        if is_free(numbers.speeds, first, last):
-            near = readings[bisect.bisect_left(fields, first):bisect.bisect(fields, last)]
+        stretch = _stretch_of(numbers, line, ones)
+        if is_free(numbers.speeds, stretch):
+            near = readings[bisect.bisect_left(fields, stretch.first):bisect.bisect(fields, stretch.last)]
             read = {one.field for one in near}
-            found = [one._replace(variant=(one.field - line.field) % 2) for one in near] if kind == "both" else near
-            ones = [one for one in found if line.has(one)] + complete(
-                line, [field for field in range(first, last + 1, 2) if field not in read])
-            numbers = _with_stretch(numbers, Stretch(first, last, line), sorted(ones, key=lambda one: one.field))
+            near += complete(line, [field for field in range(stretch.first, stretch.last + 1) if field not in read])
+            if kind == "both":
+                near = [one._replace(variant=(one.field - line.field) % 2) for one in near]
+            numbers = _with_stretch(numbers, stretch, sorted(one for one in near if line.has(one)))
     return numbers._replace()
 
 
-def is_free(speeds: Sequence[Stretch], first: int, last: int) -> bool:
-    """Whether no stretch is in more of these fields than the first one or the last."""
-    place = bisect.bisect(speeds, (first, math.inf))
-    return (place == 0 or speeds[place - 1].last <= first) and (place == len(speeds) or speeds[place].first >= last)
+def is_free(speeds: Sequence[Stretch], stretch: Stretch) -> bool:
+    """Whether none of these stretches is in more fields of another one than the first or the last."""
+    place = bisect.bisect(speeds, (stretch.first, math.inf))
+    return (place == 0 or speeds[place - 1].last <= stretch.first) and (
+        place == len(speeds) or speeds[place].first >= stretch.last)
 
 
 def _with_stretch(numbers, stretch, ones):
@@ -95,7 +97,7 @@ def _with_stretch(numbers, stretch, ones):
     known = set(fields)
     if 2 * sum(one.weight for one in inside if one.field not in known) > sum(one.weight for one in ones):
         return numbers  # as when a disc is turned by hand: it showed other numbers, too
-    before, after = numbers.around(stretch.first, stretch.last)
+    before, after = numbers.beside(places)
     place = bisect.bisect(numbers.speeds, stretch)
     changed = numbers._replace(speeds=numbers.speeds[:place] + (stretch,) + numbers.speeds[place:])
     if _worth(changed, before, ones, after) - 2 * price(1) <= _worth(numbers, before, inside, after):
@@ -119,10 +121,9 @@ def _loose(numbers, readings):
     """The readings that fit no neighbour at the disc's own speed, and the believed ones whose number stays."""
     believed = numbers.believed
     begins, values = [one.field - one.variant for one in believed], numbers.values
-    goes_on = [step != 0 and apart == 2 * step for apart, step in
-               zip(map(operator.sub, begins[1:], begins), map(operator.sub, values[1:], values))]
-    fits = {field for field, before, after in zip(numbers.fields, [False] + goes_on, goes_on + [False])
-            if before or after}
+    steps = zip(map(operator.sub, begins[1:], begins), map(operator.sub, values[1:], values))
+    goes_on = [place for place, (apart, step) in enumerate(steps) if step != 0 and apart == 2 * step]
+    fits = {numbers.fields[place + on] for place in goes_on for on in (0, 1)}
     stays = {one for pair in zip(believed, believed[1:]) if pair[0].number == pair[1].number and
              pair[1].variant <= pair[0].variant for one in pair}
     return [one for one in readings if one.field not in fits], sorted(stays)
@@ -171,20 +172,19 @@ def _slow_lines(stays):
             for begin, ones in zip(begins, found) if _is_enough(ones)]
 
 
-def _extent(numbers, line, ones):
-    """The fields of a stretch with these readings, up to the pictures in which the speed changes."""
+def _stretch_of(numbers, line, ones):
+    """The stretch with these readings of a line, up to the pictures in which the speed changes."""
     first, last = ones[0].field, ones[-1].field
     before, after = numbers.around(first, last)
     if line.fields == SLOW:
-        return first, last
+        return Stretch(first, last, line)
     if before:
-        turn = meeting(line_from(numbers, before), line, before, ones[0])
+        turn = line_from(numbers, before).meeting(line, before, ones[0])
         first = first if turn is None else turn
     if after:
-        end = ones[-1]._replace(variant=(last - line.field) % 2)
-        turn = meeting(line, line_from(numbers, after), end, after)
+        turn = line.meeting(line_from(numbers, after), ones[-1], after)
         last = last if turn is None else turn
-    return first, last
+    return Stretch(first, last, line)
 
 
 # ---- Swapped fields
@@ -192,12 +192,12 @@ def _extent(numbers, line, ones):
 def with_swaps(numbers: Numbers, readings: List[Reading], shown: Collection[int]) -> Numbers:
     """These numbers, and each one that was read in pass 1 or on two lines and stands one field off between two that
     fit, if no number was read in the field in which it is due. `shown` are the fields in which a number was read."""
-    kind = numbers.pace.kind if numbers.pace else None
-    aside = [one for one in numbers.aside(readings) if one.weight >= WEIGHTS[1]]
-    if kind in ("video", "film"):
-        found = {one.field: (one, due) for one, due in _off_by_one(numbers, aside) if due not in shown}
+    assert numbers.pace is not None
+    sure = [one for one in readings if one.weight >= WEIGHTS[1]]
+    if numbers.pace.kind == "both":
+        found = _of_both(numbers, sure)
     else:
-        found = _of_both(numbers, readings) if kind == "both" else {}
+        found = {one.field: (one, due) for one, due in _off_by_one(numbers, numbers.aside(sure)) if due not in shown}
     if not found:
         return numbers
     kept = [one for one in numbers.believed if one.field not in found] + [one for one, _ in found.values()]
@@ -214,28 +214,28 @@ def _off_by_one(numbers, aside):
     for one, before, after in threes + [(one, *numbers.around(one.field)) for one in aside]:
         if before and after and before.number < one.number < after.number and before.variant == after.variant and (
                 numbers.fit((before, after))):
-            due = before.field + numbers.pace.between(before.number, one.number - before.number, 0, after.variant)
-            if abs(due - one.field) == 1:
-                yield one._replace(variant=after.variant), due
+            one = one._replace(variant=after.variant)
+            off = numbers.off(before, one)
+            if abs(off) == 1:
+                yield one, one.field - off
 
 
-def _of_both(numbers, readings):
+def _of_both(numbers, sure):
     """Where each field of a picture has its number: the second field of one and the first of the next, each of which
     shows the other's, and the other field of either picture, with the field in which each is due."""
-    found = {}
-    for one, other in zip(readings, readings[1:]):
-        if other.number != one.number - 1 or other.field != one.field + 1 or (
-                min(one.weight, other.weight) < WEIGHTS[1]):
+    found, shown = {}, {(one.field, one.number): one for one in sure}
+    for (field, number), one in shown.items():
+        other = shown.get((field + 1, number - 1))
+        inside = numbers.places_in(field - 1, field + 2)
+        around = [near for near in numbers.beside(inside) if near]
+        if other is None or len(around) == 2 and numbers.off(*around):
             continue
-        around = one.field - 1, other.field + 1
-        before, after = numbers.around(*around)
-        if not numbers.fit((before, after)):
-            continue
-        begin = before.field - before.variant
-        places = {one.field: one.field + 1, other.field: one.field}
-        ones = [near for near in numbers.believed[numbers.places_in(*around)] if near.field not in places]
+        base = min(around, default=one)
+        begin = base.field - base.variant
+        places = {field: other.field, other.field: field}
+        ones = [near for near in numbers.believed[inside] if near.field not in places]
         ones = [(near, places.get(near.field, near.field)) for near in ones + [one, other]]
-        if all(near.number == before.number + (due - begin) // 2 for near, due in ones):
+        if all(near.number == base.number + (due - begin) // 2 for near, due in ones):
             found.update((near.field, (near._replace(variant=(due - begin) % 2), due)) for near, due in ones)
     return found
 

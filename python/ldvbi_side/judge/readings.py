@@ -8,7 +8,7 @@ from ldvbi.classes import usual_pictures
 from ldvbi.codes import CAV_KINDS, CLV_KINDS, LINES, STANDARD_LINES, code_of, value_of
 from ldvbi.readings import Cut
 
-WEIGHTS = (0, 2, 1, 1)  # of a line without a word, with one of pass 1, of pass 2, with a recovered one (pass 3)
+WEIGHTS = {1: 2, 2: 1, 3: 1}  # of a word of pass 1, of pass 2, of a recovered one (pass 3)
 Lines = Tuple[int, ...]
 Values = Dict[Any, Lines]  # what a field says by codes of one kind, each value with its lines
 ByField = Dict[int, Values]
@@ -154,7 +154,6 @@ class _Known(Dict[int, Any]):
     the same. Where a disc has no such word, nothing is said."""
 
     def __init__(self, kinds: Dict[Kind, ByField], lines: Lines) -> None:
-        super().__init__()
         self.lines = lines
         self.of_kind = [kinds.get(kind) for kind in Kind]  # by the kind's number
         self.is_there = [lines[0] in STANDARD_LINES.get(kind, ()) for kind in Kind]
