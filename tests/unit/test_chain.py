@@ -86,7 +86,7 @@ def test_noise():
     noise = [Reading(4 * place, place ** 3 % 10007, 4, (17, 18)) for place in range(1, 1002)]
     assert not believed(noise) and not believed(noise[:-1] + [noise[-1]._replace(field=4008)])
     for others in (noise[:1000], noise[:-1] + [noise[-1]._replace(field=4009)],  # few, and too far apart
-                   noise[:749] + readings(*range(252), first=3001)):
+                   noise[:752] + readings(*range(252), first=3013)):
         assert believed(others)
     sure = {one.field: one.number for one in noise[::500]}  # between two of the library's there are fewer
     assert len(believed(noise, sure)) > len(sure)
@@ -112,7 +112,7 @@ def test_which_are_believed(ones, wanted):
 # costs 2, of three 3, of 65,535 17; that a number begins to stay costs 2; of chains that are worth the same the longer
 # one is taken, the one without a jump back, and the first. Four readings before one are asked in any case.
 CHAINS = """
-    1:5/4 | 1 || 1:5/4 3:70000/4 | 1 || 1:5/3 3:70000/4 | 3
+    1:5/4 | 1 || 1:5/4 1:6/5 | 1 || 1:5/4 3:70000/4 | 1 || 1:5/3 3:70000/4 | 3
     1:5/4 3:5/1 | 1 || 1:5/4 3:5/2 5:5/1 | 1 3 5 || 1:70000/3 3:9/4 5:9/1 | 3 || 1:5/1 3:5/1 | 1
     1:5/4= 5:5/1 | 1 || 1:4/4= 3:5/4= 5:5/1 | 1 3 || 1:5/4= 3:5/4= 5:5/1 | 1 3 5
     1:5/4 3:6/4 6:7/2 | 1 3 6 || 1:5/4 3:6/4 6:7/1 | 1 3 || 1:5/4 3:6/4 4:5/3 | 1 3 || 1:5/4 3:6/4 4:5/4 | 1 3 4

@@ -144,11 +144,12 @@ def _due(numbers, steps, codes):
     found, due, spacing = [], [], _spacing_of(numbers)
     without_field, unshown, unseen = set(), set(), set()
     for _, before, after, kind, _ in steps:
+        passed = range(before.number + 1, after.number)
         if kind == "speed":
             found += passed_between(numbers, before, after)
-        elif kind == "next" and after.number - before.number > 1:
+        elif kind == "next" and passed:
             if isinstance(numbers.pace, Pace):
-                between = _due_between(numbers, before, after)
+                between = _due_between(numbers, before, after, passed)
                 empty = {number for number, field in between if (number - before.number) % spacing and
                          codes.fields.causes[field - 1][0] == "blank"}
                 unshown |= empty
@@ -159,7 +160,7 @@ def _due(numbers, steps, codes):
                 else:
                     found += between
             else:  # of a minute that wasn't read no field is the first one
-                without_field.update(range(before.number + 1, after.number))
+                without_field.update(passed)
     for number, field in found:
         # none is due if both lines show another number surely, or the field a code in the place of a number
         said, is_other = codes.sure_picture(field), field in numbers.others
@@ -176,13 +177,13 @@ def _is_played(codes, field, said):
     return any(abs(said - number) <= 1 for near in NEAR for number in codes.kinds[Kind.picture].get(field + near, ()))
 
 
-def _due_between(numbers, before, after):
+def _due_between(numbers, before, after, passed):
     pace = numbers.pace
     # of a picture with its number on both fields the first one is meant
     variant = 0 if pace.kind == "both" else after.variant
     begin = numbers.place_of(before)
-    left_out = numbers.clock.left_out_in(before.number + 1, after.number - 1)
-    kept = [number for number in range(before.number + 1, after.number) if number not in left_out]
+    left_out = numbers.clock.left_out_in(before.number, after.number)
+    kept = [number for number in passed if number not in left_out]
     found = [(number, begin + pace.between(before.number, step, before.variant, variant))
              for step, number in enumerate(kept, 1)]
     # there is no field for the last one if the number before is one that the clock leaves out
@@ -192,7 +193,7 @@ def _due_between(numbers, before, after):
 def _open(numbers, steps):
     """The numbers of gaps that a clock may have left out, if none was found."""
     singles, pairs = ([range(before.number + 1, after.number) for _, before, after, kind, off in steps
-                       if kind == "break" and after.number > before.number and off == few] for few in (-2, -4))
+                       if kind == "break" and off == few] for few in (-2, -4))
     if not singles and not pairs or numbers.clock.kind != ClockKind.plain:
         return set()
     ends = [(step.before.number, step.after.number) for step in steps if step.kind not in ("same", "next")]
