@@ -86,7 +86,9 @@ def test_noise():
     noise = [Reading(4 * place, place ** 3 % 10007, 4, (17, 18)) for place in range(1, 1002)]
     assert not believed(noise) and not believed(noise[:-1] + [noise[-1]._replace(field=4008)])
     for others in (noise[:1000], noise[:-1] + [noise[-1]._replace(field=4009)],  # few, and too far apart
-                   noise[:752] + readings(*range(252), first=3013)):
+                   noise[:752] + readings(*range(252), first=3013),
+                   # four rows by turns
+                   [Reading(2 * place, place + 9999 * (place % 4), 4, (17, 18)) for place in range(1, 1002)]):
         assert believed(others)
     sure = {one.field: one.number for one in noise[::500]}  # between two of the library's there are fewer
     assert len(believed(noise, sure)) > len(sure)
