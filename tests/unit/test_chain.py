@@ -140,8 +140,9 @@ def test_chains():
         assert " ".join(str(one.field) for one in chosen(ones, VIDEO, sure)) == wanted, text
         if not sure:
             assert [one.field for one in chain(ones, VIDEO)] == list(believed(ones))
-    # a chapter that stays is no jump back
-    assert len(chain(parsed("1:5/2 3:5/2 5:40/4")[0], PACES["chapters"])) == 2
+    # a chapter that stays is no jump back, and of two that fit none is taken
+    for text, fields in (("1:5/2 3:5/2 5:40/4", [1, 3]), ("1:5/2 3:5/2 3:6/2 5:6/2", [1, 5])):
+        assert [one.field for one in chain(parsed(text)[0], PACES["chapters"])] == fields
 
 
 def test_between_two_that_are_sure():
