@@ -3,7 +3,7 @@ one side and the start of another."""
 
 import bisect
 from collections import Counter
-from typing import Any, Dict, List, NamedTuple, Set, Tuple
+from typing import Any, Dict, List, NamedTuple, Optional, Set, Tuple
 
 from ldvbi import ClockKind, Kind
 from .believed import Numbers, off_at_speed, passed_between
@@ -65,12 +65,12 @@ class Places(NamedTuple):
 class _Step(NamedTuple):
     """Two believed readings, one after the other, of which `place` is that of the second. `kind` is `same` (one
     showing of a number), `still` (it is shown again), `next` (they fit), `speed` (they fit at another speed), `join`
-    (another side begins between them) or `break`; `off` are the fields that are too many or too few."""
+    (another side begins between them) or `break`; `off` are the fields that are too many or too few, if any may be."""
     place: int
     before: Reading
     after: Reading
     kind: str
-    off: int = 0
+    off: Optional[int] = None
 
 
 def places_of(numbers: Numbers, codes: Codes) -> Places:
