@@ -2,6 +2,7 @@
 one side and the start of another."""
 
 import bisect
+import itertools
 from collections import Counter
 from typing import Any, Dict, List, NamedTuple, Optional, Set, Tuple
 
@@ -81,9 +82,10 @@ def places_of(numbers: Numbers, codes: Codes) -> Places:
     steps = [_step(numbers, place) for place in numbers.odd_places]
     # from this place on no number but the last one is shown: that may stay beside lead-out
     begins, values = sorted(lead_in), numbers.values
-    last = next((place for place in range(len(values) - 1, 0, -1) if values[place - 1] != values[-1]), 0)
+    *_, final = values or [None]
+    last = len(values) - len(list(itertools.takewhile(final.__eq__, reversed(values))))
     # another side begins between two readings that don't fit, if one of these ends stands there
-    joined = [step for step in steps if ends and step.kind in ("still", "break") and _is_between(
+    joined = [step for step in steps if step.kind in ("still", "break") and _is_between(
         ends if step.place <= last else begins, step.before.field, step.after.field)]
     # where the numbers go back, it stays a break, too
     away = {step.place for step in joined if step.after.number >= step.before.number}
@@ -94,7 +96,7 @@ def places_of(numbers: Numbers, codes: Codes) -> Places:
     breaks = [_break(numbers, step.before, step.after, step.off) for step in steps if step.kind == "break"]
     if isinstance(numbers.pace, MinutePace):
         breaks += minute_breaks(numbers.pace, showings, ends)
-    left_out = set().union(*(numbers.clock.left_out_in(before.number + 1, after.number - 1)
+    left_out = set().union(*(numbers.clock.left_out_in(before.number, after.number)
                              for _, before, after, kind, _ in steps if kind in ("next", "break")))
     number_of = {**{field: number for number, field in due}, **numbers.taken}
     return Places(numbers, showings, sorted(breaks, key=lambda one: one.after),
@@ -130,7 +132,7 @@ def _showings(numbers, steps):
 def _stills(showings, steps):
     """The numbers that stand still, each with its fields."""
     stays, stills = {step.after.field for step in steps if step.kind == "still"}, []
-    for before, one in zip(showings, showings[1:]) if stays else ():
+    for before, one in zip(showings, showings[1:]):
         if one.first in stays and stills and stills[-1].last == before.last:
             stills[-1] = stills[-1]._replace(last=one.last)
         elif one.first in stays:
