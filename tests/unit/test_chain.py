@@ -51,7 +51,7 @@ def test_paces_rows(name, table):
 def test_rows_of_paces():
     """Of numbers that go on from one to the next, in whichever fields of their pictures they were read, the row is the
     same or one of those a step away, and none of these is asked in vain."""
-    for pace in (VIDEO, PACES["both"], PACES["film"]):
+    for pace in map(Pace, ("video", "both", "film")):
         ways = [(one, other) for one in range(pace.variants) for other in range(pace.variants)
                 if pace.kind != "film" or one == other < 2]  # as it changes only at a cut
         steps = {pace.row(0, number) - pace.row(pace.between(number, step, *way), number + step)
