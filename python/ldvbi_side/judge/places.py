@@ -82,7 +82,7 @@ def places_of(numbers: Numbers, codes: Codes) -> Places:
     steps = [_step(numbers, place) for place in numbers.odd_places]
     # from this place on no number but the last one is shown: that may stay beside lead-out
     begins, values = sorted(lead_in), numbers.values
-    *_, final = values or [None]
+    *_, final = [None, *values]
     last = len(values) - len(list(itertools.takewhile(final.__eq__, reversed(values))))
     # another side begins between two readings that don't fit, if one of these ends stands there
     joined = [step for step in steps if step.kind in ("still", "break") and _is_between(
