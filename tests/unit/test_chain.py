@@ -52,7 +52,7 @@ def test_paces_rows(name, table):
 def test_rows_of_paces():
     """Of numbers that go on from one to the next, in whichever fields of their pictures they were read, the row is the
     same or one of those a step away, and none of these is asked in vain."""
-    for pace in (VIDEO, PACES["both"], PACES["film"]):
+    for pace in map(Pace, ("video", "both", "film")):
         ways = [(one, other) for one in range(pace.variants) for other in range(pace.variants)
                 if pace.kind != "film" or one == other < 2]  # as it changes only at a cut
         steps = {pace.row(0, number) - pace.row(pace.between(number, step, *way), number + step)
@@ -87,7 +87,9 @@ def test_noise():
     noise = [Reading(4 * place, place ** 3 % 10007, 4, (17, 18)) for place in range(1, 1002)]
     assert not believed(noise) and not believed(noise[:-1] + [noise[-1]._replace(field=4008)])
     for others in (noise[:1000], noise[:-1] + [noise[-1]._replace(field=4009)],  # few, and too far apart
-                   noise[:749] + readings(*range(252), first=3001)):
+                   noise[:752] + readings(*range(252), first=3013),
+                   # four rows by turns
+                   [Reading(2 * place, place + 9999 * (place % 4), 4, (17, 18)) for place in range(1, 1002)]):
         assert believed(others)
     sure = {one.field: one.number for one in noise[::500]}  # between two of the library's there are fewer
     assert len(believed(noise, sure)) > len(sure)
@@ -113,9 +115,10 @@ def test_which_are_believed(ones, wanted):
 # costs 2, of three 3, of 65,535 17; that a number begins to stay costs 2; of chains that are worth the same the longer
 # one is taken, the one without a jump back, and the first. Four readings before one are asked in any case.
 CHAINS = """
-    1:5/4 | 1 || 1:5/4 3:70000/4 | 1 || 1:5/3 3:70000/4 | 3
+    1:5/4 | 1 || 1:5/4 1:6/5 | 1 || 1:5/4 3:70000/4 | 1 || 1:5/3 3:70000/4 | 3
     1:5/4 3:5/1 | 1 || 1:5/4 3:5/2 5:5/1 | 1 3 5 || 1:70000/3 3:9/4 5:9/1 | 3 || 1:5/1 3:5/1 | 1
-    1:5/4= 5:5/1 | 1 || 1:4/4= 3:5/4= 5:5/1 | 1 3 || 1:5/4= 3:5/4= 5:5/1 | 1 3 5
+    1:5/4 3:5/4 5:5/1 5:6/2 | 1 3 5 || 1:5/4= 5:5/1 | 1 || 1:4/4= 3:5/4= 5:5/1 | 1 3 || 1:5/4= 3:5/4= 5:5/1 | 1 3 5
+    1:5/3 3:5/3 5:5/1 7:4/4 9:5/4 | 1 3 5 9 || 1:5/4 3:5/2 3:6/2 | 1 3
     1:5/4 3:6/4 6:7/2 | 1 3 6 || 1:5/4 3:6/4 6:7/1 | 1 3 || 1:5/4 3:6/4 4:5/3 | 1 3 || 1:5/4 3:6/4 4:5/4 | 1 3 4
     59:30/4= 101:32819/4 104:32820/4= | 59 101 104 || 59:30/4= 101:32819/3 103:9/1 104:32820/4= | 59 101 104
     59:30/4= 101:40000/4 103:9/1 105:900/1 107:90/1 111:40004/4= | 59 101 111
@@ -138,8 +141,9 @@ def test_chains():
         assert " ".join(str(one.field) for one in chosen(ones, VIDEO, sure)) == wanted, text
         if not sure:
             assert [one.field for one in chain(ones, VIDEO)] == list(believed(ones))
-    # a chapter that stays is no jump back
-    assert len(chain(parsed("1:5/2 3:5/2 5:40/4")[0], PACES["chapters"])) == 2
+    # a chapter that stays is no jump back, and of two that fit none is taken
+    for text, fields in (("1:5/2 3:5/2 5:40/4", [1, 3]), ("1:5/2 3:5/2 3:6/2 5:6/2", [1, 5])):
+        assert [one.field for one in chain(parsed(text)[0], PACES["chapters"])] == fields
 
 
 def test_between_two_that_are_sure():

@@ -76,6 +76,10 @@ DETOURS = """
     replaced | b1..100 <111..120 -/#N/#N -/#N/#N+1> b111..200 | no own lost repeated | doubtful x40
     replaced | b1..100 b103..140 b139..200 | no lost breaks doubtful | missing 101-102 undecided
     replaced | 1..59 -/#60/#60x60 B 61..99 | no detours doubtful missing | stills 60@119-178
+    replaced | 1..60 -/#60/#60x60 61..99 | no detours doubtful missing | stills 60@119-180
+    replaced | 1..60 40061..40080 81..140 141=-/#71*/#40071 | count 121 | conflicts 141 71|40071 71
+    replaced replaced replaced replaced | b1..19 b23..24 b22..26 b30..31 b29..33 b37..38 b36..40 b44..45 b43..90
+        | no own lost repeated | doubtful x32
     replaced | t0..199 t12205..12214 t210..399 | no lost breaks | missing 0:00:08.00-0:00:08.09 unread | count 390
 """
 

@@ -12,6 +12,7 @@ its variant, is found last. docs/SIDES.md has the rules."""
 
 import contextlib
 import functools
+import itertools
 import math
 from typing import Dict, Iterator, List, Mapping, Tuple
 
@@ -55,8 +56,8 @@ def is_on_both(numbers: List[Number]) -> bool:
     """Whether most numbers stand on the field before as well, as on no film: at a third of the speed numbers on both
     fields may look like those of film."""
     shown = [number if state in (State.believed, State.doubtful) else None for number, state in numbers]
-    again = sum(one == other is not None for one, other in zip(shown, shown[1:]))
-    return 2 * again > len(shown) - shown.count(None)
+    runs = [number for number, _ in itertools.groupby(shown) if number is not None]
+    return len(shown) - shown.count(None) > 2 * len(runs)
 
 
 def pace_of(judged: JudgedSide) -> Pace:

@@ -51,9 +51,8 @@ def _ruled_out(period, singles, runs):
         whole, more = divmod(max(len(run) - 2, 0), period)  # a number at an end shows nothing
         begin = (run.start + 1) % period
         steps[0] += whole
-        for low, high in ((begin, min(begin + more, period)), (0, begin + more - period)):
-            if low < high:
-                steps[low] += 1
-                steps[high] -= 1
+        for low, high in ((begin, min(begin + more, period)), (0, max(begin + more - period, 0))):
+            steps[low] += 1
+            steps[high] -= 1
     shown = itertools.accumulate(steps[rest] for rest in range(period))
     return {rest for rest, count in enumerate(shown) if count >= max(gone[rest], 1)}

@@ -44,4 +44,4 @@ def without_rows(readings: List[Reading], detours: List[Detour], judged: JudgedS
     rows: Dict[int, int] = {field: pace.row(one.first, one.from_) for one in detours
                             for field in range(one.first, one.last + 1)}
     return [one for one in readings if one.field not in rows or judged.numbers[one.field - 1].number != one.number and
-            rows[one.field] - pace.row(one.field, one.number) not in pace.steps] if rows else readings
+            rows[one.field] - pace.row(one.field, one.number) not in pace.steps]

@@ -2,8 +2,9 @@
 one side and the start of another."""
 
 import bisect
+import itertools
 from collections import Counter
-from typing import Any, Dict, List, NamedTuple, Set, Tuple
+from typing import Any, Dict, List, NamedTuple, Optional, Set, Tuple
 
 from ldvbi import ClockKind, Kind
 from .believed import Numbers, off_at_speed, passed_between
@@ -65,12 +66,12 @@ class Places(NamedTuple):
 class _Step(NamedTuple):
     """Two believed readings, one after the other, of which `place` is that of the second. `kind` is `same` (one
     showing of a number), `still` (it is shown again), `next` (they fit), `speed` (they fit at another speed), `join`
-    (another side begins between them) or `break`; `off` are the fields that are too many or too few."""
+    (another side begins between them) or `break`; `off` are the fields that are too many or too few, if any may be."""
     place: int
     before: Reading
     after: Reading
     kind: str
-    off: int = 0
+    off: Optional[int] = None
 
 
 def places_of(numbers: Numbers, codes: Codes) -> Places:
@@ -81,9 +82,10 @@ def places_of(numbers: Numbers, codes: Codes) -> Places:
     steps = [_step(numbers, place) for place in numbers.odd_places]
     # from this place on no number but the last one is shown: that may stay beside lead-out
     begins, values = sorted(lead_in), numbers.values
-    last = next((place for place in range(len(values) - 1, 0, -1) if values[place - 1] != values[-1]), 0)
+    *_, final = [None, *values]
+    last = len(values) - len(list(itertools.takewhile(final.__eq__, reversed(values))))
     # another side begins between two readings that don't fit, if one of these ends stands there
-    joined = [step for step in steps if ends and step.kind in ("still", "break") and _is_between(
+    joined = [step for step in steps if step.kind in ("still", "break") and _is_between(
         ends if step.place <= last else begins, step.before.field, step.after.field)]
     # where the numbers go back, it stays a break, too
     away = {step.place for step in joined if step.after.number >= step.before.number}
@@ -94,7 +96,7 @@ def places_of(numbers: Numbers, codes: Codes) -> Places:
     breaks = [_break(numbers, step.before, step.after, step.off) for step in steps if step.kind == "break"]
     if isinstance(numbers.pace, MinutePace):
         breaks += minute_breaks(numbers.pace, showings, ends)
-    left_out = set().union(*(numbers.clock.left_out_in(before.number + 1, after.number - 1)
+    left_out = set().union(*(numbers.clock.left_out_in(before.number, after.number)
                              for _, before, after, kind, _ in steps if kind in ("next", "break")))
     number_of = {**{field: number for number, field in due}, **numbers.taken}
     return Places(numbers, showings, sorted(breaks, key=lambda one: one.after),
@@ -130,7 +132,7 @@ def _showings(numbers, steps):
 def _stills(showings, steps):
     """The numbers that stand still, each with its fields."""
     stays, stills = {step.after.field for step in steps if step.kind == "still"}, []
-    for before, one in zip(showings, showings[1:]) if stays else ():
+    for before, one in zip(showings, showings[1:]):
         if one.first in stays and stills and stills[-1].last == before.last:
             stills[-1] = stills[-1]._replace(last=one.last)
         elif one.first in stays:
@@ -144,11 +146,12 @@ def _due(numbers, steps, codes):
     found, due, spacing = [], [], _spacing_of(numbers)
     without_field, unshown, unseen = set(), set(), set()
     for _, before, after, kind, _ in steps:
+        passed = range(before.number + 1, after.number)
         if kind == "speed":
             found += passed_between(numbers, before, after)
-        elif kind == "next" and after.number - before.number > 1:
+        elif kind == "next" and passed:
             if isinstance(numbers.pace, Pace):
-                between = _due_between(numbers, before, after)
+                between = _due_between(numbers, before, after, passed)
                 empty = {number for number, field in between if (number - before.number) % spacing and
                          codes.fields.causes[field - 1][0] == "blank"}
                 unshown |= empty
@@ -159,7 +162,7 @@ def _due(numbers, steps, codes):
                 else:
                     found += between
             else:  # of a minute that wasn't read no field is the first one
-                without_field.update(range(before.number + 1, after.number))
+                without_field.update(passed)
     for number, field in found:
         # none is due if both lines show another number surely, or the field a code in the place of a number
         said, is_other = codes.sure_picture(field), field in numbers.others
@@ -176,13 +179,13 @@ def _is_played(codes, field, said):
     return any(abs(said - number) <= 1 for near in NEAR for number in codes.kinds[Kind.picture].get(field + near, ()))
 
 
-def _due_between(numbers, before, after):
+def _due_between(numbers, before, after, passed):
     pace = numbers.pace
     # of a picture with its number on both fields the first one is meant
     variant = 0 if pace.kind == "both" else after.variant
     begin = numbers.place_of(before)
-    left_out = numbers.clock.left_out_in(before.number + 1, after.number - 1)
-    kept = [number for number in range(before.number + 1, after.number) if number not in left_out]
+    left_out = numbers.clock.left_out_in(before.number, after.number)
+    kept = [number for number in passed if number not in left_out]
     found = [(number, begin + pace.between(before.number, step, before.variant, variant))
              for step, number in enumerate(kept, 1)]
     # there is no field for the last one if the number before is one that the clock leaves out
@@ -192,7 +195,7 @@ def _due_between(numbers, before, after):
 def _open(numbers, steps):
     """The numbers of gaps that a clock may have left out, if none was found."""
     singles, pairs = ([range(before.number + 1, after.number) for _, before, after, kind, off in steps
-                       if kind == "break" and after.number > before.number and off == few] for few in (-2, -4))
+                       if kind == "break" and off == few] for few in (-2, -4))
     if not singles and not pairs or numbers.clock.kind != ClockKind.plain:
         return set()
     ends = [(step.before.number, step.after.number) for step in steps if step.kind not in ("same", "next")]
