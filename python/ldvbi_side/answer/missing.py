@@ -177,7 +177,8 @@ def own_breaks(places: Places) -> List[Break]:
 def _first_after(numbers, after):
     """The first field after which the one may be lost that is lost after this one."""
     place = bisect.bisect(numbers.fields, after) - 1
-    while place > 0 and numbers.believed[place].variant == 0 and numbers.off(
+    # one before them was read in its second field: else all of these would be taken for that, and none would be lost
+    while numbers.believed[place].variant == 0 and numbers.off(
             numbers.believed[place - 1], numbers.believed[place]) == 0:
         place -= 1
     return numbers.fields[place]
