@@ -53,3 +53,12 @@ int main(void)
     printf("%d\n", calls_that_return());
     return ldvbi_abi() != LDVBI_ABI || ldvbi_version() != LDVBI_VERSION;
 }
+
+/* Each part of a version counts, also one that is 0 in this one. */
+#undef LDVBI_VERSION_MAJOR
+#undef LDVBI_VERSION_MINOR
+#undef LDVBI_VERSION_PATCH
+#define LDVBI_VERSION_MAJOR 7
+#define LDVBI_VERSION_MINOR 8
+#define LDVBI_VERSION_PATCH 9
+typedef char each_part_counts[LDVBI_VERSION == 7008009 ? 1 : -1];

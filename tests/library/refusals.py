@@ -1,14 +1,17 @@
 """What each call of the library refuses, and in which order. Some numbers have bits that a parameter of 8 or of 16 bits
 would cut off. A call that refuses touches no array: here none can be touched. A list of erased columns is looked at
-last of all, and before that it may be of any length. And what some calls answer, and which attributes they have."""
+last of all, and before that it may be of any length. And what some calls answer, which attributes they have, and how
+their numbers are named."""
 
 import itertools
+import pathlib
 import re
 import struct
 from collections import defaultdict
 
 from border import Guarded, HEADER, NUMBERS, call, expect, finish, layout, parameters, protect
 
+SOURCES = pathlib.Path(__file__).parents[2] / "crates/vbi_c/src"
 LINE_BYTES, LINES = {NUMBERS.NTSC: 1820, NUMBERS.PAL: 2270}, {NUMBERS.NTSC: 263, NUMBERS.PAL: 313}
 MOST, MOST_BYTES = 2 ** 32 - 1, 2 ** 64 - 1
 CUT_OFF = (256, 257, 258, 259, 65536, 65537, 65538, 65539, 0x80000001, MOST)
@@ -185,6 +188,20 @@ def test_attributes():
         expect(attributes == wanted or name == "find_both", name, "has", attributes, "and not", wanted)
 
 
+def test_names():
+    """A number has the name that it has in the library's own source, in its place, and a pointer leads to the struct
+    that it has there. An array has its length after it."""
+    for path in sorted(SOURCES.glob("*.rt")):
+        for name, text in re.findall(r'extern "C" fn ldvbi_(\w+)\(([^)]+)\)', path.read_text("utf-8")):
+            own = []
+            for key, kind in re.findall(r"(\w+): (.+?)(?:,|$)", text, re.M):
+                own += [key] if "&" not in kind else re.findall(r"Ldvbi(\w+)", kind) or [None]
+                own += [None] * ("[" in kind)
+            taken = [kind if is_pointer else key for key, kind, is_pointer in parameters(name)]
+            expect(len(own) == len(taken) and all(one in (None, other) for one, other in zip(own, taken)),
+                   name, taken, own)
+
+
 if __name__ == "__main__":
     protect(CLOSED.end - 4096, 4096)
     for number in LINE_BYTES:
@@ -192,4 +209,5 @@ if __name__ == "__main__":
     test_judges()
     test_words()
     test_attributes()
+    test_names()
     finish()
