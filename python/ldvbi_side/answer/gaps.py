@@ -103,8 +103,9 @@ class _Known:
         self.losses = Between((one.after, one.before) for one in places.breaks if one.kind == "lost")
         self.speeds = Between((one.first, one.last) for one in places.numbers.speeds)
         self.open = sorted(places.open)
-        stills = [(one.after, one.before) for one in judged.gaps if one.kind == GapKind.still]
-        self.still_after, self.still_before = dict(stills), {before: after for after, before in stills}
+        # on both fields the library doesn't say where a number stays
+        self.begins = {one.first: one.last for one in places.stills}
+        self.ends = {one.last: one.first for one in places.stills}
         self.turns = Between((one.after - TURNED, one.before + TURNED) for one in judged.gaps
                              if one.kind == GapKind.back)
 
@@ -154,15 +155,16 @@ class _Known:
         number stands between that is one off, it looks like a still with the one before or after it."""
         if self.judged.pace != JudgedPace.film or gap.kind != GapKind.lost:
             return False
-        count, after, before = 2 * (gap.to - gap.from_), gap.after, gap.before
-        spans = self.still_after.get(before, after) - after, before - self.still_before.get(after, before)
+        count, (after, before) = 2 * (gap.to - gap.from_), _around(gap)
+        spans = self.begins.get(before, after) - after, before - self.ends.get(after, before)
         return before - after >= count or count in spans
 
     def _is_still(self, gap):
         """Whether a picture that stands still beside it may have stood longer than its number was read: by whole
         pictures, but on film, and with numbers on both fields, it isn't known of which field of a picture one is. Where
         the disc is turned by hand, it shows each picture as long as it likes, and passes over others."""
-        is_beside = gap.from_ == gap.to or gap.after in self.still_before or gap.before in self.still_after
+        after, before = _around(gap)
+        is_beside = gap.from_ == gap.to or after in self.ends or before in self.begins
         is_odd = gap.fields % 2 and self.judged.pace == JudgedPace.video and not self.judged.on_both
         is_turned = self.turns.meet(gap.after, gap.before)
         return gap.kind == GapKind.held and is_beside and not (self.is_time or is_odd or is_turned)
@@ -238,6 +240,5 @@ def _entry(places, gap, is_on_both):
 def _off_on_both(numbers, gap):
     """How many fields are lost, or too many, if both fields of a picture have its number. The library doesn't ask which
     of the two was read. If that isn't known here either, it is None, or 0."""
-    ends = [one for field, number in zip(_around(gap), (gap.from_, gap.to))
-            for one in numbers.believed[numbers.places_in(field, field)] if one.number == number]
+    ends = [one for field in _around(gap) for one in numbers.believed[numbers.places_in(field, field)]]
     return abs(numbers.off(*ends) or 0) if len(ends) == 2 else None

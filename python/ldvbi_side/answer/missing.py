@@ -30,16 +30,16 @@ def missing_of(places: Places, gaps: Gaps, codes: Codes, begin: Optional[Begin],
     lost = [(one.after, one.before) for one in gaps.breaks + gaps.at_speed if one.kind == "lost"]
     others = [(one.from_, one.to) for one in gaps.at_speed if one.kind == "lost"]
     if begin and begin.fields > 0:
-        number, start = ordinal_of(begin.lacks, unit.rate), FIRST[unit.name] - 1
-        is_first = number == min(firsts) and firsts[number] == begin.before
-        if is_first or places.numbers.clock.kind != ClockKind.plain or codes.fields.system != "NTSC" or (
-                unit.name != "time"):  # else an unknown clock may have left out some
-            lost.append((begin.after, begin.before))
-            others.append((0, number - 1))
+        number, start, least = ordinal_of(begin.lacks, unit.rate), FIRST[unit.name] - 1, min(firsts)
+        is_first = (number, begin.before) == (least, firsts[least])
         if is_first:  # as if the number before the disc's first one stood before the lost fields
             breaks = [Break("lost", begin.after, begin.before, start, number, begin.fields)] + breaks
             unshown |= places.numbers.clock.left_out_in(start, number)
             firsts[start] = begin.after
+        if is_first or places.numbers.clock.kind != ClockKind.plain or codes.fields.system != "NTSC" or (
+                unit.name != "time"):  # else an unknown clock may have left out some
+            lost.append((begin.after, begin.before))
+            others.append((min(firsts), number))
     if end:
         breaks, firsts = breaks + [end], {**firsts, end.to: end.before}
         lost += [(end.after, end.before)] * (end.kind == "lost")
@@ -126,11 +126,11 @@ def _fate(one, numbers, fields):
     if one.kind == "held":
         seen = sum(field not in numbers.others and set(fields.causes[field - 1]) != {"blank"}
                    for field in between)
-        return 0, False if seen >= passed else None
+        return passed, False if seen >= passed else None
     is_lost = one.fields >= numbers.pace.least
     if all(field in numbers.others for field in between):  # so that each number was in a field that is lost
         return 0, is_lost if one.fields >= passed else None
-    return max(passed - numbers.pace.numbers_in(one.fields), 0), is_lost
+    return passed - numbers.pace.numbers_in(one.fields), is_lost
 
 
 # ---- Lost fields
