@@ -100,7 +100,6 @@ class _Known:
         self.places, self.judged, self.shown = places, judged, shown
         self.is_time = places.numbers.unit.name == "time"
         self.joins = {(one.field, other.field) for one, other in places.joins}
-        self.losses = Between((one.after, one.before) for one in places.breaks if one.kind == "lost")
         self.speeds = Between((one.first, one.last) for one in places.numbers.speeds)
         self.open = sorted(places.open)
         # on both fields the library doesn't say where a number stays
@@ -119,9 +118,8 @@ class _Known:
 
     def fate(self, gap: Gap) -> Optional[str]:
         """Which of the lists of `Gaps` has it; None of a still. An open one counts if it is known here to be a loss."""
-        first, last = _around(gap)
         # the library takes a number that is the same before and after lead-out for one that stays
-        if gap.kind == GapKind.joined or (first, last) in self.joins:
+        if gap.kind == GapKind.joined or _around(gap) in self.joins:
             return "joins"
         if gap.kind == GapKind.still:
             return None
@@ -130,7 +128,7 @@ class _Known:
         explained = (self._is_clocks, self._are_rows, self._is_video, self._is_still)
         is_open = gap.kind in KINDS or any(may_be(gap) for may_be in explained)
         if gap.kind == GapKind.open:
-            is_open = not self.is_time or not self.losses.meet(first, last) or self.may_skip(gap)
+            is_open = not self.is_time or self.may_skip(gap)
         return "open" if is_open else "breaks"
 
     def _is_clocks(self, gap):
@@ -145,8 +143,8 @@ class _Known:
         if gap.kind not in (GapKind.lost, GapKind.held):
             return False
         first, last = _around(gap)
-        rows = [(number, gap.to) for number in self.shown.get(first, ()) if number != gap.from_]
-        rows += [(gap.from_, number) for number in self.shown.get(last, ()) if number != gap.to]
+        rows = [(number, gap.to) for number in self.shown.get(first, ())]
+        rows += [(gap.from_, number) for number in self.shown.get(last, ())]
         least_off = self.places.numbers.pace.least_off  # in which field of its picture each stands isn't known
         return any(least_off(last - first, one, other - one) == 0 for one, other in rows)
 

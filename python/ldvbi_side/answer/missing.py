@@ -100,7 +100,7 @@ class PassedOver:
         """The numbers from the first to the last in parts of one reason each."""
         begin, end = bisect.bisect(self.begins, first), bisect.bisect(self.begins, last)
         cuts = [first, *self.begins[begin:end], last + 1]
-        return zip(cuts, [cut - 1 for cut in cuts[1:]], self._whys[begin:end + 1])
+        return zip(cuts, [cut - 1 for cut in cuts[1:]], map(self._whys.__getitem__, itertools.count(begin)))
 
 
 def _passed_over(places: Places, breaks: List[Break], losses: Between, codes: Codes) -> Spans:
