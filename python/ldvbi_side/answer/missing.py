@@ -216,7 +216,7 @@ def repeated_of(places: Places) -> List[Repeated]:
     goes_on, speed = False, None
     speeds = places.numbers.speeds
     for number, first, last in sorted(shown, key=lambda showing: showing.first):
-        played = stretch_at(speeds, first) if speeds else None
+        played = stretch_at(speeds, first)
         if number not in seen:
             seen[number] = first
             goes_on = goes_on and played is not None
