@@ -4,7 +4,7 @@ here besides: another speed (rule 6), or which field of a picture was read if bo
 
 import bisect
 import itertools
-from typing import Dict, Iterable, List, NamedTuple, Optional, Set, Tuple, Union
+from typing import Dict, Iterable, List, NamedTuple, Optional, Set, Tuple, Union, cast
 
 from ldvbi import Gap, GapKind, JudgedSide, Pace as JudgedPace, Reason, State
 from ..judge.detours import KINDS, Detour, detour_of, pairs_of
@@ -151,11 +151,9 @@ class _Known:
     def _is_video(self, gap):
         """Whether a film may have video there, with two fields to each picture: it has fields for all of that. If a
         number stands between that is one off, it looks like a still with the one before or after it."""
-        if self.judged.pace != JudgedPace.film or gap.kind != GapKind.lost:
-            return False
         count, (after, before) = 2 * (gap.to - gap.from_), _around(gap)
         spans = self.begins.get(before, after) - after, before - self.ends.get(after, before)
-        return before - after >= count or count in spans
+        return gap.kind == GapKind.lost and (before - after >= count or count in spans)
 
     def _is_still(self, gap):
         """Whether a picture that stands still beside it may have stood longer than its number was read: by whole
@@ -179,8 +177,8 @@ def _is_explained(places, judged, lead_out):
 def is_outside(judged: JudgedSide, one: Break) -> bool:
     """Whether a break stands before the first number that the library believes, which has fields for all numbers before
     it, or after the last one. The library knows of no gap there."""
-    return judged.first is not None and judged.last is not None and (
-        one.after > judged.last or one.before <= judged.first + 1 and not judged.reasons & Reason.begins_late)
+    return judged.first is not None and (one.after > cast(int, judged.last) or
+                                         one.before <= judged.first + 1 and not judged.reasons & Reason.begins_late)
 
 
 def _off_in(places, judged):
@@ -231,12 +229,13 @@ def _entry(places, gap, is_on_both):
     step = gap.to - gap.from_ - places.numbers.left_out(gap.from_, gap.to)
     off = before - after - places.numbers.pace.between(gap.from_, step, 0, 0)
     kind = _KINDS.get(gap.kind) or ("lost" if off < 0 else "held")
-    fields = abs(off) if kind == "back" or gap.kind in KINDS else gap.fields
-    return Break(kind, after, before, gap.from_, gap.to, is_on_both and _off_on_both(places.numbers, gap) or fields)
+    fields = off if kind == "back" or gap.kind in KINDS else gap.fields
+    fields = is_on_both and _off_on_both(places.numbers, gap) or fields
+    return Break(kind, after, before, gap.from_, gap.to, abs(fields))
 
 
 def _off_on_both(numbers, gap):
-    """How many fields are lost, or too many, if both fields of a picture have its number. The library doesn't ask which
-    of the two was read. If that isn't known here either, it is None, or 0."""
+    """How many fields are too many, or, negative, too few, if both fields of a picture have its number. The library
+    doesn't ask which of the two was read. If that isn't known here either, it is None, or 0."""
     ends = [one for field in _around(gap) for one in numbers.believed[numbers.places_in(field, field)]]
-    return abs(numbers.off(*ends) or 0) if len(ends) == 2 else None
+    return numbers.off(*ends) if len(ends) == 2 else None

@@ -28,7 +28,7 @@ def missing_of(places: Places, gaps: Gaps, codes: Codes, begin: Optional[Begin],
     unit, breaks, unshown = places.numbers.unit, places.breaks, set(places.unshown)
     firsts = {one.number: one.first for one in reversed(places.showings)}
     lost = [(one.after, one.before) for one in gaps.breaks + gaps.at_speed if one.kind == "lost"]
-    others = [(one.from_, one.to) for one in gaps.at_speed if one.kind == "lost"]
+    others = [(one.from_, one.to) for one in gaps.at_speed]
     if begin and begin.fields > 0:
         number, start, least = ordinal_of(begin.lacks, unit.rate), FIRST[unit.name] - 1, min(firsts)
         is_first = (number, begin.before) == (least, firsts[least])
@@ -76,7 +76,7 @@ def fates(first: int, last: int, spare: int, is_lost: Optional[bool]) -> Iterato
         yield "undecided" if is_lost is None else "unread", first, last
     elif FAR * spare > last - first + 1:
         yield "undecided", first, last
-    elif spare:  # beside a wide jump only the numbers next to it can have been there
+    else:  # beside a wide jump only the numbers next to it can have been there
         yield "undecided", first, first + spare - 1
         yield "undecided", last - spare + 1, last
 
@@ -112,7 +112,7 @@ def _passed_over(places: Places, breaks: List[Break], losses: Between, codes: Co
         if one.from_ < one.to and (one.kind == "held" or losses.meet(one.after, one.before)):
             for why, first, last in fates(one.from_ + 1, one.to - 1, *_fate(one, places.numbers, codes.fields)):
                 spans[why].append((first, last))
-            shown = map(codes.sure_picture, range(one.after + 1, one.before))
+            shown = map(codes.sure_picture, range(one.after, one.before))
             spans["undecided"] += [(number, number) for number in shown if number is not None]
     between = (sorted((before.number, after.number)) for before, after in places.joins)  # these two are shown
     return [*spans.items(), ("unshown", [(low, high) for low, high in between])]
