@@ -44,7 +44,7 @@ def begin_of(answer: Answer, judged: Optional[JudgedSide], unit: Unit, is_strict
         is_late = bool(judged.reasons & Reason.begins_late) and there < fewest
     else:
         is_open = not is_first
-        is_late = is_open and (number != least or there < fewest)
+        is_late = is_open and there < fewest
     if is_late or is_strict and not is_first:
         lost = (fewest if answer.unit == "minute" else most) - there if is_late else 0
         return Begin(number, None, lost, field - 1 - there, field)

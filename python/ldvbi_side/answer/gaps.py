@@ -4,7 +4,7 @@ here besides: another speed (rule 6), or which field of a picture was read if bo
 
 import bisect
 import itertools
-from typing import Dict, Iterable, List, NamedTuple, Optional, Set, Tuple, Union
+from typing import Dict, Iterable, List, NamedTuple, Optional, Set, Tuple, Union, cast
 
 from ldvbi import Gap, GapKind, JudgedSide, Pace as JudgedPace, Reason, State
 from ..judge.detours import KINDS, Detour, detour_of, pairs_of
@@ -79,14 +79,18 @@ def gaps_of(places: Places, shown: ByField, lead_out: Set[int]) -> Gaps:
     found["open"] += [one for one in places.breaks if is_outside(judged, one)]
     more = None
     if judged.reasons & Reason.is_off and not judged.reasons & _BY_GAPS:
-        explained = Between([(one.after, one.before) for one in found["open"]] +
-                            [(gap.after + 1, gap.before + 1) for gap in away])
+        explained = Between([(one.after, one.before) for one in found["open"]] + list(map(_around, away)))
         off = [one for one in _off_in(places, judged) if not explained.hold(one.after, one.before)]
         found["breaks"] += off
         more = None if off or _is_explained(places, judged, lead_out) else _more(places.numbers)
     for name in ("breaks", "open"):
         found[name].sort(key=lambda one: one.after)
     return Gaps(judged, more=more, detours=[detour_of(*pair) for pair in pairs], **found)
+
+
+def _around(gap: Gap) -> Tuple[int, int]:
+    """The field before a gap and the one after it, counted from 1."""
+    return gap.after + 1, gap.before + 1
 
 
 class _Known:
@@ -96,17 +100,17 @@ class _Known:
         self.places, self.judged, self.shown = places, judged, shown
         self.is_time = places.numbers.unit.name == "time"
         self.joins = {(one.field, other.field) for one, other in places.joins}
-        self.losses = Between((one.after, one.before) for one in places.breaks if one.kind == "lost")
-        self.speeds = Between((one.first - 1, one.last + 1) for one in places.numbers.speeds)
+        self.speeds = Between((one.first, one.last) for one in places.numbers.speeds)
         self.open = sorted(places.open)
-        stills = [(one.after, one.before) for one in judged.gaps if one.kind == GapKind.still]
-        self.still_after, self.still_before = dict(stills), {before: after for after, before in stills}
+        # on both fields the library doesn't say where a number stays
+        self.begins = {one.first: one.last for one in places.stills}
+        self.ends = {one.last: one.first for one in places.stills}
         self.turns = Between((one.after - TURNED, one.before + TURNED) for one in judged.gaps
                              if one.kind == GapKind.back)
 
     def is_at_speed(self, gap: Gap) -> bool:
         """Whether some of its fields were played at another speed."""
-        return self.speeds.meet(gap.after + 1, gap.before + 1)
+        return self.speeds.meet(*_around(gap))
 
     def may_skip(self, gap: Union[Gap, Break]) -> bool:
         """Whether an unknown clock may leave out some of its numbers."""
@@ -114,9 +118,8 @@ class _Known:
 
     def fate(self, gap: Gap) -> Optional[str]:
         """Which of the lists of `Gaps` has it; None of a still. An open one counts if it is known here to be a loss."""
-        first, last = gap.after + 1, gap.before + 1
         # the library takes a number that is the same before and after lead-out for one that stays
-        if gap.kind == GapKind.joined or (first, last) in self.joins:
+        if gap.kind == GapKind.joined or _around(gap) in self.joins:
             return "joins"
         if gap.kind == GapKind.still:
             return None
@@ -125,7 +128,7 @@ class _Known:
         explained = (self._is_clocks, self._are_rows, self._is_video, self._is_still)
         is_open = gap.kind in KINDS or any(may_be(gap) for may_be in explained)
         if gap.kind == GapKind.open:
-            is_open = not self.is_time or not self.losses.meet(first - 1, last) or self.may_skip(gap)
+            is_open = not self.is_time or self.may_skip(gap)
         return "open" if is_open else "breaks"
 
     def _is_clocks(self, gap):
@@ -139,26 +142,25 @@ class _Known:
         than the place from which on the library believes the other row."""
         if gap.kind not in (GapKind.lost, GapKind.held):
             return False
-        first, last = gap.after + 1, gap.before + 1
-        rows = [(number, gap.to) for number in self.shown.get(first, ()) if number != gap.from_]
-        rows += [(gap.from_, number) for number in self.shown.get(last, ()) if number != gap.to]
+        first, last = _around(gap)
+        rows = [(number, gap.to) for number in self.shown.get(first, ())]
+        rows += [(gap.from_, number) for number in self.shown.get(last, ())]
         least_off = self.places.numbers.pace.least_off  # in which field of its picture each stands isn't known
         return any(least_off(last - first, one, other - one) == 0 for one, other in rows)
 
     def _is_video(self, gap):
         """Whether a film may have video there, with two fields to each picture: it has fields for all of that. If a
         number stands between that is one off, it looks like a still with the one before or after it."""
-        if self.judged.pace != JudgedPace.film or gap.kind != GapKind.lost:
-            return False
-        count, after, before = 2 * (gap.to - gap.from_), gap.after, gap.before
-        spans = self.still_after.get(before, after) - after, before - self.still_before.get(after, before)
-        return before - after >= count or count in spans
+        count, (after, before) = 2 * (gap.to - gap.from_), _around(gap)
+        spans = self.begins.get(before, after) - after, before - self.ends.get(after, before)
+        return gap.kind == GapKind.lost and (before - after >= count or count in spans)
 
     def _is_still(self, gap):
         """Whether a picture that stands still beside it may have stood longer than its number was read: by whole
         pictures, but on film, and with numbers on both fields, it isn't known of which field of a picture one is. Where
         the disc is turned by hand, it shows each picture as long as it likes, and passes over others."""
-        is_beside = gap.from_ == gap.to or gap.after in self.still_before or gap.before in self.still_after
+        after, before = _around(gap)
+        is_beside = gap.from_ == gap.to or after in self.ends or before in self.begins
         is_odd = gap.fields % 2 and self.judged.pace == JudgedPace.video and not self.judged.on_both
         is_turned = self.turns.meet(gap.after, gap.before)
         return gap.kind == GapKind.held and is_beside and not (self.is_time or is_odd or is_turned)
@@ -169,14 +171,14 @@ def _is_explained(places, judged, lead_out):
     of a picture equally often; if its number stands beside lead-out, the second one may show nothing but that."""
     if judged.on_both:
         return all((one.last - one.first) % 2 or lead_out.issuperset((one.last, one.last + 1)) for one in places.stills)
-    return not (judged.tally.stills or _shifts(judged))
+    return not _shifts(judged)
 
 
 def is_outside(judged: JudgedSide, one: Break) -> bool:
     """Whether a break stands before the first number that the library believes, which has fields for all numbers before
     it, or after the last one. The library knows of no gap there."""
-    return judged.first is not None and judged.last is not None and (
-        one.after > judged.last or one.before <= judged.first + 1 and not judged.reasons & Reason.begins_late)
+    return judged.first is not None and (one.after > cast(int, judged.last) or
+                                         one.before <= judged.first + 1 and not judged.reasons & Reason.begins_late)
 
 
 def _off_in(places, judged):
@@ -184,15 +186,15 @@ def _off_in(places, judged):
     have its number, and where all numbers of film stand a field off from there on."""
     if judged.on_both:
         return places.breaks
-    shifts = _shifts(judged)
-    return [one for one in places.breaks if any(one.after <= last and first < one.before - 1 for first, last in shifts)]
+    shifts = Between(_shifts(judged))
+    return [one for one in places.breaks if shifts.meet(one.after, one.before)]
 
 
 def _shifts(judged):
     """The fields before and after each place at which film isn't merely cut. At a cut two pictures of two or of three
     fields follow each other: then the even numbers stand a field off, or the odd ones. If a field is lost, all do."""
     rows = [[], []]
-    for field, (number, state) in enumerate(judged.numbers):
+    for field, (number, state) in enumerate(judged.numbers, 1):
         if state == State.believed:
             rows[number % 2].append((field, 2 * field - 5 * number))
     steps = sorted((before, after, abs(later - phase)) for row in rows
@@ -214,8 +216,7 @@ def _more(numbers):
 def _add(entries, one):
     """Adds an entry. A field that was frozen is one, of all its fields too many."""
     last = entries[-1] if entries else None
-    if last and last.kind == one.kind == "held" and (last.before, last.from_, last.to) == (
-            one.after, one.to, one.from_):
+    if last and last.before == one.after and last.from_ == one.from_ == one.to:
         entries[-1] = last._replace(before=one.before, fields=last.fields + one.fields)
     else:
         entries.append(one)
@@ -223,22 +224,18 @@ def _add(entries, one):
 
 def _entry(places, gap, is_on_both):
     """A gap as a break of the answer."""
-    after, before = gap.after + 1, gap.before + 1
+    after, before = _around(gap)
     # how many fields are too many, or, negative, too few, as far as is known without their neighbours
     step = gap.to - gap.from_ - places.numbers.left_out(gap.from_, gap.to)
-    off, fields = gap.before - gap.after - places.numbers.pace.between(gap.from_, step, 0, 0), gap.fields
+    off = before - after - places.numbers.pace.between(gap.from_, step, 0, 0)
     kind = _KINDS.get(gap.kind) or ("lost" if off < 0 else "held")
-    if kind == "back" or gap.kind in KINDS:
-        fields = abs(off)
-    elif is_on_both:
-        fields = _fields_on_both(places.numbers, gap)
-    return Break(kind, after, before, gap.from_, gap.to, fields)
+    fields = off if kind == "back" or gap.kind in KINDS else gap.fields
+    fields = is_on_both and _off_on_both(places.numbers, gap) or fields
+    return Break(kind, after, before, gap.from_, gap.to, abs(fields))
 
 
-def _fields_on_both(numbers, gap):
-    """How many fields are lost, or too many. Both fields of a picture have its number, and the library doesn't ask
-    which of the two was read: so it may be one less, if that isn't known here."""
-    ends = [one for field, number in ((gap.after + 1, gap.from_), (gap.before + 1, gap.to))
-            if numbers.taken.get(field) == number for one in numbers.believed[numbers.places_in(field, field)]]
-    off = numbers.off(*ends) if len(ends) == 2 else None
-    return abs(off) if off else max(gap.fields - 1, 1)
+def _off_on_both(numbers, gap):
+    """How many fields are too many, or, negative, too few, if both fields of a picture have its number. The library
+    doesn't ask which of the two was read. If that isn't known here either, it is None, or 0."""
+    ends = [one for field in _around(gap) for one in numbers.believed[numbers.places_in(field, field)]]
+    return numbers.off(*ends) if len(ends) == 2 else None

@@ -28,18 +28,18 @@ def missing_of(places: Places, gaps: Gaps, codes: Codes, begin: Optional[Begin],
     unit, breaks, unshown = places.numbers.unit, places.breaks, set(places.unshown)
     firsts = {one.number: one.first for one in reversed(places.showings)}
     lost = [(one.after, one.before) for one in gaps.breaks + gaps.at_speed if one.kind == "lost"]
-    others = [(one.from_, one.to) for one in gaps.at_speed if one.kind == "lost"]
+    others = [(one.from_, one.to) for one in gaps.at_speed]
     if begin and begin.fields > 0:
-        number, start = ordinal_of(begin.lacks, unit.rate), FIRST[unit.name] - 1
-        is_first = number == min(firsts) and firsts[number] == begin.before
-        if is_first or places.numbers.clock.kind != ClockKind.plain or codes.fields.system != "NTSC" or (
-                unit.name != "time"):  # else an unknown clock may have left out some
-            lost.append((begin.after, begin.before))
-            others.append((0, number - 1))
+        number, start, least = ordinal_of(begin.lacks, unit.rate), FIRST[unit.name] - 1, min(firsts)
+        is_first = (number, begin.before) == (least, firsts[least])
         if is_first:  # as if the number before the disc's first one stood before the lost fields
             breaks = [Break("lost", begin.after, begin.before, start, number, begin.fields)] + breaks
             unshown |= places.numbers.clock.left_out_in(start, number)
             firsts[start] = begin.after
+        if is_first or places.numbers.clock.kind != ClockKind.plain or codes.fields.system != "NTSC" or (
+                unit.name != "time"):  # else an unknown clock may have left out some
+            lost.append((begin.after, begin.before))
+            others.append((min(firsts), number))
     if end:
         breaks, firsts = breaks + [end], {**firsts, end.to: end.before}
         lost += [(end.after, end.before)] * (end.kind == "lost")
@@ -76,7 +76,7 @@ def fates(first: int, last: int, spare: int, is_lost: Optional[bool]) -> Iterato
         yield "undecided" if is_lost is None else "unread", first, last
     elif FAR * spare > last - first + 1:
         yield "undecided", first, last
-    elif spare:  # beside a wide jump only the numbers next to it can have been there
+    else:  # beside a wide jump only the numbers next to it can have been there
         yield "undecided", first, first + spare - 1
         yield "undecided", last - spare + 1, last
 
@@ -100,7 +100,7 @@ class PassedOver:
         """The numbers from the first to the last in parts of one reason each."""
         begin, end = bisect.bisect(self.begins, first), bisect.bisect(self.begins, last)
         cuts = [first, *self.begins[begin:end], last + 1]
-        return zip(cuts, [cut - 1 for cut in cuts[1:]], self._whys[begin:end + 1])
+        return zip(cuts, [cut - 1 for cut in cuts[1:]], map(self._whys.__getitem__, itertools.count(begin)))
 
 
 def _passed_over(places: Places, breaks: List[Break], losses: Between, codes: Codes) -> Spans:
@@ -112,7 +112,7 @@ def _passed_over(places: Places, breaks: List[Break], losses: Between, codes: Co
         if one.from_ < one.to and (one.kind == "held" or losses.meet(one.after, one.before)):
             for why, first, last in fates(one.from_ + 1, one.to - 1, *_fate(one, places.numbers, codes.fields)):
                 spans[why].append((first, last))
-            shown = map(codes.sure_picture, range(one.after + 1, one.before))
+            shown = map(codes.sure_picture, range(one.after, one.before))
             spans["undecided"] += [(number, number) for number in shown if number is not None]
     between = (sorted((before.number, after.number)) for before, after in places.joins)  # these two are shown
     return [*spans.items(), ("unshown", [(low, high) for low, high in between])]
@@ -126,11 +126,11 @@ def _fate(one, numbers, fields):
     if one.kind == "held":
         seen = sum(field not in numbers.others and set(fields.causes[field - 1]) != {"blank"}
                    for field in between)
-        return 0, False if seen >= passed else None
+        return passed, False if seen >= passed else None
     is_lost = one.fields >= numbers.pace.least
     if all(field in numbers.others for field in between):  # so that each number was in a field that is lost
         return 0, is_lost if one.fields >= passed else None
-    return max(passed - numbers.pace.numbers_in(one.fields), 0), is_lost
+    return passed - numbers.pace.numbers_in(one.fields), is_lost
 
 
 # ---- Lost fields
@@ -177,7 +177,8 @@ def own_breaks(places: Places) -> List[Break]:
 def _first_after(numbers, after):
     """The first field after which the one may be lost that is lost after this one."""
     place = bisect.bisect(numbers.fields, after) - 1
-    while place > 0 and numbers.believed[place].variant == 0 and numbers.off(
+    # one before them was read in its second field: else all of these would be taken for that, and none would be lost
+    while numbers.believed[place].variant == 0 and numbers.off(
             numbers.believed[place - 1], numbers.believed[place]) == 0:
         place -= 1
     return numbers.fields[place]
@@ -215,7 +216,7 @@ def repeated_of(places: Places) -> List[Repeated]:
     goes_on, speed = False, None
     speeds = places.numbers.speeds
     for number, first, last in sorted(shown, key=lambda showing: showing.first):
-        played = stretch_at(speeds, first) if speeds else None
+        played = stretch_at(speeds, first)
         if number not in seen:
             seen[number] = first
             goes_on = goes_on and played is not None
