@@ -73,8 +73,8 @@ def anchored(source: Source, ranks: Ranks) -> List[List[Anchor]]:
     if answer.pace != "both":
         return parts
     befores = [0, *(part[-1].last for part in parts)]
-    return [_aligned(part, max([before, *(field - 1 for field in range(before, part[0].field + 1)
-                                          if told[field] > told[field - 1])])) for before, part in zip(befores, parts)]
+    return [_aligned(part, max(before, bisect.bisect_left(told, told[part[0].field]) - 1))
+            for before, part in zip(befores, parts)]
 
 
 def _told_before(source: Source) -> List[int]:
@@ -157,10 +157,6 @@ class Aside:
     def fits(self, anchor: Anchor, field: int) -> bool:
         """Whether a field shows nothing else than it would if it went on to this number, or from it."""
         return field not in self.all or self._fits(anchor.rank, anchor.field, field, self.all[field])
-
-    def shows(self, anchor: Anchor, field: int) -> bool:
-        """Whether a field shows a number to which it goes on from this one."""
-        return field in self.all and self.fits(anchor, field)
 
     def unlike(self, block: Block) -> bool:
         """Whether a field of a block surely shows another number than it would as the block's."""

@@ -51,11 +51,11 @@ class Followed(NamedTuple):
         return count, True
 
     def shown(self, anchor: Anchor, step: int, count: int) -> int:
-        """How many of these fields are shown to be the disc's next ones by more than their frames and the colour: up to
-        the last one that shows a number which goes on with this one, even if that isn't believed."""
+        """How many of these fields, all within its reach, are shown to be the disc's next ones by more than their
+        frames and the colour: up to the last one that shows a number, even if that isn't believed."""
         of_picture = anchor.last - anchor.field if step > 0 else 0
-        return max([min(of_picture, count), *(place for place in range(1, count + 1) if self.aside.shows(
-            anchor, anchor.field + step * place))])
+        return max([min(of_picture, count), *(place for place in range(1, count + 1)
+                                              if anchor.field + step * place in self.aside.all)])
 
     def end(self, step: int) -> End:
         """What stands after its last number (step 1), or before its first one (-1)."""
