@@ -66,7 +66,10 @@ def anchored(source: Source, ranks: Ranks) -> List[List[Anchor]]:
     told = _told_before(source)
     parts: List[List[Anchor]] = []
     for one in shown:
-        if parts and (_fits(answer, parts[-1][-1], one, told) or _is_next(source, parts[-1][-1], one)):
+        last = parts[-1][-1] if parts else None
+        if last and (one.rank, one.field) == (last.rank, last.last + 1) and {one.field, last.last} & pairs.keys():
+            parts[-1][-1] = last._replace(last=one.last)  # the fields of a picture, of which one was swapped
+        elif last and (_fits(answer, last, one, told) or _is_next(source, last, one)):
             parts[-1].append(one)
         else:
             parts.append([one])

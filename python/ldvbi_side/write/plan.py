@@ -12,7 +12,7 @@ from ..join.entries import UNSURE, WHOLE
 from ..join.others import refuse_other_discs
 from ..judge.paces import MINUTE_FIELDS, RATES, Unit
 from .blocks import Block, Run
-from .choice import CHANGE, PADDED, Choice, Node
+from .choice import CHANGE, Choice, Node
 from .following import Followed, agreed, followed
 from .lengths import Lengths
 from .padding import Layout
@@ -90,12 +90,10 @@ def planned(sources: Sequence[Source], disagreements: Sequence[Disagreement], wa
                   agreed([one.first() for one in following]), agreed([one.last() for one in following]))
     runs = _runs_of(following, known, disputed, wanted.sure)
     del following  # of which a long side has much
-    if not runs:
-        raise ValueError("no number is sure enough to be taken")
     first = min(run.first() for run in runs)
     if wanted.start is not None:
         first = min(first, ranks.of(wanted.start))
-    nodes = Choice(runs, sources, wanted.change, (3 if known.lengths.is_film else 2) * PADDED).nodes(
+    nodes = Choice(runs, sources, wanted.change, known.lengths).nodes(
         range(first, max(run.end() for run in runs)))
     return _Making(runs, sources, known).made(nodes, wanted.ends)
 
@@ -105,7 +103,9 @@ def _runs_of(captures: Sequence[Followed], known: Known, disputed: Set[Tuple[str
     found = [runs_of(place, one, known, {field for name, field in disputed if name == one.source.capture.name}, is_sure)
              for place, one in enumerate(captures)]
     runs = [run for ones in found for run in ones]
-    if is_sure or not runs or not any(one.aside.sure for one in captures):
+    if not runs:
+        raise ValueError("no number is sure enough to be taken")
+    if is_sure or not any(one.aside.sure for one in captures):
         return runs
     # one outside of all others would have padding up to them
     known = known._replace(extent=range(min(run.first() for run in runs), max(run.end() for run in runs)))
@@ -190,11 +190,10 @@ class _Making:
         layout, number = self._layout, self._known.ranks.number
         first, last = number(block.rank), number(block.end() - 1)
         block = self._free(source, block)
-        if not block.fields:
-            self._padded.append(block.rank)
-            layout.pad(block.lead, first, last)
-            return
         layout.pad(block.lead, first, first)
+        if not block.fields:  # of one number, since others have got all of them
+            self._padded.append(block.rank)
+            return
         how = WHOLE if block.is_sure else UNSURE
         for rank, begin, end in self._parts(block):
             layout.take(source, begin, end - begin, number(rank), number(rank), how)
@@ -235,15 +234,16 @@ class _Making:
         fields = [field for field in range(block.field, block.field + block.fields)
                   if self._owners[source, field] == block.rank]
         if not fields:
-            return block._replace(lead=block.lead + block.fields + block.trail, fields=0, trail=0)
+            return block._replace(lead=block.lead + block.fields + block.trail, fields=0)
         lead = fields[0] - block.field
         return block._replace(field=fields[0], fields=len(fields), lead=block.lead + lead,
                               trail=block.trail + block.fields - lead - len(fields))
 
     def _pad(self, first: int, stop: int, after: Node) -> None:
         """Adds padding for the ranks before `stop`, to which a run comes."""
-        layout, lengths, answer = self._layout, self._known.lengths, self._sources[0].answer
+        layout, lengths = self._layout, self._known.lengths
         source, block = self._first_of(after)
+        answer = self._sources[source].answer
         if answer.pace == "minute":
             fields = MINUTE_FIELDS[answer.system][1] * (stop - first)
         else:

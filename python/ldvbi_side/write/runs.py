@@ -63,7 +63,7 @@ def set_aside(place: int, capture: Followed, known: Known, runs: Sequence[Run], 
     its place doesn't say that it is right. It may be wrong, and so isn't sure; `having` has the ranks of the others."""
     wanted = [(field, rank) for field, ranks in sorted(capture.aside.sure.items()) for rank in ranks
               if rank in known.extent and rank not in having]
-    taken = [block for run in runs for block in run.blocks if block.is_sure] if wanted else []
+    taken = [block for run in runs for block in run.blocks if block.is_sure]
     begins, ends = sorted(one.field for one in taken), sorted(one.field + one.fields for one in taken)
     for field, rank in wanted:
         anchor, lengths = Anchor(rank, field, field), known.lengths
@@ -126,17 +126,9 @@ def _cuts_frames(capture: Followed, lengths: Lengths) -> bool:
         after = capture.reach(last, 1, fields)[0]
         before = min(capture.reach(first, -1, fields)[0], fields - after)
         if capture.source.period() == 1 or (_whole_fields(last.rank, 1 + after, lengths) != 1 + after
-                                            or not _begins_whole(first.rank, before, lengths)):
+                                            or _whole_fields(first.rank - 1, before, lengths, -1) != before):
             return True
     return False
-
-
-def _begins_whole(rank: int, fields: int, lengths: Lengths) -> bool:
-    """Whether so many fields before a number are whole pictures."""
-    while fields > 0:
-        rank -= 1
-        fields -= lengths.of(rank, 1)
-    return fields == 0
 
 
 def _fields_of(ranks: range, lengths: Lengths) -> int:
@@ -144,12 +136,13 @@ def _fields_of(ranks: range, lengths: Lengths) -> int:
     return sum(map(lengths.of, ranks[:FAR]))
 
 
-def _whole_fields(rank: int, fields: int, lengths: Lengths) -> int:
-    """As many fields from a number on, or the few more that make its last picture whole."""
+def _whole_fields(rank: int, fields: int, lengths: Lengths, step: int = 1) -> int:
+    """As many fields from a number on (step 1), or up to its end (-1), or the few more that make the last picture of
+    them whole."""
     whole = 0
     while whole < fields:
-        whole += lengths.of(rank)
-        rank += 1
+        whole += lengths.of(rank, -step)
+        rank += step
     return whole
 
 
