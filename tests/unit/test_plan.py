@@ -232,7 +232,7 @@ def test_random_sets(seed):
 
 
 @pytest.mark.parametrize("side_text, has_dropouts, sums", (
-    ("lost=3 NTSC 1..3", False, [0, 0, 0, 200000, 200000, 200000]), ("1..2 3.16=?", False, [0, 0, 0, 500, 500]),
+    ("lost=2,4 NTSC 1..3", False, [0, 0, 200000, 400000, 400000]), ("1..2 3.16=?", False, [0, 0, 0, 500, 500]),
     ("dropouts=2..3 1..2", True, [0, 0, 900, 1800, 1800])))
 def test_how_much_is_damaged(side_text, has_dropouts, sums):
     """A place where the colour doesn't go on counts as much as two changes of the capture do."""
@@ -305,7 +305,7 @@ def test_what_a_plan_says_of_itself_is_so():
 # What is said of an output with this text, beside the plan of a capture
 DIFFERENT = """
     1..20 | 1..19 | 38 fields, not 40 || 1..20 | PAL/41 1..21 | 42 fields, not 40
-    b1..20 | PAL/40 b1..20 | a break between fields 39 and 40
+    b1..20 | PAL/2,40 b1..20 | a break between fields 1 and 2; a break between fields 39 and 40
     1..20 | 1..20 ~11 | 6 in field 12, not 11; fields 11 and 12 are swapped
     1..20 | 1..20 20 | 42 fields, not 40; 20 in field 41, not 39; 20 stands still from field 39 on; 20 again in field 41
     1..20 | 1..20 19 20 | 44 fields, not 40; 19 in field 41, not 37; 20 in field 43, not 39; 19 again in field 41;
@@ -314,6 +314,7 @@ DIFFERENT = """
     1..5 | 1..3 B 4 | 9 fields, not 10; 4 in field 8, not 7; a break between fields 5 and 8
     b1..5 | b1..5 5=B | nothing || 1..5 | 1..5 5=B 6=-/#3/#3
         | 3 in field 6, not 5; fields 5 and 6 are swapped
+    1..10 13..20 | PAL/20,26 1..10 Bx4 13..20 | a break between fields 19 and 20; a break between fields 25 and 26
     1..10 13..20 | PAL/21,25 1..10 Bx4 13..20 | nothing || 5..20 & start=1 | Bx8 5..20 | nothing
     lost= NTSC t0..40!20 | NTSC t0..40!20 | nothing
 """

@@ -102,7 +102,8 @@ def _shared(last: Anchor, first: Anchor, capture: Followed, lengths: Lengths) ->
     fields = first.field - last.field - 1
     after, before = capture.reach(last, 1, fields)[0], capture.reach(first, -1, fields)[0]
     own_after, own_before = min(after, fields - before), min(before, fields - after)
-    return _Shared(min(_whole_fields(last.rank, 1 + own_after, lengths) - 1, after),
+    own = last.lead + 1 + own_after
+    return _Shared(min(own_after + _whole_fields(last.rank, own, lengths) - own, after),
                    capture.shown(last, 1, own_after), before, capture.shown(first, -1, own_before))
 
 
@@ -186,11 +187,11 @@ def _with_end(blocks: List[Block], last: Anchor, after: Optional[Anchor], captur
         shared = _shared(last, after, capture, lengths)
         room = after.rank - last.rank if after.rank > last.rank else known.extent.stop - last.rank
     sure = 1 + shared.sure_after
-    left, field, found = sure if is_taken_surely else 1 + shared.after, last.field, blocks
+    left, field, lead, found = sure if is_taken_surely else 1 + shared.after, last.field, last.lead, blocks
     for rank in range(last.rank, last.rank + room):
         if not left:
             break
-        want = lengths.of(rank)
+        want = lengths.of(rank) - lead
         fields = min(left, want)
         # fields beyond the greatest number that is read may be lead-out's
         is_sure = field + fields - last.field <= sure and (
@@ -199,8 +200,8 @@ def _with_end(blocks: List[Block], last: Anchor, after: Optional[Anchor], captur
             is_sure = False  # it may be the second field
         is_known = field + fields == last.field + 1 and not is_on_both
         doubt = KNOWN if is_known else SEEN if is_sure else OPEN
-        found.append(Block(rank, 1, field, fields, 0, want - fields, doubt))
-        field, left = field + fields, left - fields
+        found.append(Block(rank, 1, field, fields, lead, want - fields, doubt))
+        field, left, lead = field + fields, left - fields, 0
     return found
 
 
