@@ -17,7 +17,7 @@ from ldvbi_side.side import side_of_document
 from ldvbi_side.write.again import differences
 from ldvbi_side.write.checked import refuse_wrong
 from ldvbi_side.write.choice import damage_of
-from ldvbi_side.write.kept import fields_of
+from ldvbi_side.write.kept import counts_at, fields_of
 from ldvbi_side.write.plan import Plan, plan, Wanted
 from ldvbi_side.write.said import outcome_of, rows_of, seam_lines, written_lines
 from ldvbi_side.write.sources import Facts, PHASES, Source
@@ -232,8 +232,8 @@ def test_random_sets(seed):
 
 
 @pytest.mark.parametrize("side_text, has_dropouts, sums", (
-    ("lost=2,4 NTSC 1..3", False, [0, 0, 200000, 400000, 400000]), ("1..2 3.16=?", False, [0, 0, 0, 500, 500]),
-    ("dropouts=2..3 1..2", True, [0, 0, 900, 1800, 1800])))
+    ("lost=2,4 NTSC 1..3", False, [0, 0, 200000, 400000, 400000]), ("lost=2 grey= NTSC 1..2", False, [0, 0, 0, 0]),
+    ("1..2 3.16=?", False, [0, 0, 0, 500, 500]), ("dropouts=2..3 1..2", True, [0, 0, 900, 1800, 1800])))
 def test_how_much_is_damaged(side_text, has_dropouts, sums):
     """A place where the colour doesn't go on counts as much as two changes of the capture do."""
     assert damage_of(source(side_text), has_dropouts) == sums
@@ -246,7 +246,9 @@ def test_how_much_is_damaged(side_text, has_dropouts, sums):
     ("lost=1..3 2..4", "F3 s4 F5 s6"), ("lost= grey=3 NTSC 1..2", "F1 s2 F3 s4")))
 def test_what_begins_a_frame_and_where_the_colour_is(sides, wanted):
     found, sources = planned(sides)
-    assert " ".join("sF"[one.is_first] + str(one.phase) for one in fields_of(found, sources)) == wanted
+    fields = list(fields_of(found, sources))
+    assert " ".join("sF"[one.is_first] + str(one.phase) for one in fields) == wanted
+    assert counts_at(fields[0], {}) == {"audioSamples": 0, "efmTValues": 0}
 
 
 # ---- Plans that are wrong, and outputs that aren't as planned

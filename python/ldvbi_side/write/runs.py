@@ -69,7 +69,7 @@ def set_aside(place: int, capture: Followed, known: Known, runs: Sequence[Run], 
         anchor, lengths = Anchor(rank, field, field), known.lengths
         fields = 1 + capture.reach(anchor, 1, lengths.of(rank) - 1)[0]
         if bisect.bisect_left(begins, field + fields) == bisect.bisect(ends, field):  # in none of these fields
-            yield Run(place, [Block(rank, 1, field, fields, 0, lengths.of(rank) - fields, OPEN)])
+            yield Run(place, [Block(rank, 1, field, fields, trail=lengths.of(rank) - fields, doubt=OPEN)])
 
 
 def _is_sure(block: Block, capture: Followed, known: Known) -> bool:
