@@ -23,7 +23,7 @@ class Node(NamedTuple):
 
 
 class _Way(NamedTuple):
-    """A way to some rank: what it costs, its last node, and the rank after the block in which it ends."""
+    """A way to some rank: what it costs, its last node, and the rank after its last block."""
     cost: int
     node: Optional[Node]
     end: int
@@ -63,10 +63,10 @@ class Choice:
         """Goes on over a rank."""
         for place in self._begins.get(rank, ()):
             self._next[place] = 0
-        cost, node, _ = cheapest = self._cheapest(rank)
+        cost, node, end = cheapest = self._cheapest(rank)
         padding = node if node is not None and node.run is None else Node(None, rank, node)
         ways: Dict[Optional[int], _Way] = {
-            None: _Way(cost + self._lengths.of(rank) * PADDED, padding, rank + 1)}
+            None: _Way(cost + self._lengths.of(rank) * PADDED, padding, end)}
         for place in list(self._next):
             blocks, index = self._runs[place].blocks, self._next[place]
             if index < len(blocks) and blocks[index].rank == rank:

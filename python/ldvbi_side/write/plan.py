@@ -277,10 +277,10 @@ class _Making:
             return
         source, block = self._first_of(node)
         field = block.field
-        stretches = self._sources[source].answer.lead_in
-        count = next((field - one.first for one in stretches if one.last == field - 1), 0) // 2 * 2
-        if count:
-            self._layout.take(source, field - count, count, None, None, WHOLE)
+        for one in self._sources[source].answer.lead_in:
+            count = (field - one.first) // 2 * 2
+            if count and one.last == field - 1:
+                self._layout.take(source, field - count, count, None, None, WHOLE)
 
     def _take_lead_out(self, node: Node) -> None:
         assert node.run is not None

@@ -67,7 +67,7 @@ def set_aside(place: int, capture: Followed, known: Known, runs: Sequence[Run], 
     begins, ends = sorted(one.field for one in taken), sorted(one.field + one.fields for one in taken)
     for field, rank in wanted:
         anchor, lengths = Anchor(rank, field, field), known.lengths
-        fields = 1 + capture.reach(anchor, 1, lengths.of(rank) - 1)[0]
+        fields = 1 + capture.reach(anchor, 1, lengths.of(rank) - 1)
         if bisect.bisect_left(begins, field + fields) == bisect.bisect(ends, field):  # in none of these fields
             yield Run(place, [Block(rank, 1, field, fields, trail=lengths.of(rank) - fields, doubt=OPEN)])
 
@@ -100,7 +100,7 @@ def _shared(last: Anchor, first: Anchor, capture: Followed, lengths: Lengths) ->
     player may have jumped by as many fields as look the same again, and have left others out. Some may go on from
     either run: then both get them, and none surely."""
     fields = first.field - last.field - 1
-    after, before = capture.reach(last, 1, fields)[0], capture.reach(first, -1, fields)[0]
+    after, before = capture.reach(last, 1, fields), capture.reach(first, -1, fields)
     own_after, own_before = min(after, fields - before), min(before, fields - after)
     own = last.lead + 1 + own_after
     return _Shared(min(own_after + _whole_fields(last.rank, own, lengths) - own, after),
@@ -124,8 +124,8 @@ def _cuts_frames(capture: Followed, lengths: Lengths) -> bool:
         fields = first.field - last.field - 1
         if last.rank >= first.rank or _fields_of(range(last.rank, first.rank), lengths) <= fields + 1:
             continue
-        after = capture.reach(last, 1, fields)[0]
-        before = min(capture.reach(first, -1, fields)[0], fields - after)
+        after = capture.reach(last, 1, fields)
+        before = min(capture.reach(first, -1, fields), fields - after)
         if capture.source.period() == 1 or (_whole_fields(last.rank, 1 + after, lengths) != 1 + after
                                             or _whole_fields(first.rank - 1, before, lengths, -1) != before):
             return True
