@@ -12,15 +12,16 @@ from compact import cells_of, made, rows, table_in
 from discs import LEAD_IN, LEAD_OUT, pictures, plain, side
 from ldvbi_side.answer.analysis import analyse
 from ldvbi_side.join.captures import capture_of
+from ldvbi_side.join.entries import UNSURE
 from ldvbi_side.side import side_of_document
 from ldvbi_side.write.again import differences
 from ldvbi_side.write.checked import refuse_wrong
 from ldvbi_side.write.choice import damage_of
-from ldvbi_side.write.kept import fields_of
+from ldvbi_side.write.kept import counts_at, fields_of
 from ldvbi_side.write.plan import Plan, plan, Wanted
 from ldvbi_side.write.said import outcome_of, rows_of, seam_lines, written_lines
 from ldvbi_side.write.sources import Facts, PHASES, Source
-from ldvbi_side.write.stretches import Seam, seams_of, Stretch, UNSURE
+from ldvbi_side.write.stretches import Seam, seams_of, Stretch
 import pytest
 from room import reason
 from simulate import captures
@@ -50,9 +51,11 @@ def source(text, name="a"):
         system, text = ("NTSC", text[5:]) if text.startswith("NTSC ") else ("PAL", text)
         found = rows(text, 30 if system == "NTSC" else 25)
         places = [place for place in range(len(found)) if place + 1 not in known["lost"]]
-        grey = known.get("grey")
-        facts = Facts([place % 2 == 0 for place in places], None if grey == set() else [
-            0 if place + 1 in (grey or ()) else place % PHASES[system] + 1 for place in places])
+        grey, on_disc = known.get("grey"), list(range(len(found)))
+        for at in map(int, re.findall(r" ~(\d+)", text)):
+            on_disc[at - 1:at + 1] = on_disc[at], on_disc[at - 1]
+        facts = Facts([on_disc[place] % 2 == 0 for place in places], None if grey == set() else [
+            0 if place + 1 in (grey or ()) else on_disc[place] % PHASES[system] + 1 for place in places])
         capture = capture_of(side([found[place] for place in places], system, facts.first), name)
     fields = range(1, capture.answer.fields + 1)
     return Source(capture, facts._replace(
@@ -96,7 +99,7 @@ def check_members(found, why=None):
 def member(found, name):
     """A member of a plan as a text; 5@ is the field in which 5 begins."""
     if name.endswith("@"):
-        return str(found.first_field[int(name[:-1])])
+        return str(found.first_field.get(int(name[:-1])))
     value = getattr(found, name)
     return ",".join(map(str, value)) if isinstance(value, list) else str(value() if callable(value) else value)
 
@@ -113,6 +116,8 @@ def test_plans(why, sides, wanted, members):
     refuse_wrong(found, sources)
     check_members(found, why)
     numbers = {number for one in found.stretches for number in one.numbers()} - {*found.left_out}
+    if sources[0].answer.pace == "film":  # what is unread has none
+        numbers &= {number for one in sources for number, _, _ in one.answer.showings}
     assert numbers - {*found.padded} <= {*found.first_field}, why
     for one in members.split():
         name, value = re.fullmatch(r"(\w+@|\w+)=?(\S*)", one).groups()
@@ -227,8 +232,8 @@ def test_random_sets(seed):
 
 
 @pytest.mark.parametrize("side_text, has_dropouts, sums", (
-    ("lost=3 NTSC 1..3", False, [0, 0, 0, 200000, 200000, 200000]), ("1..2 3.16=?", False, [0, 0, 0, 500, 500]),
-    ("dropouts=2..3 1..2", True, [0, 0, 900, 1800, 1800])))
+    ("lost=2,4 NTSC 1..3", False, [0, 0, 200000, 400000, 400000]), ("lost=2 grey= NTSC 1..2", False, [0, 0, 0, 0]),
+    ("1..2 3.16=?", False, [0, 0, 0, 500, 500]), ("dropouts=2..3 1..2", True, [0, 0, 900, 1800, 1800])))
 def test_how_much_is_damaged(side_text, has_dropouts, sums):
     """A place where the colour doesn't go on counts as much as two changes of the capture do."""
     assert damage_of(source(side_text), has_dropouts) == sums
@@ -237,10 +242,13 @@ def test_how_much_is_damaged(side_text, has_dropouts, sums):
 @pytest.mark.parametrize("sides, wanted", (
     ("1..2", "F1 s2 F3 s4"), ("NTSC 2..3 & start=1", "F3 s4 F1 s2 F3 s4"), ("lost=1 NTSC B 1..2", "F1 s2 F3 s4 F1"),
     ("lost=1..2 NTSC 1..3 & start=1", "F1 s2 F3 s4 F1 s2"), ("lost=5,6 NTSC 1..4", "F1 s2 F3 s4 F1 s2 F3 s4"),
+    ("lost= NTSC 1..2 ; lost=1 NTSC B 3..4", "F1 s2 F3 s4 s2 F3 s4 F1"),
     ("lost=1..3 2..4", "F3 s4 F5 s6"), ("lost= grey=3 NTSC 1..2", "F1 s2 F3 s4")))
 def test_what_begins_a_frame_and_where_the_colour_is(sides, wanted):
     found, sources = planned(sides)
-    assert " ".join("sF"[one.is_first] + str(one.phase) for one in fields_of(found, sources)) == wanted
+    fields = list(fields_of(found, sources))
+    assert " ".join("sF"[one.is_first] + str(one.phase) for one in fields) == wanted
+    assert counts_at(fields[0], {}) == {"audioSamples": 0, "efmTValues": 0}
 
 
 # ---- Plans that are wrong, and outputs that aren't as planned
@@ -298,7 +306,9 @@ def test_what_a_plan_says_of_itself_is_so():
 
 # What is said of an output with this text, beside the plan of a capture
 DIFFERENT = """
-    1..20 | 1..19 | 38 fields, not 40 || 1..20 | 1..20 ~11 | 6 in field 12, not 11; fields 11 and 12 are swapped
+    1..20 | 1..19 | 38 fields, not 40 || 1..20 | PAL/41 1..21 | 42 fields, not 40
+    b1..20 | PAL/2,40 b1..20 | a break between fields 1 and 2; a break between fields 39 and 40
+    1..20 | 1..20 ~11 | 6 in field 12, not 11; fields 11 and 12 are swapped
     1..20 | 1..20 20 | 42 fields, not 40; 20 in field 41, not 39; 20 stands still from field 39 on; 20 again in field 41
     1..20 | 1..20 19 20 | 44 fields, not 40; 19 in field 41, not 37; 20 in field 43, not 39; 19 again in field 41;
         a break between fields 39 and 41
@@ -306,7 +316,8 @@ DIFFERENT = """
     1..5 | 1..3 B 4 | 9 fields, not 10; 4 in field 8, not 7; a break between fields 5 and 8
     b1..5 | b1..5 5=B | nothing || 1..5 | 1..5 5=B 6=-/#3/#3
         | 3 in field 6, not 5; fields 5 and 6 are swapped
-    1..10 13..20 | 1..10 Bx4 13..20 | nothing || 5..20 & start=1 | Bx8 5..20 | nothing
+    1..10 13..20 | PAL/20,26 1..10 Bx4 13..20 | a break between fields 19 and 20; a break between fields 25 and 26
+    1..10 13..20 | PAL/21,25 1..10 Bx4 13..20 | nothing || 5..20 & start=1 | Bx8 5..20 | nothing
     lost= NTSC t0..40!20 | NTSC t0..40!20 | nothing
 """
 

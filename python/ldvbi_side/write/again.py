@@ -31,7 +31,7 @@ def _breaks(made: Plan, capture: Capture) -> List[str]:
     explained = {field for one in made.stretches if one.source is None for field in one.outs()}
     left_out, begin = set(made.left_out), min(made.first_field.values())
     for one in capture.breaks:
-        if not left_out.isdisjoint(range(capture.ordinal(one.from_) + 1, capture.ordinal(one.to))):
+        if not left_out.isdisjoint(range(capture.ordinal(one.from_), capture.ordinal(one.to))):
             explained.update(range(one.after, one.before))
     spans = {(one.after, one.before) for one in capture.answer.lost if one.before <= made.fields}
     spans.update((one.after, one.before) for one in capture.breaks)

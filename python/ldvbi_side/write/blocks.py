@@ -52,10 +52,11 @@ class Run(NamedTuple):
 
 class Anchor(NamedTuple):
     """A number that is read: its rank, and the first and the last field that show it, as if swapped fields stood
-    right."""
+    right. The capture lacks `lead` fields of it before these."""
     rank: int
     field: int
     last: int
+    lead: int = 0
 
 
 def anchored(source: Source, ranks: Ranks) -> List[List[Anchor]]:
@@ -63,46 +64,43 @@ def anchored(source: Source, ranks: Ranks) -> List[List[Anchor]]:
     answer, pairs = source.answer, straightened(source.answer)
     shown = sorted((Anchor(ranks.of(source.capture.ordinal(number)), pairs.get(first, first), pairs.get(last, last))
                     for number, first, last in answer.showings), key=lambda one: one.field)
-    told = _told_before(source)
+    afters = _afters(source)
     parts: List[List[Anchor]] = []
+    befores: List[int] = []
     for one in shown:
-        if parts and (_fits(answer, parts[-1][-1], one, told) or _is_next(source, parts[-1][-1], one)):
+        last = parts[-1][-1] if parts else None
+        if last and (one.rank, one.field) == (last.rank, last.last + 1) and {one.field, last.last} & pairs.keys():
+            parts[-1][-1] = last._replace(last=one.last)  # the fields of a picture, of which one was swapped
+        elif last and (_fits(answer, last, one, afters) or _is_next(source, last, one)):
             parts[-1].append(one)
         else:
             parts.append([one])
+            place = bisect.bisect_left(afters, one.field)
+            befores.append(max([last.last if last else 0, *afters[place - 1:place]]))
     if answer.pace != "both":
         return parts
-    befores = [0, *(part[-1].last for part in parts)]
-    return [_aligned(part, max([before, *(field - 1 for field in range(before, part[0].field + 1)
-                                          if told[field] > told[field - 1])])) for before, part in zip(befores, parts)]
+    seconds = _seconds(source, [one for part in parts for one in part])
+    return [_aligned(part, before, seconds) for before, part in zip(befores, parts)]
 
 
-def _told_before(source: Source) -> List[int]:
-    """Of each field how many places there are before it at which the capture doesn't go on: breaks, fields of padding,
-    lead-in or lead-out, after which another side may begin, and a lost field where numbers don't show it."""
-    capture, fields = source.capture, source.answer.fields
-    counts = [0] * (fields + 2)
-    for field, is_pad in enumerate(source.facts.pad or (), 1):
-        counts[field] += is_pad
-    for one in capture.breaks:
-        counts[one.before] += 1
-    for stretch in capture.answer.lead_in + capture.answer.lead_out:
-        counts[stretch.last + 1] += 1
-    first, pairs = source.facts.first, straightened(capture.answer)
+def _afters(source: Source) -> List[int]:
+    """The fields after which the capture doesn't go on, ascending: those before breaks, before fields of padding, and
+    at the end of lead-in or lead-out, after which another side may begin; and those before a lost field where numbers
+    don't show it."""
+    capture, first, pairs = source.capture, source.facts.first, straightened(source.answer)
+    found = {place for place, is_pad in enumerate(source.facts.pad or ()) if is_pad}
+    found.update(one.before - 1 for one in capture.breaks)
+    found.update(one.last for one in capture.answer.lead_in + capture.answer.lead_out)
     if first and capture.answer.pace == "both":  # whose numbers don't show the loss of one field
-        for field in range(2, fields + 1):
-            counts[field] += first[field - 1] == first[field - 2] and field not in pairs and field - 1 not in pairs
-    total = 0
-    for field, count in enumerate(counts):
-        total += count
-        counts[field] = total
-    return counts
+        found.update(field for field in range(1, capture.answer.fields)
+                     if first[field - 1] == first[field] and field not in pairs and field + 1 not in pairs)
+    return sorted(found)
 
 
-def _fits(answer: Answer, one: Anchor, other: Anchor, told: List[int]) -> bool:
+def _fits(answer: Answer, one: Anchor, other: Anchor, afters: List[int]) -> bool:
     """Whether two numbers are as many fields apart as on the disc, and nothing says that they don't go on."""
     step, fields, pace = other.rank - one.rank, other.field - one.field, answer.pace
-    if step <= 0 or told[other.field] > told[one.field]:
+    if step <= 0 or bisect.bisect_left(afters, one.field) < bisect.bisect_left(afters, other.field):
         return False
     if pace == "minute":
         return step == 1
@@ -118,13 +116,23 @@ def _is_next(source: Source, one: Anchor, other: Anchor) -> bool:
             and all(source.goes_on(field, field + 1) for field in (one.field, one.field + 1)))
 
 
-def _aligned(part: List[Anchor], before: int) -> List[Anchor]:
+def _seconds(source: Source, anchors: List[Anchor]) -> Set[int]:
+    """The fields of anchors that are second ones of their pictures, by the frames of those that have both."""
+    first, pairs = source.facts.first, straightened(source.answer)
+    if not first:
+        return set()
+    turns = [first[pairs.get(one.field, one.field) - 1] for one in anchors]
+    begins = {turn for turn, one in zip(turns, anchors) if one.last > one.field}
+    return {one.field for turn, one in zip(turns, anchors) if begins and turn not in begins}
+
+
+def _aligned(part: List[Anchor], before: int, seconds: Set[int]) -> List[Anchor]:
     """Anchors of a disc with numbers on both fields, each of which has its picture's first field. A picture whose
-    second field alone was read is known by its neighbours. If its first field isn't there, since a field `before` it
-    is another number's, it is no anchor."""
-    row = min(one.field - 2 * one.rank for one in part)
+    second field alone was read is known by its neighbours, or by the frames. If its first field isn't there, since a
+    field `before` it is another number's, it is no anchor unless it is the only one."""
+    row = min(one.field - (one.field in seconds) - 2 * one.rank for one in part)
     found = [one._replace(field=row + 2 * one.rank) for one in part if row + 2 * one.rank > before]
-    return found or part
+    return found or [part[-1]._replace(lead=1)]
 
 
 def blocks_of(anchors: List[Anchor]) -> List[Block]:
@@ -157,10 +165,6 @@ class Aside:
     def fits(self, anchor: Anchor, field: int) -> bool:
         """Whether a field shows nothing else than it would if it went on to this number, or from it."""
         return field not in self.all or self._fits(anchor.rank, anchor.field, field, self.all[field])
-
-    def shows(self, anchor: Anchor, field: int) -> bool:
-        """Whether a field shows a number to which it goes on from this one."""
-        return field in self.all and self.fits(anchor, field)
 
     def unlike(self, block: Block) -> bool:
         """Whether a field of a block surely shows another number than it would as the block's."""

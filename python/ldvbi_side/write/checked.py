@@ -45,16 +45,17 @@ def _disorder(made: Plan) -> Optional[str]:
 # ---- As the library checks it
 
 class _Shown:
-    """What each capture shows: of each field, counted from 1, its number as a rank. Swapped fields have none, nor have
-    fields of numbers that the plan left aside."""
+    """What each capture shows: of each field, counted from 1, its number as a rank. Numbers of swapped fields count
+    nowhere, nor do those that the plan left aside."""
 
     def __init__(self, made: Plan, sources: Sequence[Source]) -> None:
         self.sources, self.ranks = sources, Ranks(set(made.left_out))
         self.places: List[Dict[int, int]] = []
         for source in sources:
-            pairs = straightened(source.answer)
-            self.places.append({field: source.capture.ordinal(number) for number, field, _ in source.answer.showings
-                                if field not in pairs})
+            pairs, showings = straightened(source.answer), source.answer.showings
+            swapped = {number for number, field, _ in showings if field in pairs}
+            self.places.append({field: source.capture.ordinal(number) for number, field, _ in showings
+                                if number not in swapped})
 
     def packed(self) -> Iterator[bytes]:
         """The numbers of each capture as the library has them."""

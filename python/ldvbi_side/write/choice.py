@@ -5,6 +5,7 @@ samples in dropouts and changes from run to run."""
 from typing import Dict, List, NamedTuple, Optional, Sequence
 
 from .blocks import KNOWN, OPEN, SEEN, Block, Run
+from .lengths import Lengths
 from .sources import Source
 
 CHANGE = 100000  # samples in dropouts that a change of the capture costs as much as
@@ -22,7 +23,7 @@ class Node(NamedTuple):
 
 
 class _Way(NamedTuple):
-    """A way to some rank: what it costs, its last node, and the rank after the block in which it ends."""
+    """A way to some rank: what it costs, its last node, and the rank after its last block."""
     cost: int
     node: Optional[Node]
     end: int
@@ -32,9 +33,9 @@ class Choice:
     """The cheapest ways to each rank in turn. There is one for each run in which it may end, and one that ends in
     padding. A run is entered and left between two blocks alone."""
 
-    def __init__(self, runs: Sequence[Run], sources: Sequence[Source], change: int, padding: int) -> None:
-        """`change` is the price of a change in samples, `padding` that of a rank that no run has."""
-        self._runs, self._change, self._padding = runs, change, padding
+    def __init__(self, runs: Sequence[Run], sources: Sequence[Source], change: int, lengths: Lengths) -> None:
+        """`change` is the price of a change in samples."""
+        self._runs, self._change, self._lengths = runs, change, lengths
         self._damage = [damage_of(source, _have_dropouts(sources)) for source in sources]
         self._begins: Dict[int, List[int]] = {}
         for place, run in enumerate(runs):
@@ -62,10 +63,10 @@ class Choice:
         """Goes on over a rank."""
         for place in self._begins.get(rank, ()):
             self._next[place] = 0
-        cost, node, _ = cheapest = self._cheapest(rank)
-        is_padding = node is not None and node.run is None
+        cost, node, end = cheapest = self._cheapest(rank)
+        padding = node if node is not None and node.run is None else Node(None, rank, node)
         ways: Dict[Optional[int], _Way] = {
-            None: _Way(cost + self._padding, node if is_padding else Node(None, rank, node), rank + 1)}
+            None: _Way(cost + self._lengths.of(rank) * PADDED, padding, end)}
         for place in list(self._next):
             blocks, index = self._runs[place].blocks, self._next[place]
             if index < len(blocks) and blocks[index].rank == rank:
@@ -99,7 +100,8 @@ def damage_of(source: Source, has_dropouts: bool) -> List[int]:
     have, don't."""
     sums = [0] * (source.answer.fields + 1)
     if has_dropouts:
-        sums[1:] = source.facts.damage or ()
+        assert source.facts.damage is not None
+        sums[1:] = source.facts.damage
     else:
         for one in source.answer.bad_lines:
             sums[one.field] += BAD_LINE

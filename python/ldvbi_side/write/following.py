@@ -1,6 +1,6 @@
 """How far fields go on from a number that a capture reads, and what shows that they do."""
 
-from typing import List, NamedTuple, Sequence, Set, Tuple
+from typing import List, NamedTuple, Sequence, Set
 
 from ..answer.ends import LONGEST
 from .blocks import Anchor, Aside, anchored
@@ -40,29 +40,29 @@ class Followed(NamedTuple):
         """Whether both fields of a picture have its number."""
         return self.source.answer.pace == "both"
 
-    def reach(self, anchor: Anchor, step: int, most: int = LONGEST) -> Tuple[int, bool]:
-        """How many fields after a number (step 1) or before it (-1) go on with it, at most so many, and whether it is
-        seen where they end. It isn't if a field shows a number to which they don't go on: a player may have jumped
-        before that, by as many fields as the colour's phase takes to be the same again."""
+    def reach(self, anchor: Anchor, step: int, most: int = LONGEST) -> int:
+        """How many fields after a number (step 1) or before it (-1) go on with it, at most so many, up to one that
+        shows a number to which they don't go on: a player may have jumped before that, by as many fields as the
+        colour's phase takes to be the same again."""
         count = self.going.count(anchor.field, step, most)
         for place in range(1, count + 1):
             if not self.aside.fits(anchor, anchor.field + step * place):
-                return place - 1, False
-        return count, True
+                return place - 1
+        return count
 
     def shown(self, anchor: Anchor, step: int, count: int) -> int:
-        """How many of these fields are shown to be the disc's next ones by more than their frames and the colour: up to
-        the last one that shows a number which goes on with this one, even if that isn't believed."""
+        """How many of these fields, all within its reach, are shown to be the disc's next ones by more than their
+        frames and the colour: up to the last one that shows a number, even if that isn't believed."""
         of_picture = anchor.last - anchor.field if step > 0 else 0
-        return max([min(of_picture, count), *(place for place in range(1, count + 1) if self.aside.shows(
-            anchor, anchor.field + step * place))])
+        return max([min(of_picture, count), *(place for place in range(1, count + 1)
+                                              if anchor.field + step * place in self.aside.all)])
 
     def end(self, step: int) -> End:
         """What stands after its last number (step 1), or before its first one (-1)."""
         anchor = self.last() if step > 0 else self.first()
-        count, is_seen = self.reach(anchor, step)
+        count = self.reach(anchor, step)
         there = anchor.field + step * (count + 1)
-        is_seen = is_seen and (count == LONGEST or self.going.is_end(there) or self.going.is_pad(there))
+        is_seen = count == LONGEST or self.going.is_end(there) or self.going.is_pad(there)
         return End(anchor.rank, count, self.going.is_marked(there), is_seen)
 
 

@@ -1,7 +1,5 @@
 """How far fields of a capture go on as those of the disc do, by their frames and the colour's phase."""
 
-from typing import Sequence
-
 from .sources import Source, straightened
 
 
@@ -34,12 +32,7 @@ class Going:
     def takes_turns(self, field: int, count: int) -> bool:
         """Whether first and second fields take turns in so many fields from this one on."""
         first, pairs = self._source.facts.first, self._pairs
-        if not first:
-            return True
-        fields: Sequence[int] = range(field, field + count)
-        if pairs:
-            fields = [pairs.get(one, one) for one in fields]
-        return all(first[one - 1] != first[other - 1] for one, other in zip(fields, fields[1:]))
+        return not first or len({first[pairs.get(one, one) - 1] == one % 2 for one in range(field, field + count)}) < 2
 
     def is_end(self, field: int) -> bool:
         """Whether lead-in or lead-out stands in a field, or the capture has none there."""

@@ -12,14 +12,14 @@ from ..join.entries import UNSURE, WHOLE
 from ..join.others import refuse_other_discs
 from ..judge.paces import MINUTE_FIELDS, RATES, Unit
 from .blocks import Block, Run
-from .choice import CHANGE, PADDED, Choice, Node
+from .choice import CHANGE, Choice, Node
 from .following import Followed, agreed, followed
 from .lengths import Lengths
 from .padding import Layout
 from .ranks import Ranks, ranks_of
 from .runs import Known, runs_of, set_aside
 from .sources import Source
-from .stretches import Seam, Stretch, seams_of
+from .stretches import PADDING, Seam, Stretch, seams_of
 
 MOST_PADDING = 10  # fields of the output to one of padding, at least, and
 FEW = 1000  # fields of padding that are never too many, if nothing else is said
@@ -82,22 +82,26 @@ def refuse_unwritable(captures: Sequence[Capture], made: Plan, wanted: Wanted = 
 
 def planned(sources: Sequence[Source], disagreements: Sequence[Disagreement], wanted: Wanted = Wanted()) -> Plan:
     """The same of captures that are known to be of one disc, and disagree so, however much would be padding."""
+    known, runs = _known_runs(sources, disagreements, wanted)
+    first = min(run.first() for run in runs)
+    if wanted.start is not None:
+        first = min(first, known.ranks.of(wanted.start))
+    nodes = Choice(runs, sources, wanted.change, known.lengths).nodes(
+        range(first, max(run.end() for run in runs)))
+    return _Making(runs, sources, known).made(nodes, wanted.ends)
+
+
+def _known_runs(sources: Sequence[Source], disagreements: Sequence[Disagreement], wanted: Wanted
+                ) -> Tuple[Known, List[Run]]:
+    """What is known of the disc, and the runs of all captures. What they come from, which is much of a long side, isn't
+    kept."""
     captures = [source.capture for source in sources]
     disputed = disputed_in([one for one in disagreements if _is_elsewhere(one)])
     ranks = ranks_of(sources)
     following = [followed(source, ranks) for source in sources]
     known = Known(ranks, Lengths(following), _extent_of(captures, disputed, ranks, wanted.start),
                   agreed([one.first() for one in following]), agreed([one.last() for one in following]))
-    runs = _runs_of(following, known, disputed, wanted.sure)
-    del following  # of which a long side has much
-    if not runs:
-        raise ValueError("no number is sure enough to be taken")
-    first = min(run.first() for run in runs)
-    if wanted.start is not None:
-        first = min(first, ranks.of(wanted.start))
-    nodes = Choice(runs, sources, wanted.change, (3 if known.lengths.is_film else 2) * PADDED).nodes(
-        range(first, max(run.end() for run in runs)))
-    return _Making(runs, sources, known).made(nodes, wanted.ends)
+    return known, _runs_of(following, known, disputed, wanted.sure)
 
 
 def _runs_of(captures: Sequence[Followed], known: Known, disputed: Set[Tuple[str, int]], is_sure: bool) -> List[Run]:
@@ -105,7 +109,9 @@ def _runs_of(captures: Sequence[Followed], known: Known, disputed: Set[Tuple[str
     found = [runs_of(place, one, known, {field for name, field in disputed if name == one.source.capture.name}, is_sure)
              for place, one in enumerate(captures)]
     runs = [run for ones in found for run in ones]
-    if is_sure or not runs or not any(one.aside.sure for one in captures):
+    if not runs:
+        raise ValueError("no number is sure enough to be taken")
+    if is_sure or not any(one.aside.sure for one in captures):
         return runs
     # one outside of all others would have padding up to them
     known = known._replace(extent=range(min(run.first() for run in runs), max(run.end() for run in runs)))
@@ -140,7 +146,7 @@ def _is_elsewhere(found: Disagreement) -> bool:
 
 def _extent_of(captures: List[Capture], disputed: Set[Tuple[str, int]], ranks: Ranks, start: Optional[int]) -> range:
     """The ranks from the disc's first one, or the one with which the output begins, to the last that is read."""
-    unit = captures[0].unit()
+    unit, *_ = (capture.unit() for capture in captures)
     read = [place.number for capture in captures for place in capture.places
             if (capture.name, place.field) not in disputed]
     begin = FIRST[unit.name] if unit.name != "time" else 0
@@ -153,9 +159,6 @@ class _Making:
     def __init__(self, runs: Sequence[Run], sources: Sequence[Source], known: Known) -> None:
         self._runs, self._sources, self._known = runs, sources, known
         self._layout = Layout(sources, known.lengths.is_film)
-        self._padded: List[int] = []
-        self._partial: List[int] = []
-        self._unsure: List[int] = []
         self._first_field: Dict[int, int] = {}
         self._owners: Dict[Tuple[int, int], int] = {}  # of captures' fields that may be of several numbers, the rank
 
@@ -164,54 +167,54 @@ class _Making:
         layout, stops = self._layout, [*(node.begin for node in nodes[1:]), None]
         if has_ends:
             self._take_lead_in(nodes[0])
-        taken = [self._blocks(node, stop) for node, stop in zip(nodes, stops)]
-        self._share([one for ones in taken for one in ones])
+        blocks = [self._blocks(node, stop) for node, stop in zip(nodes, stops)]
+        self._share([one for ones in blocks for one in ones])
         for place, (node, stop) in enumerate(zip(nodes, stops)):
             if node.run is None:
                 assert stop is not None  # the last rank is a run's
                 self._pad(node.begin, stop, nodes[place + 1])
-            for source, block in taken[place]:
+            for source, block in blocks[place]:
                 self._take(source, block)
         if has_ends:
             self._take_lead_out(nodes[-1])
         off = int(self._begins_within_a_frame())
         if off:
             layout.shift()
-        answer, number = self._sources[0].answer, self._known.ranks.number
-        padded, partial, unsure = ([number(rank) for rank in ones]
-                                   for ones in (self._padded, self._partial, self._unsure))
-        padding = {one for stretch in layout.stretches if stretch.source is None for one in stretch.numbers()}
-        partial = [one for one in partial if one in padding]  # what frames and the colour leave no room for isn't lost
-        first_field = {number(rank): field + off for rank, field in self._first_field.items()}
+        answer, *_ = (source.answer for source in self._sources)
+        left_out = self._known.ranks.left_out()
+
+        def numbers(how: str) -> Set[int]:
+            found = {number for one in layout.stretches if one.how == how for number in one.numbers()}
+            return found.difference(left_out)
+
+        padding, unsure = numbers(PADDING), numbers(UNSURE)
+        taken = unsure | numbers(WHOLE)
+        first_field = {self._known.ranks.number(rank): field + off for rank, field in self._first_field.items()}
         return Plan(answer.system, str(answer.unit), layout.stretches, seams_of(layout.stretches, self._sources),
-                    padded, partial, unsure, self._known.ranks.left_out(), first_field, layout.out - 1)
+                    sorted(padding - taken), sorted(padding & taken), sorted(unsure), left_out, first_field,
+                    layout.out - 1)
 
     def _take(self, source: int, block: Block) -> None:
         layout, number = self._layout, self._known.ranks.number
         first, last = number(block.rank), number(block.end() - 1)
         block = self._free(source, block)
-        if not block.fields:
-            self._padded.append(block.rank)
-            layout.pad(block.lead, first, last)
-            return
         layout.pad(block.lead, first, first)
+        if not block.fields:  # of one number, since others have got all of them
+            return
         how = WHOLE if block.is_sure else UNSURE
         for rank, begin, end in self._parts(block):
             layout.take(source, begin, end - begin, number(rank), number(rank), how)
         for step in range(block.ranks if not self._known.lengths.is_film else 1):
             self._first_field[block.rank + step] = layout.out - block.fields - block.lead + 2 * step
         layout.pad(block.trail, last, last)
-        if block.lead or block.trail:
-            self._partial.append(block.rank)
-        if not block.is_sure:
-            self._unsure += range(block.rank, block.end())
 
     @staticmethod
     def _parts(block: Block) -> Iterator[Tuple[int, int, int]]:
         """The numbers of a block, each with its first field and the one after its last: if the capture has swapped
         fields, those of each number stand in stretches of their own."""
-        ends = [block.field + block.fields * step // block.ranks for step in range(block.ranks + 1)]
-        return zip(range(block.rank, block.end()), ends, ends[1:])
+        for step in range(block.ranks):
+            begin, end = (block.field + block.fields * one // block.ranks for one in (step, step + 1))
+            yield block.rank + step, begin, end
 
     def _blocks(self, node: Node, stop: Optional[int]) -> List[Tuple[int, Block]]:
         """The blocks that are taken for a node's ranks, which end before `stop`, each with its capture."""
@@ -235,21 +238,21 @@ class _Making:
         fields = [field for field in range(block.field, block.field + block.fields)
                   if self._owners[source, field] == block.rank]
         if not fields:
-            return block._replace(lead=block.lead + block.fields + block.trail, fields=0, trail=0)
+            return block._replace(lead=block.lead + block.fields + block.trail, fields=0)
         lead = fields[0] - block.field
         return block._replace(field=fields[0], fields=len(fields), lead=block.lead + lead,
                               trail=block.trail + block.fields - lead - len(fields))
 
     def _pad(self, first: int, stop: int, after: Node) -> None:
         """Adds padding for the ranks before `stop`, to which a run comes."""
-        layout, lengths, answer = self._layout, self._known.lengths, self._sources[0].answer
+        layout, lengths = self._layout, self._known.lengths
         source, block = self._first_of(after)
+        answer = self._sources[source].answer
         if answer.pace == "minute":
             fields = MINUTE_FIELDS[answer.system][1] * (stop - first)
         else:
             fields = lengths.between(first, stop, lambda count: layout.fits(
                 source, block.field, count + block.lead))
-        self._padded += range(first, stop)
         if not lengths.is_film:
             each = fields // (stop - first)
             self._first_field.update((rank, layout.out + each * (rank - first)) for rank in range(first, stop))
@@ -274,10 +277,10 @@ class _Making:
             return
         source, block = self._first_of(node)
         field = block.field
-        stretches = self._sources[source].answer.lead_in
-        count = next((field - one.first for one in stretches if one.last == field - 1), 0) // 2 * 2
-        if count:
-            self._layout.take(source, field - count, count, None, None, WHOLE)
+        for one in self._sources[source].answer.lead_in:
+            count = (field - one.first) // 2 * 2
+            if count and one.last == field - 1:
+                self._layout.take(source, field - count, count, None, None, WHOLE)
 
     def _take_lead_out(self, node: Node) -> None:
         assert node.run is not None

@@ -34,11 +34,12 @@ def ranks_of(sources: Sequence[Source]) -> Ranks:
     """The ranks of a disc's numbers. A number that no capture has, and that isn't known to be left out, is so, too, if
     a clock that the library found leaves it out, or if a capture's fields go on in its place."""
     captures = [source.capture for source in sources]
+    alike, *_ = captures
     lacking = lacking_in(captures, between(sorted(set().union(*(one.first for one in captures)))))
-    left_out = captures[0].numbers_of((one.first, one.last) for one in lacking if one.why == CLOCK)
-    if captures[0].kind() != ("time", "NTSC"):
+    left_out = alike.numbers_of((one.first, one.last) for one in lacking if one.why == CLOCK)
+    if alike.kind() != ("time", "NTSC"):
         return Ranks(left_out)
-    lost = captures[0].numbers_of((one.first, one.last) for one in lacking if one.why in (LOST, UNDECIDED))
+    lost = alike.numbers_of((one.first, one.last) for one in lacking if one.why in (LOST, UNDECIDED))
     clock = next((one.clock for one in captures if one.clock.kind != ClockKind.plain), None)
     if clock and lost:
         left_out |= lost & clock.left_out_in(min(lost), max(lost))
@@ -50,7 +51,7 @@ def _passed_by(source: Source) -> Set[int]:
     colour's phase couldn't go on had their fields been lost."""
     return source.capture.numbers_of(
         (one.first, one.last) for one in source.answer.missing
-        if 1 <= one.after and one.before <= source.answer.fields
+        if one.after and one.before <= source.answer.fields
         and (one.why == UNDECIDED or 2 * one.count_ % source.period())
         and all(source.goes_on(field, field + 1) for field in range(one.after, one.before)))
 

@@ -28,13 +28,10 @@ class Known(NamedTuple):
     ends: Set[int]
 
 
-class _Shared(NamedTuple):
-    """Of the fields at an end of a run, or between two: how many the run before gets, `after` its last number, and how
-    many of these surely; and how many the run after gets, `before` its first number, likewise."""
-    after: int = 0
-    sure_after: int = 0
-    before: int = 0
-    sure_before: int = 0
+class _Own(NamedTuple):
+    """How many fields after its last number, or before its first one, a run gets, and how many of these surely."""
+    fields: int
+    sure: int
 
 
 def runs_of(place: int, capture: Followed, known: Known, disputed: Set[int], is_sure: bool = False) -> List[Run]:
@@ -63,13 +60,13 @@ def set_aside(place: int, capture: Followed, known: Known, runs: Sequence[Run], 
     its place doesn't say that it is right. It may be wrong, and so isn't sure; `having` has the ranks of the others."""
     wanted = [(field, rank) for field, ranks in sorted(capture.aside.sure.items()) for rank in ranks
               if rank in known.extent and rank not in having]
-    taken = [block for run in runs for block in run.blocks if block.is_sure] if wanted else []
+    taken = [block for run in runs for block in run.blocks if block.is_sure]
     begins, ends = sorted(one.field for one in taken), sorted(one.field + one.fields for one in taken)
     for field, rank in wanted:
         anchor, lengths = Anchor(rank, field, field), known.lengths
-        fields = 1 + capture.reach(anchor, 1, lengths.of(rank) - 1)[0]
+        fields = 1 + capture.reach(anchor, 1, lengths.of(rank) - 1)
         if bisect.bisect_left(begins, field + fields) == bisect.bisect(ends, field):  # in none of these fields
-            yield Run(place, [Block(rank, 1, field, fields, 0, lengths.of(rank) - fields, OPEN)])
+            yield Run(place, [Block(rank, 1, field, fields, trail=lengths.of(rank) - fields, doubt=OPEN)])
 
 
 def _is_sure(block: Block, capture: Followed, known: Known) -> bool:
@@ -95,15 +92,17 @@ def _sure_runs(place: int, blocks: List[Block]) -> List[Run]:
     return runs
 
 
-def _shared(last: Anchor, first: Anchor, capture: Followed, lengths: Lengths) -> _Shared:
-    """How two runs share the fields between them. By its frame and the colour alone none of these is surely a run's: a
-    player may have jumped by as many fields as look the same again, and have left others out. Some may go on from
+def _shared(last: Anchor, first: Anchor, capture: Followed, lengths: Lengths) -> Tuple[_Own, _Own]:
+    """What two runs get of the fields between them. By its frame and the colour alone none of these is surely a run's:
+    a player may have jumped by as many fields as look the same again, and have left others out. Some may go on from
     either run: then both get them, and none surely."""
     fields = first.field - last.field - 1
-    after, before = capture.reach(last, 1, fields)[0], capture.reach(first, -1, fields)[0]
+    after, before = capture.reach(last, 1, fields), capture.reach(first, -1, fields)
     own_after, own_before = min(after, fields - before), min(before, fields - after)
-    return _Shared(min(_whole_fields(last.rank, 1 + own_after, lengths) - 1, after),
-                   capture.shown(last, 1, own_after), before, capture.shown(first, -1, own_before))
+    own = last.lead + 1 + own_after
+    return (_Own(min(own_after + _whole_fields(last.rank, own, lengths) - own, after),
+                 capture.shown(last, 1, own_after)),
+            _Own(before, capture.shown(first, -1, own_before)))
 
 
 def _is_seen(end: End, is_agreed: bool, due: int, capture: Followed, known: Known) -> bool:
@@ -123,20 +122,12 @@ def _cuts_frames(capture: Followed, lengths: Lengths) -> bool:
         fields = first.field - last.field - 1
         if last.rank >= first.rank or _fields_of(range(last.rank, first.rank), lengths) <= fields + 1:
             continue
-        after = capture.reach(last, 1, fields)[0]
-        before = min(capture.reach(first, -1, fields)[0], fields - after)
+        after = capture.reach(last, 1, fields)
+        before = min(capture.reach(first, -1, fields), fields - after)
         if capture.source.period() == 1 or (_whole_fields(last.rank, 1 + after, lengths) != 1 + after
-                                            or not _begins_whole(first.rank, before, lengths)):
+                                            or _whole_fields(first.rank - 1, before, lengths, -1) != before):
             return True
     return False
-
-
-def _begins_whole(rank: int, fields: int, lengths: Lengths) -> bool:
-    """Whether so many fields before a number are whole pictures."""
-    while fields > 0:
-        rank -= 1
-        fields -= lengths.of(rank, 1)
-    return fields == 0
 
 
 def _fields_of(ranks: range, lengths: Lengths) -> int:
@@ -144,16 +135,17 @@ def _fields_of(ranks: range, lengths: Lengths) -> int:
     return sum(map(lengths.of, ranks[:FAR]))
 
 
-def _whole_fields(rank: int, fields: int, lengths: Lengths) -> int:
-    """As many fields from a number on, or the few more that make its last picture whole."""
+def _whole_fields(rank: int, fields: int, lengths: Lengths, step: int = 1) -> int:
+    """As many fields from a number on (step 1), or up to its end (-1), or the few more that make the last picture of
+    them whole."""
     whole = 0
     while whole < fields:
-        whole += lengths.of(rank)
-        rank += 1
+        whole += lengths.of(rank, -step)
+        rank += step
     return whole
 
 
-def _after_last(capture: Followed, known: Known) -> Tuple[_Shared, int]:
+def _after_last(capture: Followed, known: Known) -> Tuple[_Own, int]:
     """The fields after the last number of a capture, and the most numbers that these may have."""
     end = capture.end(1)
     more = end.fields
@@ -164,11 +156,10 @@ def _after_last(capture: Followed, known: Known) -> Tuple[_Shared, int]:
     seen = more if is_seen else capture.shown(capture.last(), 1, more)
     if capture.source.period() == 1 and not end.is_marked:
         seen = min(seen, known.lengths.of(end.rank) - 1)  # of other numbers nothing is seen
-    shared = _Shared(after=more, sure_after=seen)
-    return shared, LONGEST if end.is_marked else known.extent.stop - end.rank
+    return _Own(more, seen), LONGEST if end.is_marked else known.extent.stop - end.rank
 
 
-def _before_first(capture: Followed, known: Known) -> Tuple[_Shared, int]:
+def _before_first(capture: Followed, known: Known) -> Tuple[_Own, int]:
     """The fields before the first number of a capture, and the most numbers that these may have."""
     end = capture.end(-1)
     more = end.fields
@@ -178,8 +169,7 @@ def _before_first(capture: Followed, known: Known) -> Tuple[_Shared, int]:
     is_seen = (capture.source.period() > 1 or end.is_marked) and _is_seen(
         end, end.rank in known.begins, due, capture, known)
     seen = more if is_seen else capture.shown(capture.first(), -1, more)
-    shared = _Shared(before=more, sure_before=seen)
-    return shared, end.rank - known.extent.start
+    return _Own(more, seen), end.rank - known.extent.start
 
 
 def _with_end(blocks: List[Block], last: Anchor, after: Optional[Anchor], capture: Followed, known: Known,
@@ -188,16 +178,16 @@ def _with_end(blocks: List[Block], last: Anchor, after: Optional[Anchor], captur
     aren't read."""
     lengths, is_on_both = known.lengths, capture.is_on_both()
     if after is None:
-        shared, room = _after_last(capture, known)
+        own, room = _after_last(capture, known)
     else:
-        shared = _shared(last, after, capture, lengths)
+        own, _ = _shared(last, after, capture, lengths)
         room = after.rank - last.rank if after.rank > last.rank else known.extent.stop - last.rank
-    sure = 1 + shared.sure_after
-    left, field, found = sure if is_taken_surely else 1 + shared.after, last.field, blocks
+    sure = 1 + own.sure
+    left, field, lead, found = sure if is_taken_surely else 1 + own.fields, last.field, last.lead, blocks
     for rank in range(last.rank, last.rank + room):
         if not left:
             break
-        want = lengths.of(rank)
+        want = lengths.of(rank) - lead
         fields = min(left, want)
         # fields beyond the greatest number that is read may be lead-out's
         is_sure = field + fields - last.field <= sure and (
@@ -206,8 +196,8 @@ def _with_end(blocks: List[Block], last: Anchor, after: Optional[Anchor], captur
             is_sure = False  # it may be the second field
         is_known = field + fields == last.field + 1 and not is_on_both
         doubt = KNOWN if is_known else SEEN if is_sure else OPEN
-        found.append(Block(rank, 1, field, fields, 0, want - fields, doubt))
-        field, left = field + fields, left - fields
+        found.append(Block(rank, 1, field, fields, lead, want - fields, doubt))
+        field, left, lead = field + fields, left - fields, 0
     return found
 
 
@@ -216,18 +206,18 @@ def _with_begin(blocks: List[Block], first: Anchor, before: Optional[Anchor], ca
     """The blocks with what is there, or may be, of numbers before the first one that aren't read."""
     lengths = known.lengths
     if before is None:
-        shared, room = _before_first(capture, known)
+        own, room = _before_first(capture, known)
     else:
-        shared = _shared(before, first, capture, lengths)
+        _, own = _shared(before, first, capture, lengths)
         room = first.rank - (before.rank + 1 if before.rank < first.rank else known.extent.start)
-    left, field, found = shared.before, first.field, blocks
+    left, field, found = own.fields, first.field, blocks
     for rank in range(first.rank - 1, first.rank - 1 - room, -1):
         if not left:
             break
         want = lengths.of(rank, 1)
         fields = min(left, want)
         field, left = field - fields, left - fields
-        is_sure = first.field - field <= shared.sure_before and lengths.is_known(rank, 1)
+        is_sure = first.field - field <= own.sure and lengths.is_known(rank, 1)
         found = [Block(rank, 1, field, fields, want - fields, 0, SEEN if is_sure else OPEN), *found]
     return found
 
