@@ -92,13 +92,13 @@ def ends_of(codes: Codes, kind: Kind, numbers: Numbers) -> Tuple[List[Stretch], 
     found: List[Stretch] = []
     stray: List[int] = []
     for field in sorted(codes.kinds[kind]):
-        first, last, count = found[-1] if found else (field, -APART, 0)
+        last = found[-1].last if found else -APART
         between = bisect.bisect_left(others, field) - bisect.bisect(others, last)
         if field in numbers.taken or numbers.unit.name != "minute" and numbers.fit(numbers.around(field)):
             stray.append(field)
         elif field - last <= APART and between <= FEW and bisect.bisect(numbers.fields, last) == (
                 bisect.bisect(numbers.fields, field)):
-            found[-1] = Stretch(first, field, count + 1)
+            found[-1] = Stretch(found[-1].first, field, found[-1].count_ + 1)
         else:
             found.append(Stretch(field, field, 1))
     single = {one.first for one in found if one.count_ == 1 and numbers.fit(numbers.around(one.first))}

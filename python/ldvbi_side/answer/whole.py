@@ -6,6 +6,7 @@ from collections import Counter, defaultdict
 from typing import Iterator, List, Optional, Sequence, Tuple, cast
 
 from ldvbi import JudgedSide, Kind, Reason, State
+from ..judge.paces import RATES
 from ..texts import counted, counted_by, detour_text, lost_fields_text
 from .ends import Begin, end_of, ordinal_of
 from .entries import Answer, Ground
@@ -75,9 +76,9 @@ def _disordered(answer: Answer, judged: Optional[JudgedSide], begin: Optional[Be
     if left:
         which = "the first: " if len(left) > 1 else ""
         yield "detours", "%s (%s%s)" % (counted(len(left), "detour"), which, detour_text(answer, left[0]))
-    speeds = answer.speeds
-    if speeds:
-        where = "fields %d to %d" % speeds[0][:2] if len(speeds) == 1 else "%d stretches" % len(speeds)
+    if answer.speeds:
+        (first, to, _), *others = answer.speeds
+        where = "%d stretches" % len(answer.speeds) if others else "fields %d to %d" % (first, to)
         yield "speed", "played at another speed in " + where
     count = counted_by(answer, "lost")
     if count:
@@ -170,9 +171,9 @@ def _undecided(answer: Answer, gaps: Gaps) -> Found:
     judged = gaps.judged
     if gaps.more is not None and judged:
         where = "fields %d to %d" % (cast(int, judged.first) + 1, cast(int, judged.last) + 1)
+        how = "more" if gaps.more > 0 else "fewer" if gaps.more < 0 else None
         yield "off", "%s are %s %s than their numbers count to" % (
-            where, counted(abs(gaps.more), "field"), "more" if gaps.more > 0 else "fewer"
-            ) if gaps.more else "a field may be lost or too many in " + where
+            where, counted(abs(gaps.more), "field"), how) if how else "a field may be lost or too many in " + where
     opened = Between((one.after, one.before) for one in gaps.open)
     count = sum(one.count_ for one in answer.missing
                 if one.why == "undecided" and not opened.hold(one.after, one.before))
@@ -186,7 +187,7 @@ def _empty(answer: Answer, begin: Optional[Begin], unseen: Sequence[Tuple[int, i
     these. After the disc's last number there are none."""
     if unseen:
         yield "unseen", "no number in fields %d to %d%s" % (*unseen[0], _and_more(unseen))
-    end = None if last and last.number == last.greatest else end_of(answer)
+    end = None if last and last.is_there else end_of(answer)
     for first, to in filter(None, (begin and begin.unread, end)):
         yield "ends", ("no number in fields %d to %d" % (first, to) if first <= to else
                        "numbers before field %d may be lost, or the disc's clock left them out" % first)
@@ -223,7 +224,7 @@ def _unsure(answer: Answer, judged: Optional[JudgedSide], is_ended: bool) -> Fou
             not any(one.last > answer.showings[-1].last for one in answer.lead_out + answer.lead_in)):
         yield "lead-out", "no lead-out: the disc may go on after %s %s" % (answer.unit, answer.showings[-1].number)
     if answer.unit == "minute":
-        minutes = [ordinal_of(number, 1) for number, _, _ in answer.showings]
+        minutes = [ordinal_of(number, RATES[answer.system]) for number, _, _ in answer.showings]
         if not any(after - one == one - before == 1 for before, one, after in zip(minutes, minutes[1:], minutes[2:])):
             yield "minutes", "no minute is between two others"
     pairs = _out_of_order(answer) if answer.pace == "film" else ()
