@@ -78,12 +78,14 @@ def gaps_of(places: Places, shown: ByField, lead_out: Set[int]) -> Gaps:
                                           for is_open in (False, True))
     found["open"] += [one for one in places.breaks if is_outside(judged, one)]
     more = None
-    if judged.reasons & Reason.is_off and not judged.reasons & _BY_GAPS:
+    is_uneven = judged.on_both and _is_uneven(places)
+    if (judged.reasons & Reason.is_off or is_uneven) and not judged.reasons & _BY_GAPS:
         explained = Between([(one.after, one.before) for one in found["open"]] +
                             [(gap.after + 1, gap.before + 1) for gap in away])
         off = [one for one in _off_in(places, judged) if not explained.hold(one.after, one.before)]
         found["breaks"] += off
-        more = None if off or _is_explained(places, judged, lead_out) else _more(places.numbers)
+        is_explained = not is_uneven and _is_explained(places, judged, lead_out)
+        more = None if off or is_explained else _more(places.numbers)
     for name in ("breaks", "open"):
         found[name].sort(key=lambda one: one.after)
     return Gaps(judged, more=more, detours=[detour_of(*pair) for pair in pairs], **found)
@@ -170,6 +172,15 @@ def _is_explained(places, judged, lead_out):
     if judged.on_both:
         return all((one.last - one.first) % 2 or lead_out.issuperset((one.last, one.last + 1)) for one in places.stills)
     return not (judged.tally.stills or _shifts(judged))
+
+
+def _is_uneven(places):
+    """Whether a field is too few or too many in what the library takes for a still: of the pictures around, which show
+    their number on both fields and go on without a break, not all first fields are odd ones, or even ones."""
+    stills = Between((one.first - 1, one.last + 1) for one in places.stills)
+    begins = {(one.field - one.variant) % 2 for one in places.numbers.believed
+              if not stills.meet(one.field, one.field) and one.field not in places.numbers.swapped}
+    return not places.breaks and len(begins) > 1
 
 
 def is_outside(judged: JudgedSide, one: Break) -> bool:
