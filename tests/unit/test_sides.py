@@ -110,6 +110,7 @@ LASTS = """
     20 | NTSC f1..10 | said no: at least 25 fields lost; 10 pictures lost | lost 25-26 25 number
     20 | b1..10 | lost 20-21 20 number || 20 | b1..20 | said yes || 20 | b1..20 -40 | said yes
     0:01:00.02 | NTSC t1..1799 | lost 3598-3599 2 number | missing 0:01:00.00-0:01:00.02 undecided
+    0:01:00.05 | NTSC t1..1800 | lost 3600-3601 8 number || 0:01:00.01 | NTSC t1..1790 | lost 3580-3581 20 number
     0:00:02.02 | NTSC t0..59 | lost 120-121 4 number | missing 0:00:02.00-0:00:02.02 lost | orMore 120
     0:00:35.10 | NTSC t0..59 | lost 120-121 2000 number || 0:00:35.11 | NTSC t0..59 | lost 120-121 2000 number
     0:03:00.02 | NTSC t2..5399!0,1%1800 | lost 0-1 2 number, 10788-10789 2 number | missing .., 0:03:00.02 lost

@@ -15,9 +15,10 @@ EVEN = 1000  # numbers to one that an even clock leaves out
 
 
 class Last(NamedTuple):
-    """Whether the last number of the disc `is_there`, or the side ends `beyond` it. `lacks` is what the side lacks up to
-    its end: fields that are too few (`lost`), or numbers alone (`held`), or None; `least` is how many fields are lost
-    for sure, and `or_more` says whether there may be more."""
+    """The last number of the disc, as a count, and whether it `is_there`, or the side ends `beyond` it. `lacks` is what
+    the side lacks up to it: fields that are too few (`lost`), or numbers alone (`held`), or None; `least` is how many
+    fields are lost for sure, and `or_more` says whether there may be more."""
+    number: int
     is_there: bool
     beyond: bool
     lacks: Optional[Break] = None
@@ -33,7 +34,7 @@ def last_of(answer: Answer, unit: Unit, clock: Clock) -> Optional[Last]:
     first, last = given
     greatest = ordinal_of(answer.numbers.greatest, unit.rate)
     if greatest > last:
-        return Last(False, True)
+        return Last(last, False, True)
     own = next(one for one in reversed(answer.showings) if one.number == answer.numbers.greatest)
     # up to another number, an end of the disc, or the end of all there may be more of what follows
     ends: List[Any] = [*answer.showings, *answer.lead_in, *answer.lead_out]
@@ -43,9 +44,9 @@ def last_of(answer: Answer, unit: Unit, clock: Clock) -> Optional[Last]:
     least, most = (max(fields - there, 0) for fields in _due(number, greatest, rest, answer, clock))
     # lead-out may begin with the last picture's other field
     if number == greatest and (not least or before <= answer.fields):
-        return Last(True, False)
+        return Last(number, True, False)
     lacks = Break("lost" if least else "held", own.last + min(there, rest), before, greatest, number + 1, most)
-    return Last(number == greatest, False, lacks, least, least != most or first != last)
+    return Last(number, number == greatest, False, lacks, least, least != most or first != last)
 
 
 def _counts_of(text: str, unit: Unit) -> Optional[Tuple[int, int]]:

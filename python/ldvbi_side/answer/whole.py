@@ -149,7 +149,7 @@ def _in_gaps(answer: Answer, gaps: Gaps) -> Found:
             counted(one.fields, "field"), "lost" if one.kind == "lost" else "too many", one.after)
         # the clock may have left out numbers without fields, or have kept those for which fields are too many
         left_out = "no number" if one.kind == "held" else "a number" if one.fields < 4 else "two numbers"
-        why = ("fields are swapped there" if judged and is_outside(judged, one) else
+        why = ("fields are swapped there" if is_outside(cast(JudgedSide, judged), one) else
                "the disc's clock left out " + left_out if answer.unit == "time" else
                "the player stood still there" if one.kind == "held" and any(
                    still.first <= one.before and one.after <= still.last for still in answer.stills) else
@@ -262,6 +262,6 @@ def _out_of_order(answer):
     rows = defaultdict(list)
     for number, field, _ in answer.showings:
         rows[bisect.bisect(begins, field), number % 2].append((field, 2 * field - 5 * number))
-    return {field - (here > before) for row in rows.values()
+    return {field - (here == before + 2) for row in rows.values()
             for (_, before), (field, here), (_, after) in zip(row, row[1:], row[2:])
             if before == after and abs(here - before) == 2} - known
