@@ -48,7 +48,8 @@ class Into:
                 raise ValueError("%s is %s, and the name of %s ends like that of %s" % (
                     self._old, FORMS[is_of_rows], self._path, FORMS[not is_of_rows]))
             if is_of_rows:
-                from ..into.rows import BESIDE, Rows  # the smallest Pythons have no sqlite3
+                from ldvbi.database import BESIDE  # the smallest Pythons have no sqlite3
+                from ..into.rows import Rows
                 refuse_inputs([self._path], [self._old + end for end in BESIDE])
                 self._rows = Rows(self._old)
             elif metadata.parameters is None:
@@ -75,7 +76,7 @@ class Into:
 
     def _write(self, words: Iterable[Words], said: str) -> None:
         if self._rows is not None:
-            from ..into.rows import BESIDE
+            from ldvbi.database import BESIDE
             with whole_path(self._path, BESIDE) as part:
                 self._rows.copy(part, words, said)
             return
