@@ -2,28 +2,28 @@
 
 import math
 import re
-from typing import Any, List, NamedTuple, Optional, Tuple
+from typing import Any, Dict, List, NamedTuple, Optional, Tuple
 
 from ldvbi import Clock, ClockKind
 from ..judge.clock import DROP_FRAME
 from ..judge.paces import MINUTE_FIELDS, Unit
 from ..judge.places import Break
 from .ends import ordinal_of
-from .entries import Answer
+from .entries import Answer, Lost
+from .missing import is_about
 
 EVEN = 1000  # numbers to one that an even clock leaves out
 
 
 class Last(NamedTuple):
     """The last number of the disc, as a count, and whether it `is_there`, or the side ends `beyond` it. `lacks` is what
-    the side lacks up to it: fields that are too few (`lost`), or numbers alone (`held`), or None; `least` is how many
-    fields are lost for sure, and `or_more` says whether there may be more."""
+    the side lacks up to it: fields that are too few, or numbers alone (`held`), or None; `lost` has the fields that are
+    lost for sure."""
     number: int
     is_there: bool
     beyond: bool
     lacks: Optional[Break] = None
-    least: int = 0
-    or_more: bool = False
+    lost: Optional[Lost] = None
 
 
 def last_of(answer: Answer, unit: Unit, clock: Clock) -> Optional[Last]:
@@ -46,7 +46,9 @@ def last_of(answer: Answer, unit: Unit, clock: Clock) -> Optional[Last]:
     if number == greatest and (not least or before <= answer.fields):
         return Last(number, True, False)
     lacks = Break("lost" if least else "held", own.last + min(there, rest), before, greatest, number + 1, most)
-    return Last(number, number == greatest, False, lacks, least, least != most or first != last)
+    or_more = least != most or first != last or is_about(answer.pace)
+    lost = Lost(lacks.after, before, least, "number", or_more) if least else None
+    return Last(number, number == greatest, False, lacks, lost)
 
 
 def _counts_of(text: str, unit: Unit) -> Optional[Tuple[int, int]]:
@@ -55,7 +57,8 @@ def _counts_of(text: str, unit: Unit) -> Optional[Tuple[int, int]]:
     if bool(more) == (unit.name == "picture") or any(
             part >= limit for part, limit in zip(more, (60, 60, unit.rate))):
         return None
-    bases = {"picture": [], "minute": [60]}.get(str(unit.name), [60, 60, unit.rate])
+    of_units: Dict[Optional[str], List[int]] = {"picture": [], "minute": [60], "time": [60, 60, unit.rate]}
+    bases = of_units[unit.name]
     for part, base in zip(more, bases):
         count = count * base + part
     size = math.prod(bases[len(more):])

@@ -148,7 +148,7 @@ def _in_gaps(answer: Answer, gaps: Gaps) -> Found:
         what = "%s may be %s after field %d" % (
             counted(one.fields, "field"), "lost" if one.kind == "lost" else "too many", one.after)
         # the clock may have left out numbers without fields, or have kept those for which fields are too many
-        left_out = "no number" if one.kind == "held" else "a number" if one.fields < 4 else "two numbers"
+        left_out = "no number" if one.kind == "held" else "two numbers" if one.fields == 4 else "a number"
         why = ("fields are swapped there" if is_outside(cast(JudgedSide, judged), one) else
                "the disc's clock left out " + left_out if answer.unit == "time" else
                "the player stood still there" if one.kind == "held" and any(
