@@ -99,7 +99,7 @@ LASTS = """
     1:01:01 | t0..59 | missing 0:00:02.10-1:01:01.00 lost || 1:00 | m0..1x9 | missing 0:02-1:00 lost
     100 | 1..90 51..60 -193:194 | lost 180-181 20 number, 191-193 2 number
     90 | 1..93 | said can't tell: it ends at 93, after 90 that was given as the last | no missing lost
-    90 | 1..93 Bx120 | reasons ends, last
+    90 | 1..93 Bx120 | reasons ends, last || 100 | 1..90 Bx120 | reasons undecided, ends
     0:03 | 1..93 | said can't tell: 0:03, given as the last, is none of its numbers || 93 | t0..59 | reasons last
     0:00:00.25 | t0..59 | reasons last || 7 | Bx9 | reasons numbers || 0:07 | Bx9 | reasons numbers
     0:00:02 | t0..59 | said yes || 0:00 | t0..59 | said yes || 0:00:01 | t0..59 | reasons last

@@ -180,7 +180,7 @@ def _is_uneven(places):
     stills = Between((one.first - 1, one.last + 1) for one in places.stills)
     begins = {(one.field - one.variant) % 2 for one in places.numbers.believed
               if not stills.meet(one.field, one.field) and one.field not in places.numbers.swapped}
-    return not places.breaks and len(begins) > 1
+    return len(begins) > 1 and not places.joins
 
 
 def is_outside(judged: JudgedSide, one: Break) -> bool:

@@ -42,12 +42,12 @@ def last_of(answer: Answer, unit: Unit, clock: Clock) -> Optional[Last]:
     # at least how many fields the number has after the last one that shows it
     number, there, rest = max(first, greatest), before - own.last - 1, int(answer.pace in ("video", "film"))
     least, most = (max(fields - there, 0) for fields in _due(number, greatest, rest, answer, clock))
+    lacks = lost = None
     # lead-out may begin with the last picture's other field
-    if number == greatest and (not least or before <= answer.fields):
-        return Last(number, True, False)
-    lacks = Break("lost" if least else "held", own.last + min(there, rest), before, greatest, number + 1, most)
-    or_more = least != most or first != last or is_about(answer.pace)
-    lost = Lost(lacks.after, before, least, "number", or_more) if least else None
+    if number > greatest or least and before > answer.fields:
+        lacks = Break("lost" if least else "held", own.last + min(there, rest), before, greatest, number + 1, most)
+        or_more = least != most or first != last or is_about(answer.pace)
+        lost = Lost(lacks.after, before, least, "number", or_more) if least else None
     return Last(number, number == greatest, False, lacks, lost)
 
 
