@@ -168,8 +168,8 @@ def _undecided(answer: Answer, gaps: Gaps) -> Found:
     again = [one.before for one in answer.lost if one.is_again()]
     if again:
         yield "parity", "a field was shown again, or lost, before field %d%s" % (again[0], _and_more(again))
-    judged = gaps.judged
-    if gaps.more is not None and judged:
+    if gaps.more is not None:
+        judged = cast(JudgedSide, gaps.judged)
         where = "fields %d to %d" % (cast(int, judged.first) + 1, cast(int, judged.last) + 1)
         how = "more" if gaps.more > 0 else "fewer" if gaps.more < 0 else None
         yield "off", "%s are %s %s than their numbers count to" % (
