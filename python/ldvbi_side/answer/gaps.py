@@ -175,11 +175,11 @@ def _is_explained(places, judged, lead_out):
 
 
 def _is_uneven(places):
-    """Whether a field is too few or too many in what the library takes for a still: of the pictures around, which show
-    their number on both fields and go on without a break, not all first fields are odd ones, or even ones."""
-    stills = Between((one.first - 1, one.last + 1) for one in places.stills)
+    """Whether a field is too few or too many in what the library takes for a still: of the other pictures, which show
+    their number on both fields, not all first fields are odd ones, or even ones."""
+    stills, swapped = {one.number for one in places.stills}, places.numbers.swapped
     begins = {(one.field - one.variant) % 2 for one in places.numbers.believed
-              if not stills.meet(one.field, one.field) and one.field not in places.numbers.swapped}
+              if one.number not in stills and one.field not in swapped}
     return len(begins) > 1 and not places.joins
 
 
