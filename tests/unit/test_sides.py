@@ -262,6 +262,7 @@ def test_what_else_is_known():
     assert not any(Fields("PAL", [], [], [], b"")[5:])  # nothing else is known of a side
     check_row("worn, and whole", "<1..200 -/#N^/#N^ -/?/!>", "said yes", "levels")
     check_row("a cut field alone", "B", "said no: field 2 is cut; no picture number and no time", cut=Cut(2, 5))
+    check_row("after lead-out", "Ox4", "said can't tell: no picture number and no time", cut=Cut(5, 5))
     known = made("NTSC t0..20 t22..40", typed)
     assert [counted_by(known, why) for why in ("undecided", "lost")] == [1, 0]
 
@@ -287,7 +288,7 @@ def test_the_order_of_all_reasons():
             Doubt(field, 17, 0xF79999, Kind.picture, 1, "alone", 79999, None, None) for field in range(9, 50, 3)])
     judged = ldvbi.judge_side(made("5..30", side).readings, "PAL")
     gaps = Gaps(judged._replace(reasons=judged.reasons | Reason.no_numbers), [], 4, [Break("lost", 30, 32, 15, 17, 2)],
-                [Break("lost", 9, 10, 5, 6, 2)])
+                [Break("lost", 9, 10, 5, 6, 2), Break("lost", 29, 30, 15, 17, 2)])
 
     def reasons(known, gaps, is_strict=False):
         return reasons_of(known, gaps, begin_of(known, gaps.judged, Unit("picture", 30), is_strict), is_strict)

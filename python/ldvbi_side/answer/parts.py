@@ -30,10 +30,10 @@ def chapters_of(codes: Codes, places: Places, begin: int) -> Tuple[List[Chapter]
     breaks += [field for one in places.numbers.speeds if one.line.step != abs(one.line.step)
                for field in (one.first + 1, one.first + 2, one.last, one.last + 2)]
     breaks.sort()
-    found, sure = codes.kinds[Kind.chapter], sure_in(judge_chapters(codes.fields.packed))
-    if breaks:  # at each any chapter may follow, so the breaks up to its field are part of a reading's number
-        sure = {field: ChapterPace.BREAK * bisect.bisect(breaks, field) + chapter for field, chapter in sure.items()}
-    sure = _in_order(sure)
+    found = codes.kinds[Kind.chapter]
+    # at each any chapter may follow, so the breaks up to its field are part of a reading's number
+    sure = _in_order({field: ChapterPace.BREAK * bisect.bisect(breaks, field) + chapter
+                      for field, chapter in sure_in(judge_chapters(codes.fields.packed)).items()})
     inside = _inside(found, sure)
     others = codes.readings({field: values for field, values in found.items() if field not in inside})
     readings = [one._replace(number=ChapterPace.BREAK * bisect.bisect(breaks, one.field) + one.number)

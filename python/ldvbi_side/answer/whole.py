@@ -2,6 +2,8 @@
 library's, and what the answer's other members say beyond gaps."""
 
 import bisect
+import itertools
+import operator
 from collections import Counter, defaultdict
 from typing import Iterator, List, Optional, Sequence, Tuple, cast
 
@@ -117,8 +119,8 @@ def _of_another(answer: Answer, gaps: Gaps) -> Found:
     expected = answer.metadata_fields
     if expected is not None and expected > answer.fields:
         yield "metadata", "%s of %d that the metadata has" % (counted(answer.fields, "field"), expected)
-    shown = answer.showings[-1].last if answer.showings else answer.fields
-    if answer.cut_field and not any(one.last > shown for one in answer.lead_out):  # after which no number is
+    is_over = any(not answer.showings or one.last > answer.showings[-1].last for one in answer.lead_out)
+    if answer.cut_field and not is_over:
         yield "cut", "field %d is cut" % answer.cut_field.field
 
 
@@ -128,9 +130,8 @@ def _end_between(answer):
     again = [one.first for one in answer.lead_in if showings and one.first > showings[0].first]
     if again:
         return "lead-in again in field %d (two sides joined)" % again[0]
-    stays = next((one for one, after in zip(showings[::-1], showings[-2::-1] + [None])
-                  if after is None or after.number != one.number), None)
-    early = [one.first for one in answer.lead_out if stays and one.last < stays.last]
+    runs = [list(ones) for _, ones in itertools.groupby(showings, key=operator.attrgetter("number"))]
+    early = [one.first for one in answer.lead_out if runs and one.last < runs[-1][0].last]
     return "lead-out in field %d, and numbers after it (two sides joined)" % early[0] if early else None
 
 
