@@ -147,9 +147,10 @@ def test_what_stands_beside_entries():
     # the metadata has two fields more than were read
     for more in ([True, True], [False, True]):
         assert answer(rows("1..30"), first=[True, False] * 30 + more)["lost"] == []
-    assert made("1..30 22:40/2=-/c1/c1 42:60/2=-/c2/c2")["chapters"][:2] == [
+    assert made("1..30 22:40/2=-/c1/c1 42:60/2=-/c2/c2")["chapters"] == [
         {"chapter": 0, "field": 2, "last": 20, "after": None, "number": 1, "frame": 1},
-        {"chapter": 1, "field": 22, "last": 40, "after": 20, "number": 11, "frame": 11}]
+        {"chapter": 1, "field": 22, "last": 40, "after": 20, "number": 11, "frame": 11},
+        {"chapter": 2, "field": 42, "last": 60, "after": 40, "number": 21, "frame": 21}]
     assert made("t0..29")["chapters"][0]["number"] == "0:00:00.00"
     found = made("PAL/1 1..10 5=S/S/#3 16=S^/S*/S 2=S*/-/- 4=-/S^/- -1 S/-/-")
     assert found["stops"] == [{"field": 4, "frame": 2, "number": 3, "lines": [16, 17]},

@@ -112,7 +112,7 @@ def stops_of(codes: Codes, places: Places, begin: int) -> Tuple[List[Stop], List
     ahead, each with its picture; those of which it isn't; and the lines of others, as stray ones. `begin` is the first
     field that begins a frame."""
     stops = codes.kinds[Kind.picture_stop]
-    states = judge_stops(codes.fields.packed) if stops else []
+    states = judge_stops(codes.fields.packed)
     believed, worn = ({field for field in stops if states[field - 1] == state}
                       for state in (State.believed, State.doubtful))
     lines = {field: sum(stops[field].values(), ()) for field in sorted(stops)}
