@@ -12,7 +12,7 @@ from ..judge.paces import RATES
 from ..texts import counted, counted_by, detour_text, lost_fields_text
 from .ends import Begin, end_of, ordinal_of
 from .entries import Answer, Ground
-from .gaps import Gaps, is_outside
+from .gaps import Between, Gaps, is_outside
 from .last import Last
 
 YES, NO, OPEN = "yes", "no", "can't tell"
@@ -175,9 +175,9 @@ def _undecided(answer: Answer, gaps: Gaps) -> Found:
         how = "more" if gaps.more > 0 else "fewer" if gaps.more < 0 else None
         yield "off", "%s are %s %s than their numbers count to" % (
             where, counted(abs(gaps.more), "field"), how) if how else "a field may be lost or too many in " + where
-    opened = {(one.after, one.before) for one in gaps.open}
+    opened = Between((one.after, one.before) for one in gaps.open)
     count = sum(one.count_ for one in answer.missing
-                if one.why == "undecided" and (one.after, one.before) not in opened)
+                if one.why == "undecided" and not opened.meet(one.after, one.before))
     if count:
         yield "undecided", "%s undecided" % counted(count, answer.unit)
 
