@@ -105,17 +105,22 @@ LASTS = """
     1:01:01 | t0..59 | missing 0:00:02.10-1:01:01.00 lost || 1:00 | m0..1x9 | missing 0:02-1:00 lost
     100 | 1..90 51..60 -193:194 | lost 180-181 20 number, 191-193 2 number
     90 | 1..93 | said can't tell: it ends at 93, after 90 that was given as the last | no missing lost
+    90 | 1..93 Bx120 | reasons ends, last || 100 | 1..90 Bx120 | reasons undecided, ends
     0:03 | 1..93 | said can't tell: 0:03, given as the last, is none of its numbers || 93 | t0..59 | reasons last
     0:00:00.25 | t0..59 | reasons last || 7 | Bx9 | reasons numbers || 0:07 | Bx9 | reasons numbers
     0:00:02 | t0..59 | said yes || 0:00 | t0..59 | said yes || 0:00:01 | t0..59 | reasons last
+    0:00:02 | t0..59 -120 | said no: at least 1 field lost
     0:00:03 | t0..59 | said no: at least 32 fields lost; 16 times lost | missing 0:00:02.10-0:00:03.00 lost
     100 | 1..90 Bx20 | said can't tell: 10 pictures undecided | no lost || 100 | 1..90 ?x20 | said yes
         | missing 91-100 unread || 100 | 1..90 Bx6 | said no: 14 fields lost; 10 pictures undecided
     20 | NTSC f1..10 | said no: at least 25 fields lost; 10 pictures lost | lost 25-26 25 number
     20 | b1..10 | lost 20-21 20 number || 20 | b1..20 | said yes || 20 | b1..20 -40 | said yes
     0:01:00.02 | NTSC t1..1799 | lost 3598-3599 2 number | missing 0:01:00.00-0:01:00.02 undecided
-    0:00:02.02 | NTSC t0..59 | lost 120-121 4 number | missing 0:00:02.00-0:00:02.02 lost
+    0:01:00.05 | NTSC t1..1800 | lost 3600-3601 8 number || 0:01:00.01 | NTSC t1..1790 | lost 3580-3581 20 number
+    0:00:02.02 | NTSC t0..59 | lost 120-121 4 number | missing 0:00:02.00-0:00:02.02 lost | orMore 120
+    0:00:35.10 | NTSC t0..59 | lost 120-121 2000 number || 0:00:35.11 | NTSC t0..59 | lost 120-121 2000 number
     0:03:00.02 | NTSC t2..5399!0,1%1800 | lost 0-1 2 number, 10788-10789 2 number | missing .., 0:03:00.02 lost
+    0:03 | NTSC t2..5399!0,1%1800 | lost 0-1 2 number, 10788-10789 2 number | orMore 10788
     0:03 | m0..1x9 | missing 0:02-0:03 lost | lost 18-19 3001 number | orMore 18 || 0:01:30 | m0..1x9 | no lost missing
     100 | 1..90 51..60 | said no: 20 fields lost; 1 jump (back); 10 pictures lost | lost 180-181 20 number
     90 | 1..50 61..90 -/#55/#55 B | missing 51-60 lost | aside 161, 161
@@ -148,9 +153,10 @@ def test_what_stands_beside_entries():
     # the metadata has two fields more than were read
     for more in ([True, True], [False, True]):
         assert answer(rows("1..30"), first=[True, False] * 30 + more)["lost"] == []
-    assert made("1..30 22:40/2=-/c1/c1 42:60/2=-/c2/c2")["chapters"][:2] == [
+    assert made("1..30 22:40/2=-/c1/c1 42:60/2=-/c2/c2")["chapters"] == [
         {"chapter": 0, "field": 2, "last": 20, "after": None, "number": 1, "frame": 1},
-        {"chapter": 1, "field": 22, "last": 40, "after": 20, "number": 11, "frame": 11}]
+        {"chapter": 1, "field": 22, "last": 40, "after": 20, "number": 11, "frame": 11},
+        {"chapter": 2, "field": 42, "last": 60, "after": 40, "number": 21, "frame": 21}]
     assert made("t0..29")["chapters"][0]["number"] == "0:00:00.00"
     found = made("PAL/1 1..10 5=S/S/#3 16=S^/S*/S 2=S*/-/- 4=-/S^/- -1 S/-/-")
     assert found["stops"] == [{"field": 4, "frame": 2, "number": 3, "lines": [16, 17]},
@@ -256,12 +262,14 @@ def test_what_else_is_known():
     for text, said in (("Lx4 1..30", "no: field 65 is cut"), ("1..9 Ox5 10..28", "..sides joined); field 65 is cut")):
         check_row("cut before lead-out", text, "said " + said, cut=Cut(65, 5))
     for text, pad, said in (("B 1..30", [1], "yes"), ("Bx2 1..30", [1, 2], "no: 2 fields are padding"),
-                            ("1..30 5=B", [5], "no: 1 picture is padding"), ("1..30", [6], "no: 1 field is padding"),
+                            ("1..30 5:6=B", [5, 6], "no: 1 picture is padding"),
+                            ("1..30", [6], "no: 1 field is padding"),
                             ("1..30 5=B 9=B", [5, 6, 9], "no: 2 pictures are padding")):
         check_row("padding", text, "said " + said, pad=[field in pad for field in range(1, 63)])
     assert not any(Fields("PAL", [], [], [], b"")[5:])  # nothing else is known of a side
     check_row("worn, and whole", "<1..200 -/#N^/#N^ -/?/!>", "said yes", "levels")
     check_row("a cut field alone", "B", "said no: field 2 is cut; no picture number and no time", cut=Cut(2, 5))
+    check_row("after lead-out", "Ox4", "said can't tell: no picture number and no time", cut=Cut(5, 5))
     known = made("NTSC t0..20 t22..40", typed)
     assert [counted_by(known, why) for why in ("undecided", "lost")] == [1, 0]
 
@@ -287,7 +295,7 @@ def test_the_order_of_all_reasons():
             Doubt(field, 17, 0xF79999, Kind.picture, 1, "alone", 79999, None, None) for field in range(9, 50, 3)])
     judged = ldvbi.judge_side(made("5..30", side).readings, "PAL")
     gaps = Gaps(judged._replace(reasons=judged.reasons | Reason.no_numbers), [], 4, [Break("lost", 30, 32, 15, 17, 2)],
-                [Break("lost", 9, 10, 5, 6, 2)])
+                [Break("lost", 9, 10, 5, 6, 2), Break("lost", 29, 30, 15, 17, 2)])
 
     def reasons(known, gaps, is_strict=False):
         return reasons_of(known, gaps, begin_of(known, gaps.judged, Unit("picture", 30), is_strict), is_strict)

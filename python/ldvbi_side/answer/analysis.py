@@ -103,10 +103,8 @@ def _with_losses(answer: Answer, places: Places, gaps: Gaps, codes: Codes, begin
     lost = lost_fields(places, gaps, (codes.fields.first or ())[:answer.fields])
     if begin and begin.fields > 0 and (begin.before, begin.lacks) == (answer.showings[0].first, answer.numbers.least):
         lost = [Lost(begin.after, begin.before, begin.fields, "number", is_about(answer.pace))] + lost
-    if last and last.lacks and last.least:
-        lost = lost + [Lost(last.lacks.after, last.lacks.before, last.least, "number",
-                            last.or_more or is_about(answer.pace))]
-        lost.sort(key=operator.attrgetter("after"))
+    if last and last.lost:
+        lost = sorted([*lost, last.lost], key=operator.attrgetter("after"))
     return answer._replace(missing=missing, left_out=left_out, lost=lost)
 
 

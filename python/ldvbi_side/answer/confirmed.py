@@ -15,7 +15,7 @@ _PILES: Dict[Optional[str], Tuple[Tuple[int, int], ...]] = {
 def with_confirmed(places: Places, nearest_word: Optional[NearestWord]) -> Places:
     """The places, with each due number counted as shown if it is the nearest word of its lines."""
     unit = places.numbers.unit
-    if nearest_word is None or unit.name not in _PILES:
+    if nearest_word is None:
         return places
     confirmed = {(number, field) for number, field in places.due if any(
         says(word, number, unit) for pile in _PILES[unit.name] for word in [nearest_word(field, *pile)] if word)}

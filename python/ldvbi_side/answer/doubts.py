@@ -130,6 +130,6 @@ def _times_aside(times, numbers):
     right = {field: minute_of[field] for field, values in said.items() if minute_of.get(field) in values}
     minutes, conflicts = aside_of(codes, Kind.time, codes.readings(said), right, beside, minute_text)
     # between two pictures a field without a number may belong to either, so that either's minute is right there
-    due = {(field, minute_text((near.number + (field - near.field) // 2 + off) // times.whole))
-           for field in said.keys() - taken.keys() for near in numbers.around(field) if near for off in (-1, 1)}
+    due = {(field, minute_text((near.number + (field - near.field + off) // 2) // times.whole))
+           for field in said.keys() - taken.keys() for near in numbers.around(field) if near for off in (0, 1)}
     return seconds + [one for one in minutes if (one.field, one.number) not in due], conflicts

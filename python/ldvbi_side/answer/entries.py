@@ -264,4 +264,4 @@ class Answer(NamedTuple):
 def frame_of(field: int, begin: int) -> int:
     """The frame of a field, from 1. A frame is a pair of fields, counted from `begin`, the first field that begins one.
     It is 0 for a field before that."""
-    return max((field - begin) // 2 + 1, 0)
+    return (field - begin) // 2 + 1

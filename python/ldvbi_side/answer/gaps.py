@@ -78,11 +78,13 @@ def gaps_of(places: Places, shown: ByField, lead_out: Set[int]) -> Gaps:
                                           for is_open in (False, True))
     found["open"] += [one for one in places.breaks if is_outside(judged, one)]
     more = None
-    if judged.reasons & Reason.is_off and not judged.reasons & _BY_GAPS:
+    is_uneven = judged.on_both and _is_uneven(places)
+    if (judged.reasons & Reason.is_off or is_uneven) and not judged.reasons & _BY_GAPS:
         explained = Between([(one.after, one.before) for one in found["open"]] + list(map(_around, away)))
         off = [one for one in _off_in(places, judged) if not explained.hold(one.after, one.before)]
         found["breaks"] += off
-        more = None if off or _is_explained(places, judged, lead_out) else _more(places.numbers)
+        is_explained = not is_uneven and _is_explained(places, judged, lead_out)
+        more = None if off or is_explained else _more(places.numbers)
     for name in ("breaks", "open"):
         found[name].sort(key=lambda one: one.after)
     return Gaps(judged, more=more, detours=[detour_of(*pair) for pair in pairs], **found)
@@ -172,6 +174,15 @@ def _is_explained(places, judged, lead_out):
     if judged.on_both:
         return all((one.last - one.first) % 2 or lead_out.issuperset((one.last, one.last + 1)) for one in places.stills)
     return not _shifts(judged)
+
+
+def _is_uneven(places):
+    """Whether a field is too few or too many in what the library takes for a still: of the other pictures, which show
+    their number on both fields, not all first fields are odd ones, or even ones."""
+    stills, swapped = {one.number for one in places.stills}, places.numbers.swapped
+    begins = {(one.field - one.variant) % 2 for one in places.numbers.believed
+              if one.number not in stills and one.field not in swapped}
+    return len(begins) > 1 and not places.joins
 
 
 def is_outside(judged: JudgedSide, one: Break) -> bool:

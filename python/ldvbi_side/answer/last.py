@@ -1,28 +1,29 @@
 """How a side ends whose last number is given, as a sleeve has it: what it lacks of the numbers up to that one."""
 
+import math
 import re
-from typing import Any, List, NamedTuple, Optional, Tuple
+from typing import Any, Dict, List, NamedTuple, Optional, Tuple
 
 from ldvbi import Clock, ClockKind
 from ..judge.clock import DROP_FRAME
 from ..judge.paces import MINUTE_FIELDS, Unit
 from ..judge.places import Break
 from .ends import ordinal_of
-from .entries import Answer
+from .entries import Answer, Lost
+from .missing import is_about
 
 EVEN = 1000  # numbers to one that an even clock leaves out
 
 
 class Last(NamedTuple):
-    """The last number of the disc, and the greatest one of the side, as counts. It ends `beyond` the given one if that
-    is so. `lacks` is what the side lacks then: fields that are too few (`lost`), or numbers alone (`held`), or None;
-    `least` is how many fields are lost for sure, and `or_more` says whether there may be more."""
+    """The last number of the disc, as a count, and whether it `is_there`, or the side ends `beyond` it. `lacks` is what
+    the side lacks up to it: fields that are too few, or numbers alone (`held`), or None; `lost` has the fields that are
+    lost for sure."""
     number: int
-    greatest: int
+    is_there: bool
     beyond: bool
     lacks: Optional[Break] = None
-    least: int = 0
-    or_more: bool = False
+    lost: Optional[Lost] = None
 
 
 def last_of(answer: Answer, unit: Unit, clock: Clock) -> Optional[Last]:
@@ -33,7 +34,7 @@ def last_of(answer: Answer, unit: Unit, clock: Clock) -> Optional[Last]:
     first, last = given
     greatest = ordinal_of(answer.numbers.greatest, unit.rate)
     if greatest > last:
-        return Last(last, greatest, True)
+        return Last(last, False, True)
     own = next(one for one in reversed(answer.showings) if one.number == answer.numbers.greatest)
     # up to another number, an end of the disc, or the end of all there may be more of what follows
     ends: List[Any] = [*answer.showings, *answer.lead_in, *answer.lead_out]
@@ -41,22 +42,27 @@ def last_of(answer: Answer, unit: Unit, clock: Clock) -> Optional[Last]:
     # at least how many fields the number has after the last one that shows it
     number, there, rest = max(first, greatest), before - own.last - 1, int(answer.pace in ("video", "film"))
     least, most = (max(fields - there, 0) for fields in _due(number, greatest, rest, answer, clock))
+    lacks = lost = None
     # lead-out may begin with the last picture's other field
-    if number == greatest and (not least or before <= answer.fields):
-        return Last(number, greatest, False)
-    lacks = Break("lost" if least else "held", own.last + min(there, rest), before, greatest, number + 1, most)
-    return Last(number, greatest, False, lacks, least, number > greatest and (least != most or first != last))
+    if number > greatest or least and before > answer.fields:
+        lacks = Break("lost" if least else "held", own.last + min(there, rest), before, greatest, number + 1, most)
+        or_more = least != most or first != last or is_about(answer.pace)
+        lost = Lost(lacks.after, before, least, "number", or_more) if least else None
+    return Last(number, number == greatest, False, lacks, lost)
 
 
 def _counts_of(text: str, unit: Unit) -> Optional[Tuple[int, int]]:
     """The first and the last number, as counts, that a text stands for; None if it is none of this unit."""
-    parts, rate = [int(part) for part in re.split("[:.]", text)], unit.rate
-    if (len(parts) == 1) != (unit.name == "picture") or any(
-            part >= limit for part, limit in zip(parts[1:], (60, 60, rate))):
+    count, *more = map(int, re.split("[:.]", text))
+    if bool(more) == (unit.name == "picture") or any(
+            part >= limit for part, limit in zip(more, (60, 60, unit.rate))):
         return None
-    scales = {"picture": [1], "minute": [60, 1]}.get(str(unit.name), [3600 * rate, 60 * rate, rate, 1])
-    count = sum(part * scale for part, scale in zip(parts, scales))
-    return count, count + scales[min(len(parts), len(scales)) - 1] - 1
+    of_units: Dict[Optional[str], List[int]] = {"picture": [], "minute": [60], "time": [60, 60, unit.rate]}
+    bases = of_units[unit.name]
+    for part, base in zip(more, bases):
+        count = count * base + part
+    size = math.prod(bases[len(more):])
+    return count * size, (count + 1) * size - 1
 
 
 def _due(number: int, greatest: int, rest: int, answer: Answer, clock: Clock) -> Tuple[int, int]:
@@ -65,11 +71,10 @@ def _due(number: int, greatest: int, rest: int, answer: Answer, clock: Clock) ->
     if answer.unit == "minute":
         least, some, _ = MINUTE_FIELDS[answer.system]
         return (count - 1) * least + 1, count * some
-    if clock.kind != ClockKind.plain:
-        count -= len(clock.left_out_in(greatest + 1, number - 1))
+    count -= len(clock.left_out_in(greatest + 1, number - 1))
     fields = rest + (5 * count // 2 if answer.pace == "film" else 2 * count)
-    may_skip = answer.unit == "time" and answer.system == "NTSC" and clock.kind == ClockKind.plain and count > 1
-    if not may_skip:
+    if answer.unit != "time" or answer.system != "NTSC" or clock.kind != ClockKind.plain:
         return fields, fields
-    most = max(len(DROP_FRAME.left_out_in(greatest + 1, number - 1)), 1 + (count - 2) // EVEN)
-    return fields - 2 * most, fields if count - 1 > most else fields - 2 * most
+    left_out = max(len(DROP_FRAME.left_out_in(greatest + 1, number - 1)), 1 + (count - 2) // EVEN)
+    least = fields - 2 * left_out
+    return least, fields if count - 1 > left_out else least

@@ -1,6 +1,5 @@
 """What the lines of a side show if they show no word, and what that says of the levels with which they were read."""
 
-import operator
 from collections import Counter
 from typing import Dict, List, Optional
 
@@ -19,7 +18,7 @@ def bad_lines_of(fields: Fields) -> List[BadLine]:
     size, height = SIZES[fields.system]
     bad = []
     for field, causes in enumerate(fields.causes, 1):
-        for line, cause in () if _GOOD.issuperset(causes) else zip(LINES, causes):
+        for line, cause in zip(LINES, causes):
             if cause not in _GOOD:
                 _, _, column = cause.partition(" ")
                 bad.append(BadLine(field, line, cause, int(column) if column else None,
@@ -44,12 +43,13 @@ def levels_of(rates: Dict[int, Rates], bad: List[BadLine], fields: Fields) -> Op
     """Whether the side was read with wrong levels: None if lines 17 and 18 show enough words, also recovered ones;
     else what they show instead, a line to look at, and what other levels read of some lines, if their samples are at
     hand."""
-    shown = Rates(*map(operator.add, rates[17], rates[18]))
-    words, count = shown.words(), len(fields.words)
-    if not count or FEW * words >= 2 * count:
+    shown = rates[17], rates[18]
+    count, words = len(fields.words), sum(one.words() for one in shown)
+    if FEW * words >= 2 * count:
         return None
     lines = [one for one in bad if one.line != 16]
-    is_blank = shown.bad() <= shown.blank  # else there are lines
+    without, blank = sum(one.bad() for one in shown), sum(one.blank for one in shown)
+    is_blank = without <= blank  # else there are lines
     field, line = (count // 2 + 1, 17) if is_blank else lines[len(lines) // 2][:2]
-    return FewWords("blank" if is_blank else "bad", words, shown.bad(), shown.blank, field, line,
+    return FewWords("blank" if is_blank else "bad", words, without, blank, field, line,
                     fields.try_levels() if fields.try_levels else None)

@@ -27,13 +27,13 @@ def chapters_of(codes: Codes, places: Places, begin: int) -> Tuple[List[Chapter]
     breaks = [field for one in places.breaks for field in (one.after + 1, one.before)]
     breaks += [field for before, after in places.joins for field in (before.field + 1, after.field)]
     # backwards there is one at each end: of a chapter there one picture may be shown
-    breaks += [field for one in places.numbers.speeds if one.line.step < 0
+    breaks += [field for one in places.numbers.speeds if one.line.step != abs(one.line.step)
                for field in (one.first + 1, one.first + 2, one.last, one.last + 2)]
     breaks.sort()
-    found, sure = codes.kinds[Kind.chapter], sure_in(judge_chapters(codes.fields.packed))
-    if breaks:  # at each any chapter may follow, so the breaks up to its field are part of a reading's number
-        sure = {field: ChapterPace.BREAK * bisect.bisect(breaks, field) + chapter for field, chapter in sure.items()}
-    sure = _in_order(sure)
+    found = codes.kinds[Kind.chapter]
+    # at each any chapter may follow, so the breaks up to its field are part of a reading's number
+    sure = _in_order({field: ChapterPace.BREAK * bisect.bisect(breaks, field) + chapter
+                      for field, chapter in sure_in(judge_chapters(codes.fields.packed)).items()})
     inside = _inside(found, sure)
     others = codes.readings({field: values for field, values in found.items() if field not in inside})
     readings = [one._replace(number=ChapterPace.BREAK * bisect.bisect(breaks, one.field) + one.number)
@@ -92,13 +92,13 @@ def ends_of(codes: Codes, kind: Kind, numbers: Numbers) -> Tuple[List[Stretch], 
     found: List[Stretch] = []
     stray: List[int] = []
     for field in sorted(codes.kinds[kind]):
-        first, last, count = found[-1] if found else (field, -APART, 0)
+        last = found[-1].last if found else -APART
         between = bisect.bisect_left(others, field) - bisect.bisect(others, last)
         if field in numbers.taken or numbers.unit.name != "minute" and numbers.fit(numbers.around(field)):
             stray.append(field)
         elif field - last <= APART and between <= FEW and bisect.bisect(numbers.fields, last) == (
                 bisect.bisect(numbers.fields, field)):
-            found[-1] = Stretch(first, field, count + 1)
+            found[-1] = Stretch(found[-1].first, field, found[-1].count_ + 1)
         else:
             found.append(Stretch(field, field, 1))
     single = {one.first for one in found if one.count_ == 1 and numbers.fit(numbers.around(one.first))}
@@ -112,7 +112,7 @@ def stops_of(codes: Codes, places: Places, begin: int) -> Tuple[List[Stop], List
     ahead, each with its picture; those of which it isn't; and the lines of others, as stray ones. `begin` is the first
     field that begins a frame."""
     stops = codes.kinds[Kind.picture_stop]
-    states = judge_stops(codes.fields.packed) if stops else []
+    states = judge_stops(codes.fields.packed)
     believed, worn = ({field for field in stops if states[field - 1] == state}
                       for state in (State.believed, State.doubtful))
     lines = {field: sum(stops[field].values(), ()) for field in sorted(stops)}

@@ -2,10 +2,13 @@
 library's, and what the answer's other members say beyond gaps."""
 
 import bisect
+import itertools
+import operator
 from collections import Counter, defaultdict
 from typing import Iterator, List, Optional, Sequence, Tuple, cast
 
 from ldvbi import JudgedSide, Kind, Reason, State
+from ..judge.paces import RATES
 from ..texts import counted, counted_by, detour_text, lost_fields_text
 from .ends import Begin, end_of, ordinal_of
 from .entries import Answer, Ground
@@ -75,9 +78,9 @@ def _disordered(answer: Answer, judged: Optional[JudgedSide], begin: Optional[Be
     if left:
         which = "the first: " if len(left) > 1 else ""
         yield "detours", "%s (%s%s)" % (counted(len(left), "detour"), which, detour_text(answer, left[0]))
-    speeds = answer.speeds
-    if speeds:
-        where = "fields %d to %d" % speeds[0][:2] if len(speeds) == 1 else "%d stretches" % len(speeds)
+    if answer.speeds:
+        (first, to, _), *others = answer.speeds
+        where = "%d stretches" % len(answer.speeds) if others else "fields %d to %d" % (first, to)
         yield "speed", "played at another speed in " + where
     count = counted_by(answer, "lost")
     if count:
@@ -116,8 +119,8 @@ def _of_another(answer: Answer, gaps: Gaps) -> Found:
     expected = answer.metadata_fields
     if expected is not None and expected > answer.fields:
         yield "metadata", "%s of %d that the metadata has" % (counted(answer.fields, "field"), expected)
-    shown = answer.showings[-1].last if answer.showings else answer.fields
-    if answer.cut_field and not any(one.last > shown for one in answer.lead_out):  # after which no number is
+    is_over = any(not answer.showings or one.last > answer.showings[-1].last for one in answer.lead_out)
+    if answer.cut_field and not is_over:
         yield "cut", "field %d is cut" % answer.cut_field.field
 
 
@@ -127,9 +130,8 @@ def _end_between(answer):
     again = [one.first for one in answer.lead_in if showings and one.first > showings[0].first]
     if again:
         return "lead-in again in field %d (two sides joined)" % again[0]
-    stays = next((one for one, after in zip(showings[::-1], showings[-2::-1] + [None])
-                  if after is None or after.number != one.number), None)
-    early = [one.first for one in answer.lead_out if stays and one.last < stays.last]
+    runs = [list(ones) for _, ones in itertools.groupby(showings, key=operator.attrgetter("number"))]
+    early = [one.first for one in answer.lead_out if runs and one.last < runs[-1][0].last]
     return "lead-out in field %d, and numbers after it (two sides joined)" % early[0] if early else None
 
 
@@ -147,8 +149,8 @@ def _in_gaps(answer: Answer, gaps: Gaps) -> Found:
         what = "%s may be %s after field %d" % (
             counted(one.fields, "field"), "lost" if one.kind == "lost" else "too many", one.after)
         # the clock may have left out numbers without fields, or have kept those for which fields are too many
-        left_out = "no number" if one.kind == "held" else "a number" if one.fields < 4 else "two numbers"
-        why = ("fields are swapped there" if judged and is_outside(judged, one) else
+        left_out = "no number" if one.kind == "held" else "two numbers" if one.fields == 4 else "a number"
+        why = ("fields are swapped there" if is_outside(cast(JudgedSide, judged), one) else
                "the disc's clock left out " + left_out if answer.unit == "time" else
                "the player stood still there" if one.kind == "held" and any(
                    still.first <= one.before and one.after <= still.last for still in answer.stills) else
@@ -167,15 +169,15 @@ def _undecided(answer: Answer, gaps: Gaps) -> Found:
     again = [one.before for one in answer.lost if one.is_again()]
     if again:
         yield "parity", "a field was shown again, or lost, before field %d%s" % (again[0], _and_more(again))
-    judged = gaps.judged
-    if gaps.more is not None and judged:
+    if gaps.more is not None:
+        judged = cast(JudgedSide, gaps.judged)
         where = "fields %d to %d" % (cast(int, judged.first) + 1, cast(int, judged.last) + 1)
+        how = "more" if gaps.more > 0 else "fewer" if gaps.more < 0 else None
         yield "off", "%s are %s %s than their numbers count to" % (
-            where, counted(abs(gaps.more), "field"), "more" if gaps.more > 0 else "fewer"
-            ) if gaps.more else "a field may be lost or too many in " + where
+            where, counted(abs(gaps.more), "field"), how) if how else "a field may be lost or too many in " + where
     opened = Between((one.after, one.before) for one in gaps.open)
     count = sum(one.count_ for one in answer.missing
-                if one.why == "undecided" and not opened.hold(one.after, one.before))
+                if one.why == "undecided" and not opened.meet(one.after, one.before))
     if count:
         yield "undecided", "%s undecided" % counted(count, answer.unit)
 
@@ -186,7 +188,7 @@ def _empty(answer: Answer, begin: Optional[Begin], unseen: Sequence[Tuple[int, i
     these. After the disc's last number there are none."""
     if unseen:
         yield "unseen", "no number in fields %d to %d%s" % (*unseen[0], _and_more(unseen))
-    end = None if last and last.number == last.greatest else end_of(answer)
+    end = None if last and last.is_there else end_of(answer)
     for first, to in filter(None, (begin and begin.unread, end)):
         yield "ends", ("no number in fields %d to %d" % (first, to) if first <= to else
                        "numbers before field %d may be lost, or the disc's clock left them out" % first)
@@ -223,7 +225,7 @@ def _unsure(answer: Answer, judged: Optional[JudgedSide], is_ended: bool) -> Fou
             not any(one.last > answer.showings[-1].last for one in answer.lead_out + answer.lead_in)):
         yield "lead-out", "no lead-out: the disc may go on after %s %s" % (answer.unit, answer.showings[-1].number)
     if answer.unit == "minute":
-        minutes = [ordinal_of(number, 1) for number, _, _ in answer.showings]
+        minutes = [ordinal_of(number, RATES[answer.system]) for number, _, _ in answer.showings]
         if not any(after - one == one - before == 1 for before, one, after in zip(minutes, minutes[1:], minutes[2:])):
             yield "minutes", "no minute is between two others"
     pairs = _out_of_order(answer) if answer.pace == "film" else ()
@@ -261,6 +263,6 @@ def _out_of_order(answer):
     rows = defaultdict(list)
     for number, field, _ in answer.showings:
         rows[bisect.bisect(begins, field), number % 2].append((field, 2 * field - 5 * number))
-    return {field - (here > before) for row in rows.values()
+    return {field - (here == before + 2) for row in rows.values()
             for (_, before), (field, here), (_, after) in zip(row, row[1:], row[2:])
             if before == after and abs(here - before) == 2} - known
