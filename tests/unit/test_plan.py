@@ -12,6 +12,7 @@ from compact import cells_of, made, rows, table_in
 from discs import LEAD_IN, LEAD_OUT, pictures, plain, side
 from ldvbi_side.answer.analysis import analyse
 from ldvbi_side.join.captures import capture_of
+from ldvbi_side.join.entries import UNSURE
 from ldvbi_side.side import side_of_document
 from ldvbi_side.write.again import differences
 from ldvbi_side.write.checked import refuse_wrong
@@ -20,7 +21,7 @@ from ldvbi_side.write.kept import fields_of
 from ldvbi_side.write.plan import Plan, plan, Wanted
 from ldvbi_side.write.said import outcome_of, rows_of, seam_lines, written_lines
 from ldvbi_side.write.sources import Facts, PHASES, Source
-from ldvbi_side.write.stretches import Seam, seams_of, Stretch, UNSURE
+from ldvbi_side.write.stretches import Seam, seams_of, Stretch
 import pytest
 from room import reason
 from simulate import captures
