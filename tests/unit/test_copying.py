@@ -7,7 +7,7 @@ import ldvbi
 from ldvbi_side.write import copying
 from ldvbi_side.write.stretches import Stretch
 import pytest
-from room import in_database
+from room import in_database, reason
 from streams import worn_line
 
 
@@ -71,3 +71,29 @@ def test_without_the_systems_own_copy_and_of_a_text_beyond_ascii(room, monkeypat
     assert room.run_words(words)[0] == 0
     assert places_in(room.named("out.tbc"), VIDEO) == inside(VIDEO)
     assert all(one["\u00fc"] == "\u20ac" for one in entries_of(room.named("out.tbc")))
+    # which ends when a file was made shorter meanwhile
+    room.write("short", "123")
+    with open(room.named("short"), "rb") as old, open(room.named("new"), "wb") as new:
+        assert reason(copying.copy_bytes, old, new, 1, 3) == old.name + " was made shorter meanwhile"
+
+
+def test_what_a_database_has_besides(room):
+    """Rows of a field come from the capture from which it is taken, in whatever table, with the number of the first
+    one's capture, and numbered on from its first field; all else is the first one's, which may lack columns."""
+    words = drawn(room, "each lacks others", "db")
+    for letter, first, number in (("a", 5, 3), ("b", 100, 2)):
+        in_database(
+            room.named(letter + ".tbc.db"), *("UPDATE %s SET field_id = field_id + %d, capture_id = %d" % (
+                table, first, number) for table in ("field_record", "vbi", "drop_outs")),
+            "UPDATE capture SET capture_id = %d" % number, "ALTER TABLE capture DROP COLUMN is_mapped",
+            "CREATE TABLE other (id INTEGER PRIMARY KEY AUTOINCREMENT, text)",
+            "INSERT INTO other (text) VALUES ('%s')" % letter, "CREATE TABLE notes (text, field_id, capture_id)",
+            "INSERT INTO notes SELECT '%s' || (field_id - %d), field_id, capture_id FROM vbi" % (letter, first - 1))
+    assert room.run_words(words)[0] == 0
+    rows = [row.split(",") for row in room.text("out.stretches.csv").split("\n")[1:-1]]
+    taken = [row[5][0] + str(int(row[6]) + step) for row in rows for step in range(int(row[1]))]
+    found = in_database(room.named("out.tbc.db"), "SELECT * FROM notes ORDER BY field_id",
+                        "SELECT text FROM other", "SELECT * FROM capture")
+    assert {one[0] for one in taken} == {"a", "b"}
+    assert found[:2] == [[(text, field, 3) for field, text in enumerate(taken, 5)], [("a",)]]
+    assert found[2] == [(3, "NTSC", 16384, 51200, 48, "dr\u00e4wn")]

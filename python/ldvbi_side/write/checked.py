@@ -81,7 +81,7 @@ class _Shown:
 
     def of(self, one: Stretch) -> Iterator[Tuple[int, int]]:
         """Each number that the fields of a stretch show, and that field of the output."""
-        if one.source is not None and one.first is not None:
+        if one.source is not None:
             for step, field in enumerate(one.taken()):
                 number = self.places[one.source].get(field)
                 if number is not None:

@@ -18,7 +18,7 @@ _OF_CAPTURE = "(SELECT capture_id FROM main.capture)"
 # The columns of a row of padding, and what stands there
 _PADDING = {"field_id": "out", "capture_id": _OF_CAPTURE, "is_first_field": "is_first", "field_phase_id": "phase",
             "pad": "1", "audio_samples": "audio", "efm_t_values": "efm", "sync_conf": "0", "median_burst_ire": "0",
-            "decode_faults": "0", "vbi0": "0", "vbi1": "0", "vbi2": "0"}
+            "decode_faults": "0"}
 
 
 def refuse_other_form(path: str) -> None:
@@ -122,10 +122,10 @@ def _copy_rows(new: sqlite3.Connection, tables: Dict[str, List[str]], place: int
 
 def _finish(new: sqlite3.Connection, tables: Dict[str, List[str]], fields: int) -> None:
     """Adds the rows of padding, and sets the words and the count of fields."""
-    for name in {str(table_of_fields(new)), "vbi"}:
-        columns = [column for column in tables[name] if column in _PADDING]
-        new.execute("INSERT INTO main.%s (%s) SELECT %s FROM temp.kept WHERE source IS NULL" % (
-            quoted(name), ", ".join(map(quoted, columns)), ", ".join(_PADDING[column] for column in columns)))
+    table = str(table_of_fields(new))
+    columns = [column for column in tables[table] if column in _PADDING]
+    new.execute("INSERT INTO main.%s (%s) SELECT %s FROM temp.kept WHERE source IS NULL" % (
+        quoted(table), ", ".join(map(quoted, columns)), ", ".join(_PADDING[column] for column in columns)))
     of_capture = "capture_id, " * ("capture_id" in tables["vbi"])
     new.execute("INSERT INTO main.vbi (%sfield_id, vbi0, vbi1, vbi2) SELECT %sout, 0, 0, 0 FROM temp.kept "
                 "WHERE out NOT IN (SELECT field_id FROM main.vbi)" % (
