@@ -1,6 +1,7 @@
 """What `write` copies of captures, and how: words that were recovered, older padding, and files in parts."""
 
 import os
+import sqlite3
 
 from captured import draw, drawn, entries_of, inside, places_in, SETUPS, VIDEO
 import ldvbi
@@ -12,8 +13,8 @@ from streams import worn_line
 
 
 def test_a_line_that_was_recovered(room):
-    """Its word is written if it's asked for. In a database a field may have no row of words yet, and fields no column
-    for the colour."""
+    """Its word is written if it's asked for. In a database a field may have no row of words yet, fields no column for
+    the colour, and dropouts no table."""
     for form in ("json", "db"):
         path = room.named("a-%s.tbc" % form)
         draw(path, VIDEO, VIDEO.order, form=form)
@@ -28,7 +29,7 @@ def test_a_line_that_was_recovered(room):
             entries = entries_of(room.named("out-%s.tbc" % form))
             assert [one["vbi"]["vbiData"] for one in entries] == [
                 [0, wanted, word] if place == field else VIDEO.words[place] for place in inside(VIDEO)]
-    in_database(path + ".db", "ALTER TABLE field_record DROP COLUMN field_phase_id")
+    in_database(path + ".db", "ALTER TABLE field_record DROP COLUMN field_phase_id", "DROP TABLE drop_outs")
     assert room.run_words("write out.tbc a-db.tbc --plan")[0] == 0
 
 
@@ -77,10 +78,11 @@ def test_without_the_systems_own_copy_and_of_a_text_beyond_ascii(room, monkeypat
         assert reason(copying.copy_bytes, old, new, 1, 3) == old.name + " was made shorter meanwhile"
 
 
-def test_what_a_database_has_besides(room):
+def test_what_a_database_has_besides(room, monkeypatch):
     """Rows of a field come from the capture from which it is taken, in whatever table, with the number of the first
-    one's capture, and numbered on from its first field; all else is the first one's, which may lack columns."""
-    words = drawn(room, "each lacks others", "db")
+    one's capture, and numbered on from its first field; all else is the first one's, which may lack columns. Not every
+    SQLite heeds an address unless it is told to."""
+    words, heeds, connect = drawn(room, "each lacks others", "db"), set(), sqlite3.connect
     for letter, first, number in (("a", 5, 3), ("b", 100, 2)):
         in_database(
             room.named(letter + ".tbc.db"), *("UPDATE %s SET field_id = field_id + %d, capture_id = %d" % (
@@ -89,7 +91,10 @@ def test_what_a_database_has_besides(room):
             "CREATE TABLE other (id INTEGER PRIMARY KEY AUTOINCREMENT, text)",
             "INSERT INTO other (text) VALUES ('%s')" % letter, "CREATE TABLE notes (text, field_id, capture_id)",
             "INSERT INTO notes SELECT '%s' || (field_id - %d), field_id, capture_id FROM vbi" % (letter, first - 1))
-    assert room.run_words(words)[0] == 0
+    with monkeypatch.context() as patched:
+        patched.setattr(sqlite3, "connect", lambda *given, **more: heeds.add(more["uri"]) or connect(*given, **more))
+        assert room.run_words(words)[0] == 0
+    assert heeds == {True}
     rows = [row.split(",") for row in room.text("out.stretches.csv").split("\n")[1:-1]]
     taken = [row[5][0] + str(int(row[6]) + step) for row in rows for step in range(int(row[1]))]
     found = in_database(room.named("out.tbc.db"), "SELECT * FROM notes ORDER BY field_id",

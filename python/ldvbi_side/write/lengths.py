@@ -25,7 +25,7 @@ class Lengths:
             for one, other in zip(part, part[1:]):
                 fields = other.field - one.field
                 if other.rank == one.rank + 1 and capture.going.takes_turns(one.field, fields + 1):
-                    self._known[one.rank] = max(self._known.get(one.rank, 2), fields)
+                    self._known[one.rank] = max(self._known.get(one.rank, fields), fields)
 
     def of(self, rank: int, step: int = -1) -> int:
         """The fields of a number; if no capture shows it, by the cadence before it, or after it (step 1)."""
@@ -51,11 +51,9 @@ class Lengths:
         variants = [self._variant(first, -1), self._variant(end - 1, 1)]
         guesses = [Pace("film").between(first, count, one, one) for one in variants if one is not None]
         guesses = guesses or [5 * count // 2]
-        for off in range(count + 2):
-            for one in [guess + sign * off for guess in guesses for sign in (1, -1)]:
-                if 2 * count <= one <= 3 * count and fits(one):
-                    return one
-        return guesses[0]
+        near = sorted(range(2 * count, 3 * count + 1), key=lambda one: min(
+            (abs(one - guess), place, -one) for place, guess in enumerate(guesses)))
+        return next(filter(fits, near), guesses[0])
 
     def _variant(self, rank: int, step: int) -> Optional[int]:
         """Which pictures have three fields, by the known ones before a rank (step -1) or after it (1): those with an

@@ -1,9 +1,9 @@
 """The output as it grows: fields of captures, and padding between them."""
 
-from typing import Iterator, List, Optional, Sequence
+from typing import List, Optional, Sequence
 
 from .sources import PHASES, Source, straightened
-from .stretches import PADDING, PARITY, PHASE, Stretch
+from .stretches import PADDING, Stretch
 
 
 class Layout:
@@ -17,22 +17,18 @@ class Layout:
         self.out = 1
 
     def fits(self, source: int, field: int, fields: int) -> bool:
-        """Whether a field of a capture can follow what is there, after so many fields of padding."""
-        return not any(self._seams(source, field, self.out + fields))
-
-    def _seams(self, source: int, field: int, out: int) -> Iterator[str]:
-        """The kinds of seams that there were if the field stood there."""
+        """Whether a field of a capture can follow what is there, after so many fields of padding: by its frame and its
+        colour."""
         last = next((one for one in reversed(self.stretches) if one.source is not None), None)
         if last is None:
-            return
+            return True
         assert last.source is not None and last.field is not None
         ones, others = self._sources[source].facts, self._sources[last.source].facts
-        other, apart = last.field + last.fields - 1, out - last.outs()[-1]
+        other, apart = last.field + last.fields - 1, self.out + fields - last.outs()[-1]
         if ones.first and others.first and (ones.first[field - 1] == others.first[other - 1]) != (apart % 2 == 0):
-            yield PARITY
-        if ones.phase and others.phase and ones.phase[field - 1] and others.phase[other - 1] and (
-                ones.phase[field - 1] - others.phase[other - 1] - apart) % self._phases:
-            yield PHASE
+            return False
+        return not (ones.phase and others.phase and ones.phase[field - 1] and others.phase[other - 1] and (
+            ones.phase[field - 1] - others.phase[other - 1] - apart) % self._phases)
 
     def pad(self, fields: int, first: Optional[int], last: Optional[int]) -> None:
         """Adds padding in the place of these numbers."""

@@ -43,7 +43,7 @@ def write_rows(path: str, made: Plan, sources: Sequence[Source], inputs: Sequenc
                sizes: Mapping[str, Sequence[int]]) -> None:
     """Writes the whole database. `sizes` are the bytes of sound that each field of the output has."""
     try:
-        with contextlib.closing(sqlite3.connect(path, uri=False, isolation_level=None)) as new:
+        with contextlib.closing(sqlite3.connect(path, uri=True, isolation_level=None)) as new:
             limit_steps(new)
             new.execute("PRAGMA synchronous = OFF")  # the file is synced as a whole at the end
             new.execute("PRAGMA temp_store = MEMORY")
