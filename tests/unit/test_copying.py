@@ -44,9 +44,7 @@ OLDER = (  # what is taken before and after two fields of padding, which of its 
 @pytest.mark.parametrize("before, after, pads, wanted", OLDER)
 def test_padding_that_is_padding_already(before, after, pads, wanted):
     parts = [one and Stretch(1, one[1], 1, 1, 0 if one[0] else None, one[0], "whole") for one in (before, after)]
-    found = [one for one in (parts[0], Stretch(1, 2, 1, 1, None, None, "padding"), parts[1]) if one]
-    pad = pads and [one == "p" for one in pads]
-    assert copying._older(found, int(before is not None), [pad]) == wanted
+    assert copying._older(parts[0], 2, parts[1], [pads and [one == "p" for one in pads]]) == wanted
 
 
 def test_the_system_copies_a_part_at_once(room, monkeypatch):
@@ -98,7 +96,7 @@ def test_what_a_database_has_besides(room, monkeypatch):
     rows = [row.split(",") for row in room.text("out.stretches.csv").split("\n")[1:-1]]
     taken = [row[5][0] + str(int(row[6]) + step) for row in rows for step in range(int(row[1]))]
     found = in_database(room.named("out.tbc.db"), "SELECT * FROM notes ORDER BY field_id",
-                        "SELECT text FROM other", "SELECT * FROM capture")
+                        "SELECT text FROM other", "SELECT * FROM sqlite_sequence", "SELECT * FROM capture")
     assert {one[0] for one in taken} == {"a", "b"}
-    assert found[:2] == [[(text, field, 3) for field, text in enumerate(taken, 5)], [("a",)]]
-    assert found[2] == [(3, "NTSC", 16384, 51200, 48, "dr\u00e4wn")]
+    assert found == [[(text, field, 3) for field, text in enumerate(taken, 5)], [("a",)], [("other", 1)],
+                     [(3, "NTSC", 16384, 51200, 48, "dr\u00e4wn")]]

@@ -263,6 +263,8 @@ WRONG = """
     11 to 12 are padding, and a capture has one of them | LACKS ; 5..20 | 1+20 1-10 a1, 21+4 11-12 x, 25+56 13-40 a21
     11 to 12 are padding, and a capture has one of them | LACKS ; 1..3 6..11 ; 1..4 7..11
         | 1+20 1-10 a1, 21+4 11-12 x, 25+56 13-40 a21
+    11 to 12 are padding, and a capture has one of them | LACKS ; 5..20 ; 1..4 151..170 25..40
+        | 1+20 1-10 a1, 21+4 11-12 x, 25+56 13-40 a21
 """
 
 

@@ -81,11 +81,11 @@ class _Shown:
 
     def of(self, one: Stretch) -> Iterator[Tuple[int, int]]:
         """Each number that the fields of a stretch show, and that field of the output."""
-        if one.source is not None:
-            for step, field in enumerate(one.taken()):
-                number = self.places[one.source].get(field)
-                if number is not None:
-                    yield number, one.out + step
+        for out, field in zip(one.outs(), one.taken()):
+            assert one.source is not None  # padding has no fields of a capture
+            number = self.places[one.source].get(field)
+            if number is not None:
+                yield number, out
 
 
 class _Begun(NamedTuple):
@@ -116,7 +116,7 @@ def _stretches(made: Plan, shown: _Shown, begun: _Begun) -> List[ldvbi.Stretch]:
             rank, before = max(rank, begins), one
         elif before is not None:
             rank = begun.end
-        found.append(ldvbi.Stretch(one.source, (one.field or 1) - 1, one.fields, rank))
+        found.append(ldvbi.Stretch(one.source, one.taken().start - 1, one.fields, rank))  # no matter which of padding
     return found
 
 
@@ -139,9 +139,9 @@ def _text_of(found: Fault, made: Plan, shown: _Shown) -> str:
     one, text = made.stretches[found.stretch], made.count_unit().text_of
     name = "" if one.source is None else shown.sources[one.source].capture.name
     if found.rule == Rule.not_there:
-        return "%s has no field %d" % (name, (one.field or 0) + one.fields - 1)
+        return "%s has no field %d" % (name, one.taken()[-1])
     if found.rule == Rule.twice:
-        return "field %d of %s is taken twice" % (one.field or 0, name)
+        return "field %d of %s is taken twice" % (one.taken().start, name)
     if found.rule == Rule.misplaced:
         return _misplaced(one, made, shown) or "a number of fields %d to %d is out of its place" % (
             one.out, one.outs()[-1])

@@ -56,9 +56,9 @@ def copy_sound(new: IO[bytes], made: Plan, inputs: Sequence[Input], pads: Sequen
     silent, sizes = _silence(inputs[0].sizes[end], end), array.array("I")
     with contextlib.ExitStack() as stack:
         files = [stack.enter_context(open(base_of(one.path) + end, "rb")) for one in inputs]
-        for place, one in enumerate(made.stretches):
+        for before, one, after in zip([None, *made.stretches], made.stretches, [*made.stretches[1:], None]):
             if one.source is None:
-                older = _older(made.stretches, place, pads)
+                older = _older(before, one.fields, after, pads)
                 more = inputs[older[0]].sizes[end][older[1]:older[1] + one.fields] if older else array.array(
                     "I", map(silent, one.outs()))
                 sizes.extend(more)
@@ -72,19 +72,17 @@ def copy_sound(new: IO[bytes], made: Plan, inputs: Sequence[Input], pads: Sequen
     return sizes
 
 
-def _older(stretches: Sequence[Stretch], place: int, pads: Sequence[Pad]) -> Optional[Tuple[int, int]]:
-    """The capture and the first field there, from 0, of padding that is padding there already, beside a field of the
-    stretch before or after it; None if it is new."""
-    count = stretches[place].fields
-    neighbours = [(one, True) for one in stretches[place - 1:place]]
-    neighbours += [(one, False) for one in stretches[place + 1:place + 2]]
-    for one, is_before in neighbours:
-        if one.source is not None:
-            assert one.field is not None
-            begin = one.field - 1 + one.fields if is_before else one.field - 1 - count
-            pad = pads[one.source]
-            if pad and begin >= 0 and all(pad[begin:begin + count]) and len(pad) >= begin + count:
-                return one.source, begin
+def _older(before: Optional[Stretch], fields: int, after: Optional[Stretch], pads: Sequence[Pad]
+           ) -> Optional[Tuple[int, int]]:
+    """The capture and the first field there, from 0, of so many fields of padding that are padding there already, beside
+    a field of the stretch before or after them; None if they are new."""
+    begins = [(before.source, before.taken().stop - 1)] if before else []
+    begins += [(after.source, after.taken().start - 1 - fields)] if after else []
+    for source, begin in begins:
+        pad = None if source is None else pads[source]
+        if source is not None and pad and begin >= 0 and len(pad) >= begin + fields and all(
+                pad[begin:begin + fields]):
+            return source, begin
     return None
 
 

@@ -32,10 +32,9 @@ def refuse_other_form(path: str) -> None:
         table = table_of_fields(database)
         if table is None:
             raise ValueError("no table, or more than one, has the fields")
-        count, first, last = database.execute("SELECT count(*), min(field_id), max(field_id) FROM %s" % quoted(
-            table)).fetchone()
-        if count != database.execute("SELECT count(DISTINCT field_id) FROM %s" % quoted(table)).fetchone()[0] or (
-                not count or last - first != count - 1):
+        count, different, first, last = database.execute(
+            "SELECT count(*), count(DISTINCT field_id), min(field_id), max(field_id) FROM %s" % quoted(table)).fetchone()
+        if not count or not count == different == last - first + 1:
             raise ValueError("the fields' numbers, field_id, leave some out, or have one twice")
 
 
@@ -67,9 +66,8 @@ def write_rows(path: str, made: Plan, sources: Sequence[Source], inputs: Sequenc
 def _base_of(path: str) -> int:
     """The number of a database's first field."""
     with opened(path) as database:
-        base: int = database.execute("SELECT min(field_id) FROM %s" % quoted(str(table_of_fields(database)))
-                                     ).fetchone()[0]
-    return base
+        base, = database.execute("SELECT min(field_id) FROM %s" % quoted(str(table_of_fields(database)))).fetchone()
+    return int(base)
 
 
 def _kept_rows(made: Plan, sources: Sequence[Source], inputs: Sequence[Input], sizes: Mapping[str, Sequence[int]],
