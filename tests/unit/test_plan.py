@@ -258,8 +258,8 @@ WRONG = """
     field 21 is planned as field 21 | LACKS | 1+20 1-10 a1, 21+0 11-12 x, 25+56 13-40 a21
     it has 78 fields | LACKS | 1+20 1-10 a1, 21+4 11-12 x, 25+54 13-40 a21
     a has no field 77 | LACKS | 1+20 1-10 a1, 21+4 11-12 x, 25+56 13-40 a22
-    fields 21 to 21 stand for more numbers than they have fields | LACKS
-        | 1+20 1-10 a1, 21+1 11-12 x, 22+59 13-40 a18
+    fields 21 to 22 stand for more numbers than they have fields | lost=21..26 1..40
+        | 1+20 1-10 a1, 21+2 11-13 x, 23+58 14-40 a17
     11 to 12 are padding, and a capture has one of them | LACKS ; 5..20 | 1+20 1-10 a1, 21+4 11-12 x, 25+56 13-40 a21
     11 to 12 are padding, and a capture has one of them | LACKS ; 1..3 6..11 ; 1..4 7..11
         | 1+20 1-10 a1, 21+4 11-12 x, 25+56 13-40 a21

@@ -144,8 +144,9 @@ def test_a_picture_is_taken_where_it_has_fewer_dropouts(room, form):
         assert [row.split(",")[3:6] for row in room.text("out.stretches.csv").split("\n")[1:-1]] == wanted
 
 
-def test_dropouts_and_phases_that_are_known():
-    """Dropouts of another form count for none; they aren't known if no field has any. A phase is 1 to 8, else 0."""
+def test_dropouts_and_phases_that_are_known(room):
+    """Dropouts of another form count for none; they aren't known if no field has any. A phase is 1 to 8, else 0. In a
+    database a field may have several rows of dropouts, or none."""
     def facts(*fields):
         found = told.Told(False)
         for field in fields:
@@ -159,6 +160,12 @@ def test_dropouts_and_phases_that_are_known():
     assert (list(some.damage), some.phase) == ([5, 0, 0, 3, 0], None)
     assert facts({"dropOuts": []}, {}).damage is None and list(facts(dropouts()).damage) == [0]
     assert list(facts(*({"fieldPhaseID": one} for one in (1, 8, 9, 0, -1, True, 2.0, None))).phase) == [1, 8] + 6 * [0]
+    draw(room.named("a.tbc"), VIDEO, VIDEO.order[:5], form="db", worse=[2])
+    in_database(room.named("a.tbc.db"), "DELETE FROM drop_outs WHERE field_id = 3",
+                "INSERT INTO drop_outs VALUES (1, 2, 40, 7, 9)")
+    found = told.Told(False)
+    found.add_rows(room.named("a.tbc.db"))
+    assert list(found.facts(Metadata("", None, None, None, [])).damage) == [2, 2, 103, 0, 2]
 
 
 def test_numbers_set_aside_are_no_words(room):

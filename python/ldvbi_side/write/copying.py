@@ -41,8 +41,7 @@ def copy_bytes(old: IO[bytes], new: IO[bytes], begin: int, size: int) -> None:
         try:
             count = os.copy_file_range(old.fileno(), new.fileno(), size, begin)
         except OSError:  # between two file systems, say
-            data = os.pread(old.fileno(), min(size, READ), begin)
-            count = os.write(new.fileno(), data) if data else 0
+            count = os.write(new.fileno(), os.pread(old.fileno(), min(size, READ), begin))
         if not count:
             raise ValueError("%s was made shorter meanwhile" % old.name)
         begin, size = begin + count, size - count

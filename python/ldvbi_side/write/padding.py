@@ -35,19 +35,19 @@ class Layout:
         if fields > 0:
             self._add(Stretch(self.out, fields, first, last, None, None, PADDING))
 
-    def take(self, source: int, field: int, fields: int, first: Optional[int], last: Optional[int], how: str) -> None:
-        """Adds fields of a capture, those of a swapped pair in their right order."""
+    def take(self, source: int, field: int, fields: int, number: Optional[int], how: str) -> None:
+        """Adds fields of a capture that have this number, those of a swapped pair in their right order."""
         pairs = self._pairs[source]
         if not pairs:
-            self._take(source, field, fields, first, last, how)
+            self._take(source, field, fields, number, how)
             return
         for one in range(field, field + fields):  # those that go on become one stretch
-            self._take(source, pairs.get(one, one), 1, first, last, how)
+            self._take(source, pairs.get(one, one), 1, number, how)
 
-    def _take(self, source, field, fields, first, last, how):
+    def _take(self, source, field, fields, number, how):
         if self._is_film and self.stretches and self.stretches[-1].source is None:
             self._fit_padding(source, field)
-        self._add(Stretch(self.out, fields, first, last, source, field, how))
+        self._add(Stretch(self.out, fields, number, number, source, field, how))
 
     def _fit_padding(self, source, field):
         """Makes the padding before a field a field or two longer or shorter, if only so the two go on as on the disc:

@@ -197,7 +197,7 @@ class _Making:
         layout.pad(block.lead, first, first)
         how = WHOLE if block.is_sure else UNSURE
         for rank, begin, end in self._parts(block):
-            layout.take(source, begin, end - begin, number(rank), number(rank), how)
+            layout.take(source, begin, end - begin, number(rank), how)
         for step in range(block.ranks if not self._known.lengths.is_film else 1):
             self._first_field[block.rank + step] = layout.out - block.fields - block.lead + 2 * step
         layout.pad(block.trail, last, last)
@@ -277,7 +277,7 @@ class _Making:
         stretches = self._sources[source].answer.lead_in
         count = next((field - one.first for one in stretches if one.last == field - 1), 0) // 2 * 2
         if count:
-            self._layout.take(source, field - count, count, None, None, WHOLE)
+            self._layout.take(source, field - count, count, None, WHOLE)
 
     def _take_lead_out(self, node: Node) -> None:
         assert node.run is not None
@@ -285,4 +285,4 @@ class _Making:
         end = run.blocks[-1].field + run.blocks[-1].fields
         for one in self._sources[run.source].answer.lead_out:
             if one.first == end:
-                self._layout.take(run.source, end, one.last - end + 1, None, None, WHOLE)
+                self._layout.take(run.source, end, one.last - end + 1, None, WHOLE)
