@@ -60,16 +60,16 @@ def test_the_system_copies_a_part_at_once(room, monkeypatch):
 
 
 def test_without_the_systems_own_copy_and_of_a_text_beyond_ascii(room, monkeypatch):
-    """Letters of more than a byte stand before the fields, and in them."""
+    """Letters of more than a byte stand before the fields, and in them, where there is an escape, too."""
     words = drawn(room, "whole")
-    room.write("a.tbc.json", room.text("a.tbc.json").replace('"diskLoc"', '"\u00fc":"\u20ac","diskLoc"'))
+    room.write("a.tbc.json", room.text("a.tbc.json").replace('"diskLoc"', '"\u00fc":"\u20ac\\n","diskLoc"'))
 
     def none(*_):
         raise OSError("not here")
     monkeypatch.setattr(os, "copy_file_range", none)
     assert room.run_words(words)[0] == 0
     assert places_in(room.named("out.tbc"), VIDEO) == inside(VIDEO)
-    assert all(one["\u00fc"] == "\u20ac" for one in entries_of(room.named("out.tbc")))
+    assert all(one["\u00fc"] == "\u20ac\n" for one in entries_of(room.named("out.tbc")))
     # which ends when a file was made shorter meanwhile
     room.write("short", "123")
     with open(room.named("short"), "rb") as old, open(room.named("new"), "wb") as new:
@@ -88,7 +88,9 @@ def test_what_a_database_has_besides(room, monkeypatch):
             "UPDATE capture SET capture_id = %d" % number, "ALTER TABLE capture DROP COLUMN is_mapped",
             "CREATE TABLE other (id INTEGER PRIMARY KEY AUTOINCREMENT, text)",
             "INSERT INTO other (text) VALUES ('%s')" % letter, "CREATE TABLE notes (text, field_id, capture_id)",
-            "INSERT INTO notes SELECT '%s' || (field_id - %d), field_id, capture_id FROM vbi" % (letter, first - 1))
+            "INSERT INTO notes SELECT '%s' || (field_id - %d), field_id, capture_id FROM vbi" % (letter, first - 1),
+            "CREATE TABLE words AS SELECT field_id, vbi0, vbi1, vbi2 FROM vbi WHERE vbi1 <> 0", "DROP TABLE vbi",
+            "ALTER TABLE words RENAME TO vbi")
     with monkeypatch.context() as patched:
         patched.setattr(sqlite3, "connect", lambda *given, **more: heeds.add(more["uri"]) or connect(*given, **more))
         assert room.run_words(words)[0] == 0
@@ -96,7 +98,9 @@ def test_what_a_database_has_besides(room, monkeypatch):
     rows = [row.split(",") for row in room.text("out.stretches.csv").split("\n")[1:-1]]
     taken = [row[5][0] + str(int(row[6]) + step) for row in rows for step in range(int(row[1]))]
     found = in_database(room.named("out.tbc.db"), "SELECT * FROM notes ORDER BY field_id",
-                        "SELECT text FROM other", "SELECT * FROM sqlite_sequence", "SELECT * FROM capture")
+                        "SELECT text FROM other", "SELECT * FROM sqlite_sequence", "SELECT * FROM capture",
+                        "SELECT * FROM vbi ORDER BY field_id")
     assert {one[0] for one in taken} == {"a", "b"}
     assert found == [[(text, field, 3) for field, text in enumerate(taken, 5)], [("a",)], [("other", 1)],
-                     [(3, "NTSC", 16384, 51200, 48, "dr\u00e4wn")]]
+                     [(3, "NTSC", 16384, 51200, 48, "dr\u00e4wn")],
+                     [(field, *VIDEO.words[place]) for field, place in enumerate(inside(VIDEO), 5)]]

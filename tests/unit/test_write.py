@@ -125,6 +125,15 @@ def test_two_worn_captures_make_one_whole_side(room):
         [row[3], row[4], row[5], row[6], row[7]] for row in rows if row[3]]
 
 
+def test_padding_has_what_the_first_field_has(room):
+    words = drawn(room, "pictures lost")
+    document = json.loads(room.text("a.tbc.json"))
+    del document["fields"][0]["decodeFaults"]
+    room.write("a.tbc.json", json.dumps(document))
+    assert room.run_words(words)[0] == 1
+    assert [one["seqNo"] for one in entries_of(room.named("out.tbc")) if "decodeFaults" not in one] == [*range(17, 23)]
+
+
 def test_sound_that_one_lacks_is_left_out(room):
     words = drawn(room, "each lacks others")
     os.unlink(room.named("b.pcm"))
@@ -161,8 +170,9 @@ def test_dropouts_and_phases_that_are_known(room):
     assert facts({"dropOuts": []}, {}).damage is None and list(facts(dropouts()).damage) == [0]
     assert list(facts(*({"fieldPhaseID": one} for one in (1, 8, 9, 0, -1, True, 2.0, None))).phase) == [1, 8] + 6 * [0]
     draw(room.named("a.tbc"), VIDEO, VIDEO.order[:5], form="db", worse=[2])
-    in_database(room.named("a.tbc.db"), "DELETE FROM drop_outs WHERE field_id = 3",
-                "INSERT INTO drop_outs VALUES (1, 2, 40, 7, 9)")
+    in_database(room.named("a.tbc.db"), "CREATE TABLE ones AS SELECT field_id, startx, endx FROM drop_outs",
+                "DROP TABLE drop_outs", "ALTER TABLE ones RENAME TO drop_outs",
+                "DELETE FROM drop_outs WHERE field_id = 3", "INSERT INTO drop_outs VALUES (2, 7, 9)")
     found = told.Told(False)
     found.add_rows(room.named("a.tbc.db"))
     assert list(found.facts(Metadata("", None, None, None, [])).damage) == [2, 2, 103, 0, 2]
@@ -301,6 +311,7 @@ def test_refused_databases_and_words(room):
              "the fields' numbers, field_id, leave some out, or have one twice"),
             (["UPDATE field_record SET field_id = 4, capture_id = 2 WHERE field_id = 99"],
              "the fields' numbers, field_id, leave some out, or have one twice"),
+            (["DELETE FROM field_record"], "the fields' numbers, field_id, leave some out, or have one twice"),
             (["ALTER TABLE field_record RENAME COLUMN is_first_field TO other"],
              "no table, or more than one, has the fields"),
             (["ALTER TABLE vbi RENAME COLUMN vbi0 TO other"], "no table vbi with field_id, vbi0, vbi1 and vbi2")):
@@ -366,8 +377,7 @@ def test_a_failing_disk(room, monkeypatch):
     words = drawn(room, "whole", "db")
     before = room.files()
     monkeypatch.setattr("ldvbi_side.write.rows._KEPT", "CREATE TEMP TABLE no")
-    status, _, said = room.run_words(words)
-    assert status == 2 and said.startswith("ldvbi-side: out.tbc: SQLite can't write the metadata: ")
+    room.refused("out.tbc: SQLite can't write the metadata: incomplete input", words)
     assert room.files() == before
 
 

@@ -10,7 +10,7 @@ from ldvbi import System, field_bytes
 from .inputs import Input
 from .plan import Plan
 from .stretches import Stretch
-from .told import SOUNDS, base_of
+from .told import PCM, base_of
 
 PIECE = 1 << 26  # bytes that are copied at once
 Pad = Optional[Sequence[bool]]
@@ -77,19 +77,19 @@ def _older(before: Optional[Stretch], fields: int, after: Optional[Stretch], pad
     a field of the stretch before or after them; None if they are new."""
     begins = [(before.source, before.taken().stop - 1)] if before else []
     begins += [(after.source, after.taken().start - 1 - fields)] if after else []
-    for source, begin in begins:
-        pad = None if source is None else pads[source]
-        if source is not None and pad and begin >= 0 and len(pad) >= begin + fields and all(
-                pad[begin:begin + fields]):
-            return source, begin
-    return None
+    return next(((source, begin) for source, begin in begins
+                 if source is not None and _is_padding(pads[source], begin, begin + fields)), None)
+
+
+def _is_padding(pad: Pad, begin: int, end: int) -> bool:
+    """Whether a capture has these fields, and all of them are padding."""
+    return pad is not None and 0 <= begin and end <= len(pad) and all(pad[begin:end])
 
 
 def _silence(sizes: Sequence[int], end: str) -> Callable[[int], int]:
     """How many bytes of silence a field of padding gets in the output: as many as keep the sound in step, by the mean
     of the first capture. A file without silence gets none: of EFM it isn't known what would have been there."""
-    if end != ".pcm":
+    if end != PCM.end:
         return lambda out: 0
-    size = next(sound.size for sound in SOUNDS if sound.end == end)
-    mean = sum(sizes) / size / max(len(sizes), 1)
-    return lambda out: size * (round(out * mean) - round((out - 1) * mean))
+    mean = sum(sizes) / PCM.size / max(len(sizes), 1)
+    return lambda out: PCM.size * (round(out * mean) - round((out - 1) * mean))

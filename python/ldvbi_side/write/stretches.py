@@ -28,10 +28,10 @@ class Stretch(NamedTuple):
         """Its fields of the capture; none for padding."""
         return range(0) if self.field is None else range(self.field, self.field + self.fields)
 
-    def numbers(self) -> range:
+    def numbers(self) -> Sequence[int]:
         """Its numbers; none for lead-in and lead-out."""
         if self.first is None:
-            return range(0)
+            return ()
         assert self.last is not None
         return range(self.first, self.last + 1)
 

@@ -21,7 +21,8 @@ class Sound(NamedTuple):
     size: int
 
 
-SOUNDS = (Sound(".pcm", "audioSamples", "audio_samples", 4), Sound(".efm", "efmTValues", "efm_t_values", 1))
+PCM = Sound(".pcm", "audioSamples", "audio_samples", 4)
+SOUNDS = (PCM, Sound(".efm", "efmTValues", "efm_t_values", 1))
 
 
 class Entries(NamedTuple):
