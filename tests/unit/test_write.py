@@ -135,9 +135,11 @@ def test_padding_has_what_the_first_field_has(room):
 
 
 def test_sound_that_one_lacks_is_left_out(room):
+    """Its metadata may lack parameters, too."""
     words = drawn(room, "each lacks others")
     os.unlink(room.named("b.pcm"))
-    assert room.run_words(words)[0] == 0
+    room.write("b.tbc.json", changed(lambda one: one.pop("videoParameters"))(room.read("b.tbc.json")))
+    assert room.run_words(words + " --system NTSC --black 16384 --white 51200")[0] == 0
     assert "out.pcm" not in room.names() and "out.efm" in room.names()
 
 
