@@ -135,11 +135,9 @@ def test_padding_has_what_the_first_field_has(room):
 
 
 def test_sound_that_one_lacks_is_left_out(room):
-    """Its metadata may lack parameters, too."""
     words = drawn(room, "each lacks others")
     os.unlink(room.named("b.pcm"))
-    room.write("b.tbc.json", changed(lambda one: one.pop("videoParameters"))(room.read("b.tbc.json")))
-    assert room.run_words(words + " --system NTSC --black 16384 --white 51200")[0] == 0
+    assert room.run_words(words)[0] == 0
     assert "out.pcm" not in room.names() and "out.efm" in room.names()
 
 
@@ -375,9 +373,12 @@ def test_databases_are_joined_as_texts_are(room):
     assert answers[0][0] == 0 and answers[0] == answers[1]
 
 
-def test_a_failing_disk(room, monkeypatch):
+def test_what_sqlite_cannot_write(room, monkeypatch):
+    """As if a disk failed; or since what a database has calls a function, of which one may take hours."""
     words = drawn(room, "whole", "db")
+    in_database(room.named("a.tbc.db"), "CREATE TABLE more (a)", "CREATE INDEX of_more ON more (abs(a))")
     before = room.files()
+    room.refused("out.tbc: SQLite can't write the metadata: not authorized to use function: abs", words)
     monkeypatch.setattr("ldvbi_side.write.rows._KEPT", "CREATE TEMP TABLE no")
     room.refused("out.tbc: SQLite can't write the metadata: incomplete input", words)
     assert room.files() == before
