@@ -110,9 +110,8 @@ def _stretches(made: Plan, shown: _Shown, begun: _Begun) -> List[ldvbi.Stretch]:
     for one in made.stretches:
         if one.first is not None:
             begins = shown.ranks.of(one.first)
-            if before is not None and one.first in before.numbers() and (
-                    one.source is None or before.source is not None):  # it goes on with it, or a swapped pair cuts it
-                begins += 1
+            if before is not None and before.source is not None and one.first in before.numbers():
+                begins += 1  # padding goes on with it, or a swapped pair cuts it
             rank, before = max(rank, begins), one
         elif before is not None:
             rank = begun.end
