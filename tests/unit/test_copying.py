@@ -1,7 +1,9 @@
 """What `write` copies of captures, and how: words that were recovered, older padding, and files in parts."""
 
+from array import array
 import os
 import sqlite3
+from types import SimpleNamespace
 
 from captured import draw, drawn, entries_of, inside, places_in, SETUPS, VIDEO
 import ldvbi
@@ -45,6 +47,25 @@ OLDER = (  # what is taken before and after two fields of padding, which of its 
 def test_padding_that_is_padding_already(before, after, pads, wanted):
     parts = [one and Stretch(1, one[1], 1, 1, 0 if one[0] else None, one[0], "whole") for one in (before, after)]
     assert copying._older(parts[0], 2, parts[1], [pads and [one == "p" for one in pads]]) == wanted
+
+
+def test_what_is_copied_at_once(room, monkeypatch):
+    """Two fields. Of sound older padding keeps its size, whatever comes before and after it."""
+    size, parts = ldvbi.field_bytes("NTSC"), [Stretch(1, 1, 1, 1, None, None, "padding"),
+                                              Stretch(2, 3, 2, 3, 0, 2, "whole"),
+                                              Stretch(5, 1, 4, 4, None, None, "padding")]
+    monkeypatch.setattr(copying, "PIECE", 2 * size + 1)
+    room.write("a.tbc", b"".join(bytes([letter]) * size for letter in b"abcde"))
+    room.write("a.pcm", b"".join(bytes([letter]) * 4 * count for letter, count in zip(b"abcde", (4, 5, 2, 1, 6))))
+    made, one = SimpleNamespace(system="NTSC", stretches=parts), SimpleNamespace(
+        path=room.named("a.tbc"), sizes={".pcm": array("I", [16, 20, 8, 4, 24])})
+    with open(room.named("new"), "wb") as new:
+        assert list(copying.copy_samples(new, made, [one], 0x4141)) == [1, 3, 4, 5]
+    assert room.read("new") == b"".join(bytes([letter]) * size for letter in b"AbcdA")
+    with open(room.named("new"), "wb") as new:
+        assert list(copying.copy_sound(new, made, [one], [[True, False, False, False, True]], ".pcm")) == [
+            16, 20, 8, 4, 24]
+    assert room.read("new") == bytes(16) + b"b" * 20 + b"c" * 8 + b"d" * 4 + bytes(24)
 
 
 def test_the_system_copies_a_part_at_once(room, monkeypatch):

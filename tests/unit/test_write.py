@@ -376,6 +376,9 @@ def test_databases_are_joined_as_texts_are(room):
             os.unlink(room.named(letter + ".tbc." + form))
         assert not told.is_database_at(room.named("a.tbc." + form))
     assert answers[0][0] == 0 and answers[0] == answers[1]
+    drawn(room, "each lacks others", "db")  # one of which no table has the fields
+    in_database(room.named("a.tbc.db"), "ALTER TABLE field_record RENAME COLUMN is_first_field TO other")
+    assert room.run_command("join a.tbc b.tbc")[0] == 0
 
 
 def test_what_sqlite_cannot_write(room, monkeypatch):

@@ -91,5 +91,5 @@ def _silence(sizes: Sequence[int], end: str) -> Callable[[int], int]:
     of the first capture. A file without silence gets none: of EFM it isn't known what would have been there."""
     if end != PCM.end:
         return lambda out: 0
-    mean = sum(sizes) / PCM.size / max(len(sizes), 1)
+    mean = sum(sizes) / PCM.size / len(sizes)
     return lambda out: PCM.size * (round(out * mean) - round((out - 1) * mean))

@@ -20,11 +20,12 @@ class Layout:
         """Whether a field of a capture can follow what is there, after so many fields of padding: by its frame and its
         colour."""
         last = next((one for one in reversed(self.stretches) if one.source is not None), None)
-        if last is None:
-            return True
-        assert last.source is not None and last.field is not None
-        ones, others = self._sources[source].facts, self._sources[last.source].facts
-        other, apart = last.field + last.fields - 1, self.out + fields - last.outs()[-1]
+        return last is None or self._follows(last, self.out + fields - last.outs()[-1], source, field)
+
+    def _follows(self, last: Stretch, apart: int, source: int, field: int) -> bool:
+        """Whether a field can come so many fields after the last one of a stretch."""
+        assert last.source is not None
+        ones, others, other = self._sources[source].facts, self._sources[last.source].facts, last.taken()[-1]
         if ones.first and others.first and (ones.first[field - 1] == others.first[other - 1]) != (apart % 2 == 0):
             return False
         return not (ones.phase and others.phase and ones.phase[field - 1] and others.phase[other - 1] and (
@@ -46,17 +47,21 @@ class Layout:
 
     def _take(self, source, field, fields, number, how):
         if self._is_film and self.stretches and self.stretches[-1].source is None:
-            self._fit_padding(source, field)
+            self._fit_padding(source, field, number)
         self._add(Stretch(self.out, fields, number, number, source, field, how))
 
-    def _fit_padding(self, source, field):
+    def _fit_padding(self, source, field, number):
         """Makes the padding before a field a field or two longer or shorter, if only so the two go on as on the disc:
-        if a picture of film is lost in part, its length is a guess. After two fewer the colour is as after two more."""
+        if a picture of film is lost in part, its length is a guess. After two fewer the colour is as after two more. A
+        picture has two fields or three, of which those that are lost in part have one at least elsewhere."""
         padding = self.stretches[-1]
+        numbers = set(padding.numbers())
+        whole = numbers - {number, *(one.last for one in self.stretches[-2:-1])}
         for off in (0, 1, -1, 2):
-            if self.fits(source, field, off):
+            fields = padding.fields + off
+            if 2 * len(whole) <= fields <= 2 * len(numbers) + len(whole) and self.fits(source, field, off):
                 self.out += off
-                self.stretches[-1:] = [padding._replace(fields=padding.fields + off)] * (padding.fields + off > 0)
+                self.stretches[-1:] = [padding._replace(fields=fields)] * (fields > 0)
                 return
 
     def _add(self, one: Stretch) -> None:
