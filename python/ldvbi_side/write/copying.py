@@ -73,8 +73,8 @@ def copy_sound(new: IO[bytes], made: Plan, inputs: Sequence[Input], pads: Sequen
 
 def _older(before: Optional[Stretch], fields: int, after: Optional[Stretch], pads: Sequence[Pad]
            ) -> Optional[Tuple[int, int]]:
-    """The capture and the first field there, from 0, of so many fields of padding that are padding there already, beside
-    a field of the stretch before or after them; None if they are new."""
+    """The capture and the first field there, from 0, of so many fields of padding that are padding there already,
+    beside a field of the stretch before or after them; None if they are new."""
     begins = [(before.source, before.taken().stop - 1)] if before else []
     begins += [(after.source, after.taken().start - 1 - fields)] if after else []
     return next(((source, begin) for source, begin in begins

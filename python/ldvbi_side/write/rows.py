@@ -33,7 +33,8 @@ def refuse_other_form(path: str) -> None:
         if table is None:
             raise ValueError("no table, or more than one, has the fields")
         count, different, first, last = database.execute(
-            "SELECT count(*), count(DISTINCT field_id), min(field_id), max(field_id) FROM %s" % quoted(table)).fetchone()
+            "SELECT count(*), count(DISTINCT field_id), min(field_id), max(field_id) FROM %s" % quoted(
+                table)).fetchone()
         if not count or not count == different == last - first + 1:
             raise ValueError("the fields' numbers, field_id, leave some out, or have one twice")
 
