@@ -56,16 +56,16 @@ def test_what_is_copied_at_once(room, monkeypatch):
                                               Stretch(5, 1, 4, 4, None, None, "padding")]
     monkeypatch.setattr(copying, "PIECE", 2 * size + 1)
     room.write("a.tbc", b"".join(bytes([letter]) * size for letter in b"abcde"))
-    room.write("a.pcm", b"".join(bytes([letter]) * 4 * count for letter, count in zip(b"abcde", (4, 5, 2, 1, 6))))
+    room.write("a.pcm", b"".join(bytes([letter]) * 4 * count for letter, count in zip(b"abcde", (1, 5, 2, 1, 6))))
     made, one = SimpleNamespace(system="NTSC", stretches=parts), SimpleNamespace(
-        path=room.named("a.tbc"), sizes={".pcm": array("I", [16, 20, 8, 4, 24])})
+        path=room.named("a.tbc"), sizes={".pcm": array("I", [4, 20, 8, 4, 24])})
     with open(room.named("new"), "wb") as new:
         assert list(copying.copy_samples(new, made, [one], 0x4141)) == [1, 3, 4, 5]
     assert room.read("new") == b"".join(bytes([letter]) * size for letter in b"AbcdA")
     with open(room.named("new"), "wb") as new:
         assert list(copying.copy_sound(new, made, [one], [[True, False, False, False, True]], ".pcm")) == [
-            16, 20, 8, 4, 24]
-    assert room.read("new") == bytes(16) + b"b" * 20 + b"c" * 8 + b"d" * 4 + bytes(24)
+            4, 20, 8, 4, 24]
+    assert room.read("new") == bytes(4) + b"b" * 20 + b"c" * 8 + b"d" * 4 + bytes(24)
 
 
 def test_the_system_copies_a_part_at_once(room, monkeypatch):

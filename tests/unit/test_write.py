@@ -368,9 +368,12 @@ def test_captures_that_change_meanwhile(room, monkeypatch, text, change):
 
 
 def test_databases_are_joined_as_texts_are(room):
+    """Whether what is joined could be copied is no matter."""
     answers = []
     for form in ("json", "db"):
         drawn(room, "each lacks others", form)
+        if form == "json":
+            room.write("b.tbc.json", changed(lambda one: one["fields"][3].update(seqNo=9))(room.read("b.tbc.json")))
         answers.append(room.run_command("join --json a.tbc b.tbc"))
         for letter in "ab":
             os.unlink(room.named(letter + ".tbc." + form))

@@ -19,8 +19,12 @@ class Layout:
     def fits(self, source: int, field: int, fields: int) -> bool:
         """Whether a field of a capture can follow what is there, after so many fields of padding: by its frame and its
         colour."""
-        last = next((one for one in reversed(self.stretches) if one.source is not None), None)
+        last = self._last()
         return last is None or self._follows(last, self.out + fields - last.outs()[-1], source, field)
+
+    def _last(self) -> Optional[Stretch]:
+        """The last stretch that is taken from a capture."""
+        return next((one for one in reversed(self.stretches) if one.source is not None), None)
 
     def _follows(self, last: Stretch, apart: int, source: int, field: int) -> bool:
         """Whether a field can come so many fields after the last one of a stretch."""
@@ -54,9 +58,9 @@ class Layout:
         """Makes the padding before a field a field or two longer or shorter, if only so the two go on as on the disc:
         if a picture of film is lost in part, its length is a guess. After two fewer the colour is as after two more. A
         picture has two fields or three, of which those that are lost in part have one at least elsewhere."""
-        padding = self.stretches[-1]
+        padding, last = self.stretches[-1], self._last()
         numbers = set(padding.numbers())
-        whole = numbers - {number, *(one.last for one in self.stretches[-2:-1])}
+        whole = numbers - {number, last and last.last}
         for off in (0, 1, -1, 2):
             fields = padding.fields + off
             if 2 * len(whole) <= fields <= 2 * len(numbers) + len(whole) and self.fits(source, field, off):
