@@ -259,16 +259,21 @@ WRONG = """
     field 5 of a is taken twice | LACKS | 1+20 1-10 a1, 21+4 11-12 x, 25+56 13-40 a5
     3 comes after 20 | LACKS | 1+20 1-20 a1, 21+4 3-12 x, 25+56 13-40 a21
     12 comes after 10 | LACKS | 1+20 1-10 a1, 21+4 12-12 x, 25+56 13-40 a21
+    11 comes after 10 | LACKS | 1+20 1-10 a1, 21+4 11-10 x, 25+56 13-40 a21
+    63 to 123 are padding, and a capture has one of them | 1..10 87..124 49..62 ; 1..62
+        | 1+124 1-62 b1, 125+122 63-123 x, 247+2 124-124 a21
     1 stands in field 2, not 1 | LACKS | 1+1 1-1 x, 2+19 1-10 a1, 21+4 11-12 x, 25+56 13-40 a21
     2 stands in field 1, not 3 | LACKS | 1+18 1-10 a3, 19+6 11-12 x, 25+56 13-40 a21
     field 21 is planned as field 22 | LACKS | 1+20 1-10 a1, 22+4 11-12 x, 25+56 13-40 a21
     field 21 is planned as field 21 | LACKS | 1+20 1-10 a1, 21+0 11-12 x, 25+56 13-40 a21
     it has 78 fields | LACKS | 1+20 1-10 a1, 21+4 11-12 x, 25+54 13-40 a21
     a has no field 77 | LACKS | 1+20 1-10 a1, 21+4 11-12 x, 25+56 13-40 a22
-    fields 21 to 21 stand for more numbers than they have fields | LACKS
-        | 1+20 1-10 a1, 21+1 11-12 x, 22+59 13-40 a18
+    fields 21 to 22 stand for more numbers than they have fields | lost=21..26 1..40
+        | 1+20 1-10 a1, 21+2 11-13 x, 23+58 14-40 a17
     11 to 12 are padding, and a capture has one of them | LACKS ; 5..20 | 1+20 1-10 a1, 21+4 11-12 x, 25+56 13-40 a21
     11 to 12 are padding, and a capture has one of them | LACKS ; 1..3 6..11 ; 1..4 7..11
+        | 1+20 1-10 a1, 21+4 11-12 x, 25+56 13-40 a21
+    11 to 12 are padding, and a capture has one of them | LACKS ; 5..20 ; 1..4 151..170 25..40
         | 1+20 1-10 a1, 21+4 11-12 x, 25+56 13-40 a21
 """
 

@@ -4,6 +4,7 @@ is refused, and what is left then."""
 import contextlib
 import json
 import os
+import re
 import signal
 
 from captured import CASES, disc, draw, drawn, entries_of, FILM, going_back, inside, lost, PAL, places_in, TIMES, VIDEO
@@ -125,6 +126,19 @@ def test_two_worn_captures_make_one_whole_side(room):
         [row[3], row[4], row[5], row[6], row[7]] for row in rows if row[3]]
 
 
+def test_what_is_around_the_fields_is_the_first_captures(room):
+    """And padding has what the first one's first field has."""
+    draw(room.named("b.tbc"), VIDEO, lost(VIDEO, (9, 0, 6)), gitBranch="other")
+    room.write("b.tbc.json", json.dumps({**json.loads(room.text("b.tbc.json")), "more": [2]}, indent=1))
+    words = drawn(room, "pictures lost")
+    document = json.loads(room.text("a.tbc.json"))
+    del document["fields"][0]["decodeFaults"]
+    room.write("a.tbc.json", json.dumps(document))
+    assert room.run_words(words + " b.tbc")[0] == 1
+    assert [one["seqNo"] for one in entries_of(room.named("out.tbc")) if "decodeFaults" not in one] == [*range(17, 23)]
+    assert re.findall(r'}([^"{}]*){"(?:audio|seq)', room.text("out.tbc.json")) == [", "] * 47
+
+
 def test_sound_that_one_lacks_is_left_out(room):
     words = drawn(room, "each lacks others")
     os.unlink(room.named("b.pcm"))
@@ -144,8 +158,9 @@ def test_a_picture_is_taken_where_it_has_fewer_dropouts(room, form):
         assert [row.split(",")[3:6] for row in room.text("out.stretches.csv").split("\n")[1:-1]] == wanted
 
 
-def test_dropouts_and_phases_that_are_known():
-    """Dropouts of another form count for none; they aren't known if no field has any. A phase is 1 to 8, else 0."""
+def test_dropouts_and_phases_that_are_known(room):
+    """Dropouts of another form count for none; they aren't known if no field has any. A phase is 1 to 8, else 0. In a
+    database a field may have several rows of dropouts, or none."""
     def facts(*fields):
         found = told.Told(False)
         for field in fields:
@@ -159,6 +174,13 @@ def test_dropouts_and_phases_that_are_known():
     assert (list(some.damage), some.phase) == ([5, 0, 0, 3, 0], None)
     assert facts({"dropOuts": []}, {}).damage is None and list(facts(dropouts()).damage) == [0]
     assert list(facts(*({"fieldPhaseID": one} for one in (1, 8, 9, 0, -1, True, 2.0, None))).phase) == [1, 8] + 6 * [0]
+    draw(room.named("a.tbc"), VIDEO, VIDEO.order[:5], form="db", worse=[2])
+    in_database(room.named("a.tbc.db"), "CREATE TABLE ones AS SELECT field_id, startx, endx FROM drop_outs",
+                "DROP TABLE drop_outs", "ALTER TABLE ones RENAME TO drop_outs",
+                "DELETE FROM drop_outs WHERE field_id = 3", "INSERT INTO drop_outs VALUES (2, 7, 9)")
+    found = told.Told(False)
+    found.add_rows(room.named("a.tbc.db"))
+    assert list(found.facts(Metadata("", None, None, None, [])).damage) == [2, 2, 103, 0, 2]
 
 
 def test_numbers_set_aside_are_no_words(room):
@@ -294,6 +316,7 @@ def test_refused_databases_and_words(room):
              "the fields' numbers, field_id, leave some out, or have one twice"),
             (["UPDATE field_record SET field_id = 4, capture_id = 2 WHERE field_id = 99"],
              "the fields' numbers, field_id, leave some out, or have one twice"),
+            (["DELETE FROM field_record"], "the fields' numbers, field_id, leave some out, or have one twice"),
             (["ALTER TABLE field_record RENAME COLUMN is_first_field TO other"],
              "no table, or more than one, has the fields"),
             (["ALTER TABLE vbi RENAME COLUMN vbi0 TO other"], "no table vbi with field_id, vbi0, vbi1 and vbi2")):
@@ -345,22 +368,30 @@ def test_captures_that_change_meanwhile(room, monkeypatch, text, change):
 
 
 def test_databases_are_joined_as_texts_are(room):
+    """Whether what is joined could be copied is no matter."""
     answers = []
     for form in ("json", "db"):
         drawn(room, "each lacks others", form)
+        if form == "json":
+            room.write("b.tbc.json", changed(lambda one: one["fields"][3].update(seqNo=9))(room.read("b.tbc.json")))
         answers.append(room.run_command("join --json a.tbc b.tbc"))
         for letter in "ab":
             os.unlink(room.named(letter + ".tbc." + form))
         assert not told.is_database_at(room.named("a.tbc." + form))
     assert answers[0][0] == 0 and answers[0] == answers[1]
+    drawn(room, "each lacks others", "db")  # one of which no table has the fields
+    in_database(room.named("a.tbc.db"), "ALTER TABLE field_record RENAME COLUMN is_first_field TO other")
+    assert room.run_command("join a.tbc b.tbc")[0] == 0
 
 
-def test_a_failing_disk(room, monkeypatch):
+def test_what_sqlite_cannot_write(room, monkeypatch):
+    """As if a disk failed; or since what a database has calls a function, of which one may take hours."""
     words = drawn(room, "whole", "db")
+    in_database(room.named("a.tbc.db"), "CREATE TABLE more (a)", "CREATE INDEX of_more ON more (abs(a))")
     before = room.files()
+    room.refused("out.tbc: SQLite can't write the metadata: not authorized to use function: abs", words)
     monkeypatch.setattr("ldvbi_side.write.rows._KEPT", "CREATE TEMP TABLE no")
-    status, _, said = room.run_words(words)
-    assert status == 2 and said.startswith("ldvbi-side: out.tbc: SQLite can't write the metadata: ")
+    room.refused("out.tbc: SQLite can't write the metadata: incomplete input", words)
     assert room.files() == before
 
 

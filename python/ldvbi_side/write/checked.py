@@ -19,7 +19,7 @@ def refuse_wrong(made: Plan, sources: Sequence[Source]) -> None:
     """Raises a ValueError unless a plan is right: the library says that it is done, and what the plan says of itself,
     which numbers are padding and where each begins, is so."""
     shown = _Shown(made, sources)
-    why = _disorder(made) or _fault(made, shown) or _wrong_number(made, shown)
+    why = _disorder(made) or _fault(made, shown) or next(_wrong_numbers(made, shown), None)
     if why:
         raise ValueError("the plan is wrong: " + why)
 
@@ -82,11 +82,11 @@ class _Shown:
 
     def of(self, one: Stretch) -> Iterator[Tuple[int, int]]:
         """Each number that the fields of a stretch show, and that field of the output."""
-        if one.source is not None and one.first is not None:
-            for step, field in enumerate(one.taken()):
-                number = self.places[one.source].get(field)
-                if number is not None:
-                    yield number, one.out + step
+        for out, field in zip(one.outs(), one.taken()):
+            assert one.source is not None  # padding has no fields of a capture
+            number = self.places[one.source].get(field)
+            if number is not None:
+                yield number, out
 
 
 class _Begun(NamedTuple):
@@ -111,13 +111,12 @@ def _stretches(made: Plan, shown: _Shown, begun: _Begun) -> List[ldvbi.Stretch]:
     for one in made.stretches:
         if one.first is not None:
             begins = shown.ranks.of(one.first)
-            if before is not None and one.first in before.numbers() and (
-                    one.source is None or before.source is not None):  # it goes on with it, or a swapped pair cuts it
-                begins += 1
+            if before is not None and before.source is not None and one.first in before.numbers():
+                begins += 1  # padding goes on with it, or a swapped pair cuts it
             rank, before = max(rank, begins), one
         elif before is not None:
             rank = begun.end
-        found.append(ldvbi.Stretch(one.source, (one.field or 1) - 1, one.fields, rank))
+        found.append(ldvbi.Stretch(one.source, one.taken().start - 1, one.fields, rank))  # no matter which of padding
     return found
 
 
@@ -140,12 +139,12 @@ def _text_of(found: Fault, made: Plan, shown: _Shown) -> str:
     one, text = made.stretches[found.stretch], made.count_unit().text_of
     name = "" if one.source is None else shown.sources[one.source].capture.name
     if found.rule == Rule.not_there:
-        return "%s has no field %d" % (name, (one.field or 0) + one.fields - 1)
+        return "%s has no field %d" % (name, one.taken()[-1])
     if found.rule == Rule.twice:
-        return "field %d of %s is taken twice" % (one.field or 0, name)
+        return "field %d of %s is taken twice" % (one.taken().start, name)
     if found.rule == Rule.misplaced:
-        return _misplaced(one, made, shown) or "a number of fields %d to %d is out of its place" % (
-            one.out, one.outs()[-1])
+        return next(_misplaced(one, made, shown), "a number of fields %d to %d is out of its place" % (
+            one.out, one.outs()[-1]))
     if found.rule == Rule.hidden:
         assert one.first is not None and one.last is not None
         return "%s to %s are padding, and a capture has one of them" % (text(one.first), text(one.last))
@@ -154,26 +153,23 @@ def _text_of(found: Fault, made: Plan, shown: _Shown) -> str:
 
 # ---- What the plan says of itself
 
-def _misplaced(one: Stretch, made: Plan, shown: _Shown) -> Optional[str]:
-    """The first number of a stretch that is elsewhere than the plan says."""
+def _misplaced(one: Stretch, made: Plan, shown: _Shown) -> Iterator[str]:
+    """What is said of each number of a stretch that is elsewhere than the plan says."""
     text, is_on_both = made.count_unit().text_of, shown.sources[0].answer.pace == "both"
     for number, out in shown.of(one):
         wanted = made.first_field.get(number)
         if wanted is None:
-            return "%s stands in field %d, where another number is" % (text(number), out)
-        if out - wanted not in ((0, 1) if is_on_both else (0,)):
-            return "%s stands in field %d, not %d" % (text(number), out, wanted)
-    return None
+            yield "%s stands in field %d, where another number is" % (text(number), out)
+        elif out - wanted not in ((0, 1) if is_on_both else (0,)):
+            yield "%s stands in field %d, not %d" % (text(number), out, wanted)
 
 
-def _wrong_number(made: Plan, shown: _Shown) -> Optional[str]:
-    """A number that stands elsewhere than the plan says, or that it says is padding though it is shown."""
+def _wrong_numbers(made: Plan, shown: _Shown) -> Iterator[str]:
+    """What is said of numbers that stand elsewhere than the plan says, or that it says are padding though they are
+    shown."""
     padded = set(made.padded)
     for one in made.stretches:
-        why = _misplaced(one, made, shown)
-        if why:
-            return why
-        hidden = padded.intersection(number for number, _ in shown.of(one))
-        if hidden:
-            return "%s is padding" % made.count_unit().text_of(min(hidden))
-    return None
+        yield from _misplaced(one, made, shown)
+        for number, _ in shown.of(one):
+            if number in padded:
+                yield "%s is padding" % made.count_unit().text_of(number)

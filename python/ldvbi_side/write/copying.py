@@ -10,7 +10,7 @@ from ldvbi import System, field_bytes
 from .inputs import Input
 from .plan import Plan
 from .stretches import Stretch
-from .told import SOUNDS, base_of
+from .told import PCM, base_of
 
 PIECE = 1 << 26  # bytes that are copied at once
 Pad = Optional[Sequence[bool]]
@@ -41,8 +41,7 @@ def copy_bytes(old: IO[bytes], new: IO[bytes], begin: int, size: int) -> None:
         try:
             count = os.copy_file_range(old.fileno(), new.fileno(), size, begin)
         except OSError:  # between two file systems, say
-            data = os.pread(old.fileno(), min(size, READ), begin)
-            count = os.write(new.fileno(), data) if data else 0
+            count = os.write(new.fileno(), os.pread(old.fileno(), min(size, READ), begin))
         if not count:
             raise ValueError("%s was made shorter meanwhile" % old.name)
         begin, size = begin + count, size - count
@@ -56,9 +55,9 @@ def copy_sound(new: IO[bytes], made: Plan, inputs: Sequence[Input], pads: Sequen
     silent, sizes = _silence(inputs[0].sizes[end], end), array.array("I")
     with contextlib.ExitStack() as stack:
         files = [stack.enter_context(open(base_of(one.path) + end, "rb")) for one in inputs]
-        for place, one in enumerate(made.stretches):
+        for before, one, after in zip([None, *made.stretches], made.stretches, [*made.stretches[1:], None]):
             if one.source is None:
-                older = _older(made.stretches, place, pads)
+                older = _older(before, one.fields, after, pads)
                 more = inputs[older[0]].sizes[end][older[1]:older[1] + one.fields] if older else array.array(
                     "I", map(silent, one.outs()))
                 sizes.extend(more)
@@ -72,27 +71,25 @@ def copy_sound(new: IO[bytes], made: Plan, inputs: Sequence[Input], pads: Sequen
     return sizes
 
 
-def _older(stretches: Sequence[Stretch], place: int, pads: Sequence[Pad]) -> Optional[Tuple[int, int]]:
-    """The capture and the first field there, from 0, of padding that is padding there already, beside a field of the
-    stretch before or after it; None if it is new."""
-    count = stretches[place].fields
-    neighbours = [(one, True) for one in stretches[place - 1:place]]
-    neighbours += [(one, False) for one in stretches[place + 1:place + 2]]
-    for one, is_before in neighbours:
-        if one.source is not None:
-            assert one.field is not None
-            begin = one.field - 1 + one.fields if is_before else one.field - 1 - count
-            pad = pads[one.source]
-            if pad and begin >= 0 and all(pad[begin:begin + count]) and len(pad) >= begin + count:
-                return one.source, begin
-    return None
+def _older(before: Optional[Stretch], fields: int, after: Optional[Stretch], pads: Sequence[Pad]
+           ) -> Optional[Tuple[int, int]]:
+    """The capture and the first field there, from 0, of so many fields of padding that are padding there already,
+    beside a field of the stretch before or after them; None if they are new."""
+    begins = [(before.source, before.taken().stop - 1)] if before else []
+    begins += [(after.source, after.taken().start - 1 - fields)] if after else []
+    return next(((source, begin) for source, begin in begins
+                 if source is not None and _is_padding(pads[source], begin, begin + fields)), None)
+
+
+def _is_padding(pad: Pad, begin: int, end: int) -> bool:
+    """Whether a capture has these fields, and all of them are padding."""
+    return pad is not None and 0 <= begin and end <= len(pad) and all(pad[begin:end])
 
 
 def _silence(sizes: Sequence[int], end: str) -> Callable[[int], int]:
     """How many bytes of silence a field of padding gets in the output: as many as keep the sound in step, by the mean
     of the first capture. A file without silence gets none: of EFM it isn't known what would have been there."""
-    if end != ".pcm":
+    if end != PCM.end:
         return lambda out: 0
-    size = next(sound.size for sound in SOUNDS if sound.end == end)
-    mean = sum(sizes) / size / max(len(sizes), 1)
-    return lambda out: size * (round(out * mean) - round((out - 1) * mean))
+    mean = sum(sizes) / PCM.size / len(sizes)
+    return lambda out: PCM.size * (round(out * mean) - round((out - 1) * mean))

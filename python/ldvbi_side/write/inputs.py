@@ -42,7 +42,8 @@ def states_of(path: str, metadata: str) -> Dict[str, State]:
 def input_of(path: str, metadata: Metadata, told: Told, side: Side, states: Dict[str, State],
              has_recovered: bool) -> Input:
     """The capture with these parts."""
-    return Input(path, metadata.path, metadata.parameters or {}, told.entries(metadata.path), len(side.readings),
+    assert metadata.parameters is not None  # its settings come from them
+    return Input(path, metadata.path, metadata.parameters, told.entries(metadata.path), len(side.readings),
                  told.sizes(path), _words_of(side, has_recovered), states)
 
 

@@ -7,6 +7,7 @@ from .blocks import Block
 from .following import Followed
 
 NEARBY = 8  # numbers before or after one of film whose cadence counts for it
+ODD, EVEN, NEITHER = range(3)  # which pictures of film have three fields
 
 
 class Lengths:
@@ -25,13 +26,13 @@ class Lengths:
             for one, other in zip(part, part[1:]):
                 fields = other.field - one.field
                 if other.rank == one.rank + 1 and capture.going.takes_turns(one.field, fields + 1):
-                    self._known[one.rank] = max(self._known.get(one.rank, 2), fields)
+                    self._known[one.rank] = max(self._known.get(one.rank, fields), fields)
 
     def of(self, rank: int, step: int = -1) -> int:
         """The fields of a number; if no capture shows it, by the cadence before it, or after it (step 1)."""
         if not self.is_film or rank in self._known:
             return self._known.get(rank, 2)
-        return 3 if self._variant(rank, step) == 1 - rank % 2 else 2
+        return 3 if self._variant(rank, step) == (ODD if rank % 2 else EVEN) else 2
 
     def is_known(self, rank: int, step: int = -1) -> bool:
         """Whether a number's fields are known, by a capture or by the cadence on that side."""
@@ -51,21 +52,19 @@ class Lengths:
         variants = [self._variant(first, -1), self._variant(end - 1, 1)]
         guesses = [Pace("film").between(first, count, one, one) for one in variants if one is not None]
         guesses = guesses or [5 * count // 2]
-        for off in range(count + 2):
-            for one in [guess + sign * off for guess in guesses for sign in (1, -1)]:
-                if 2 * count <= one <= 3 * count and fits(one):
-                    return one
-        return guesses[0]
+        near = sorted(range(2 * count, 3 * count + 1), key=lambda one: min(
+            (abs(one - guess), place, -one) for place, guess in enumerate(guesses)))
+        return next(filter(fits, near), guesses[0])
 
     def _variant(self, rank: int, step: int) -> Optional[int]:
-        """Which pictures have three fields, by the known ones before a rank (step -1) or after it (1): those with an
-        odd number (0), those with an even one (1), none (2); None if nothing near says it."""
+        """Which pictures have three fields, by the known ones before a rank (step -1) or after it (1); None if nothing
+        near says it."""
         seen: List[int] = []
         for at in range(rank + step, rank + step * (NEARBY + 1), step):
             if at in self._known:
                 if self._known[at] == 3:
-                    return 1 - at % 2
+                    return ODD if at % 2 else EVEN
                 seen.append(at)
             if len(seen) == 2:
                 break
-        return 2 if len(seen) == 2 and abs(seen[0] - seen[1]) == 1 else None
+        return NEITHER if len(seen) == 2 and abs(seen[0] - seen[1]) == 1 else None

@@ -13,7 +13,7 @@ from .taken import Taken
 
 
 class _Said(NamedTuple):
-    """A chapter that begins (None: a stop) at a number, and how many fields after that one's first it is shown."""
+    """A chapter that begins at a number, and how many fields after that one's first it is shown."""
     number: int
     chapter: int
     offset: int
@@ -33,8 +33,7 @@ def stops_at(captures: Sequence[Capture], taken: Sequence[Taken], unit: Unit) ->
     """Where each number with a picture stop is, once for each of its fields that any capture shows with one. It is
     unsure if it is so in each of these."""
     of_number = {one.number: one for one in taken}
-    said, sure = ({(number, offset) for capture in captures for number, _, offset in _Beside(capture).stops(is_sure)}
-                  for is_sure in (False, True))
+    said, sure = ({one for capture in captures for one in _Beside(capture).stops(is_sure)} for is_sure in (False, True))
     return [StopAt(unit.text_of(number), *_place(of_number[number], offset),
                    "read" if (number, offset) in sure else "unsure")
             for number, offset in sorted(said | sure) if number in of_number]
@@ -57,16 +56,18 @@ class _Beside:
 
     def chapters(self) -> Iterator[_Said]:
         for one in self._capture.answer.chapters:
-            yield from self._said(one.number, one.chapter, one.field)
+            for number, offset in self._said(one.number, one.field):
+                yield _Said(number, one.chapter, offset)
 
-    def stops(self, is_sure: bool) -> Iterator[_Said]:
+    def stops(self, is_sure: bool) -> Iterator[Tuple[int, int]]:
         for one in self._capture.answer.stops if is_sure else self._capture.answer.unsure_stops:
-            yield from self._said(one.number, 0, one.field)
+            yield from self._said(one.number, one.field)
 
-    def _said(self, number: Any, chapter: int, field: int) -> Iterator[_Said]:
-        """What stands in a field beside this number; nothing if none is near."""
+    def _said(self, number: Any, field: int) -> Iterator[Tuple[int, int]]:
+        """This number, beside which something stands in a field, and how many fields after its first one that is;
+        nothing if none is near."""
         if number is not None:
             count = self._capture.ordinal(number)
             fields = self._fields[count]
             place = bisect.bisect_left(fields, field)  # beside which is the nearest one
-            yield _Said(count, chapter, min((field - one for one in fields[max(place - 1, 0):place + 1]), key=abs))
+            yield count, min((field - one for one in fields[max(place - 1, 0):place + 1]), key=abs)

@@ -1,9 +1,9 @@
 """The output as it grows: fields of captures, and padding between them."""
 
-from typing import Iterator, List, Optional, Sequence
+from typing import List, Optional, Sequence
 
 from .sources import PHASES, Source, straightened
-from .stretches import PADDING, PARITY, PHASE, Stretch
+from .stretches import PADDING, Stretch
 
 
 class Layout:
@@ -17,50 +17,55 @@ class Layout:
         self.out = 1
 
     def fits(self, source: int, field: int, fields: int) -> bool:
-        """Whether a field of a capture can follow what is there, after so many fields of padding."""
-        return not any(self._seams(source, field, self.out + fields))
+        """Whether a field of a capture can follow what is there, after so many fields of padding: by its frame and its
+        colour."""
+        last = self._last()
+        return last is None or self._follows(last, self.out + fields - last.outs()[-1], source, field)
 
-    def _seams(self, source: int, field: int, out: int) -> Iterator[str]:
-        """The kinds of seams that there were if the field stood there."""
-        last = next((one for one in reversed(self.stretches) if one.source is not None), None)
-        if last is None:
-            return
-        assert last.source is not None and last.field is not None
-        ones, others = self._sources[source].facts, self._sources[last.source].facts
-        other, apart = last.field + last.fields - 1, out - last.outs()[-1]
+    def _last(self) -> Optional[Stretch]:
+        """The last stretch that is taken from a capture."""
+        return next((one for one in reversed(self.stretches) if one.source is not None), None)
+
+    def _follows(self, last: Stretch, apart: int, source: int, field: int) -> bool:
+        """Whether a field can come so many fields after the last one of a stretch."""
+        assert last.source is not None
+        ones, others, other = self._sources[source].facts, self._sources[last.source].facts, last.taken()[-1]
         if ones.first and others.first and (ones.first[field - 1] == others.first[other - 1]) != (apart % 2 == 0):
-            yield PARITY
-        if ones.phase and others.phase and ones.phase[field - 1] and others.phase[other - 1] and (
-                ones.phase[field - 1] - others.phase[other - 1] - apart) % self._phases:
-            yield PHASE
+            return False
+        return not (ones.phase and others.phase and ones.phase[field - 1] and others.phase[other - 1] and (
+            ones.phase[field - 1] - others.phase[other - 1] - apart) % self._phases)
 
     def pad(self, fields: int, first: Optional[int], last: Optional[int]) -> None:
         """Adds padding in the place of these numbers."""
         if fields > 0:
             self._add(Stretch(self.out, fields, first, last, None, None, PADDING))
 
-    def take(self, source: int, field: int, fields: int, first: Optional[int], last: Optional[int], how: str) -> None:
-        """Adds fields of a capture, those of a swapped pair in their right order."""
+    def take(self, source: int, field: int, fields: int, number: Optional[int], how: str) -> None:
+        """Adds fields of a capture that have this number, those of a swapped pair in their right order."""
         pairs = self._pairs[source]
         if not pairs:
-            self._take(source, field, fields, first, last, how)
+            self._take(source, field, fields, number, how)
             return
         for one in range(field, field + fields):  # those that go on become one stretch
-            self._take(source, pairs.get(one, one), 1, first, last, how)
+            self._take(source, pairs.get(one, one), 1, number, how)
 
-    def _take(self, source, field, fields, first, last, how):
+    def _take(self, source, field, fields, number, how):
         if self._is_film and self.stretches and self.stretches[-1].source is None:
-            self._fit_padding(source, field)
-        self._add(Stretch(self.out, fields, first, last, source, field, how))
+            self._fit_padding(source, field, number)
+        self._add(Stretch(self.out, fields, number, number, source, field, how))
 
-    def _fit_padding(self, source, field):
+    def _fit_padding(self, source, field, number):
         """Makes the padding before a field a field or two longer or shorter, if only so the two go on as on the disc:
-        if a picture of film is lost in part, its length is a guess. After two fewer the colour is as after two more."""
-        padding = self.stretches[-1]
+        if a picture of film is lost in part, its length is a guess. After two fewer the colour is as after two more. A
+        picture has two fields or three, of which those that are lost in part have one at least elsewhere."""
+        padding, last = self.stretches[-1], self._last()
+        numbers = set(padding.numbers())
+        whole = numbers - {number, last and last.last}
         for off in (0, 1, -1, 2):
-            if self.fits(source, field, off):
+            fields = padding.fields + off
+            if 2 * len(whole) <= fields <= 2 * len(numbers) + len(whole) and self.fits(source, field, off):
                 self.out += off
-                self.stretches[-1:] = [padding._replace(fields=padding.fields + off)] * (padding.fields + off > 0)
+                self.stretches[-1:] = [padding._replace(fields=fields)] * (fields > 0)
                 return
 
     def _add(self, one: Stretch) -> None:

@@ -203,7 +203,7 @@ class _Making:
             return
         how = WHOLE if block.is_sure else UNSURE
         for rank, begin, end in self._parts(block):
-            layout.take(source, begin, end - begin, number(rank), number(rank), how)
+            layout.take(source, begin, end - begin, number(rank), how)
         for step in range(block.ranks if not self._known.lengths.is_film else 1):
             self._first_field[block.rank + step] = layout.out - block.fields - block.lead + 2 * step
         layout.pad(block.trail, last, last)
@@ -280,7 +280,7 @@ class _Making:
         for one in self._sources[source].answer.lead_in:
             count = (field - one.first) // 2 * 2
             if count and one.last == field - 1:
-                self._layout.take(source, field - count, count, None, None, WHOLE)
+                self._layout.take(source, field - count, count, None, WHOLE)
 
     def _take_lead_out(self, node: Node) -> None:
         assert node.run is not None
@@ -288,4 +288,4 @@ class _Making:
         end = run.blocks[-1].field + run.blocks[-1].fields
         for one in self._sources[run.source].answer.lead_out:
             if one.first == end:
-                self._layout.take(run.source, end, one.last - end + 1, None, None, WHOLE)
+                self._layout.take(run.source, end, one.last - end + 1, None, WHOLE)

@@ -18,7 +18,7 @@ _OF_CAPTURE = "(SELECT capture_id FROM main.capture)"
 # The columns of a row of padding, and what stands there
 _PADDING = {"field_id": "out", "capture_id": _OF_CAPTURE, "is_first_field": "is_first", "field_phase_id": "phase",
             "pad": "1", "audio_samples": "audio", "efm_t_values": "efm", "sync_conf": "0", "median_burst_ire": "0",
-            "decode_faults": "0", "vbi0": "0", "vbi1": "0", "vbi2": "0"}
+            "decode_faults": "0"}
 
 
 def refuse_other_form(path: str) -> None:
@@ -32,10 +32,10 @@ def refuse_other_form(path: str) -> None:
         table = table_of_fields(database)
         if table is None:
             raise ValueError("no table, or more than one, has the fields")
-        count, first, last = database.execute("SELECT count(*), min(field_id), max(field_id) FROM %s" % quoted(
-            table)).fetchone()
-        if count != database.execute("SELECT count(DISTINCT field_id) FROM %s" % quoted(table)).fetchone()[0] or (
-                not count or last - first != count - 1):
+        count, different, first, last = database.execute(
+            "SELECT count(*), count(DISTINCT field_id), min(field_id), max(field_id) FROM %s" % quoted(
+                table)).fetchone()
+        if not count or not count == different == last - first + 1:
             raise ValueError("the fields' numbers, field_id, leave some out, or have one twice")
 
 
@@ -43,7 +43,7 @@ def write_rows(path: str, made: Plan, sources: Sequence[Source], inputs: Sequenc
                sizes: Mapping[str, Sequence[int]]) -> None:
     """Writes the whole database. `sizes` are the bytes of sound that each field of the output has."""
     try:
-        with contextlib.closing(sqlite3.connect(path, uri=False, isolation_level=None)) as new:
+        with contextlib.closing(sqlite3.connect(path, uri=True, isolation_level=None)) as new:
             limit_steps(new)
             new.execute("PRAGMA synchronous = OFF")  # the file is synced as a whole at the end
             new.execute("PRAGMA temp_store = MEMORY")
@@ -67,9 +67,8 @@ def write_rows(path: str, made: Plan, sources: Sequence[Source], inputs: Sequenc
 def _base_of(path: str) -> int:
     """The number of a database's first field."""
     with opened(path) as database:
-        base: int = database.execute("SELECT min(field_id) FROM %s" % quoted(str(table_of_fields(database)))
-                                     ).fetchone()[0]
-    return base
+        base, = database.execute("SELECT min(field_id) FROM %s" % quoted(str(table_of_fields(database)))).fetchone()
+    return int(base)
 
 
 def _kept_rows(made: Plan, sources: Sequence[Source], inputs: Sequence[Input], sizes: Mapping[str, Sequence[int]],
@@ -122,10 +121,10 @@ def _copy_rows(new: sqlite3.Connection, tables: Dict[str, List[str]], place: int
 
 def _finish(new: sqlite3.Connection, tables: Dict[str, List[str]], fields: int) -> None:
     """Adds the rows of padding, and sets the words and the count of fields."""
-    for name in {str(table_of_fields(new)), "vbi"}:
-        columns = [column for column in tables[name] if column in _PADDING]
-        new.execute("INSERT INTO main.%s (%s) SELECT %s FROM temp.kept WHERE source IS NULL" % (
-            quoted(name), ", ".join(map(quoted, columns)), ", ".join(_PADDING[column] for column in columns)))
+    table = str(table_of_fields(new))
+    columns = [column for column in tables[table] if column in _PADDING]
+    new.execute("INSERT INTO main.%s (%s) SELECT %s FROM temp.kept WHERE source IS NULL" % (
+        quoted(table), ", ".join(map(quoted, columns)), ", ".join(_PADDING[column] for column in columns)))
     of_capture = "capture_id, " * ("capture_id" in tables["vbi"])
     new.execute("INSERT INTO main.vbi (%sfield_id, vbi0, vbi1, vbi2) SELECT %sout, 0, 0, 0 FROM temp.kept "
                 "WHERE out NOT IN (SELECT field_id FROM main.vbi)" % (

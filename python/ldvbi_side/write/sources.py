@@ -24,11 +24,9 @@ class Source(NamedTuple):
     def goes_on(self, field: int, other: int) -> bool:
         """Whether a field may be followed by another one on the disc, by its frame and its colour."""
         first, phase = self.facts.first, self.facts.phase
-        if first and first[field - 1] == first[other - 1]:
-            return False
-        if phase and phase[field - 1] and phase[other - 1]:
-            return (phase[other - 1] - phase[field - 1]) % PHASES[self.answer.system] == 1
-        return True
+        return (not first or first[field - 1] != first[other - 1]) and (
+            not phase or 0 in (phase[field - 1], phase[other - 1])
+            or (phase[other - 1] - phase[field - 1]) % PHASES[self.answer.system] == 1)
 
 
 def straightened(answer: Answer) -> Dict[int, int]:

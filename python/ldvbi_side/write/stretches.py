@@ -5,7 +5,6 @@ from typing import List, NamedTuple, Optional, Sequence, Tuple
 from .sources import PHASES, Source
 
 PADDING = "padding"
-PARITY, PHASE = "parity", "phase"
 
 
 class Stretch(NamedTuple):
@@ -29,10 +28,10 @@ class Stretch(NamedTuple):
         """Its fields of the capture; none for padding."""
         return range(0) if self.field is None else range(self.field, self.field + self.fields)
 
-    def numbers(self) -> range:
+    def numbers(self) -> Sequence[int]:
         """Its numbers; none for lead-in and lead-out."""
         if self.first is None:
-            return range(0)
+            return ()
         assert self.last is not None
         return range(self.first, self.last + 1)
 
@@ -60,8 +59,8 @@ def seams_of(stretches: Sequence[Stretch], sources: Sequence[Source]) -> List[Se
             phases += [pair for pair in zip(one.outs(), facts.phase[begin:begin + one.fields]) if pair[1]]
     count = PHASES[sources[0].answer.system]
     # a frame's first field is 1: so from one field to the next it goes on by one, modulo 2
-    found = [Seam(PARITY, *pair) for pair in _breaks(firsts, 2)]
-    found += [Seam(PHASE, *pair) for pair in _breaks(_without_lone(phases, count), count)]
+    found = [Seam("parity", *pair) for pair in _breaks(firsts, 2)]
+    found += [Seam("phase", *pair) for pair in _breaks(_without_lone(phases, count), count)]
     return sorted(found, key=lambda one: one.after)
 
 

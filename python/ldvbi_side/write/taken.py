@@ -22,7 +22,7 @@ def taken_of(made: Plan, captures: List[Capture]) -> List[Taken]:
     begins = [[place.field for place in capture.places] for capture in captures]
     found: Dict[int, Taken] = {}
     for one in made.stretches:
-        if one.source is None or one.first is None:
+        if one.source is None:
             continue
         capture = captures[one.source]
         for number, field, how in _shown(one, capture, begins[one.source]):

@@ -21,7 +21,8 @@ class Sound(NamedTuple):
     size: int
 
 
-SOUNDS = (Sound(".pcm", "audioSamples", "audio_samples", 4), Sound(".efm", "efmTValues", "efm_t_values", 1))
+PCM = Sound(".pcm", "audioSamples", "audio_samples", 4)
+SOUNDS = (PCM, Sound(".efm", "efmTValues", "efm_t_values", 1))
 
 
 class Entries(NamedTuple):
@@ -101,15 +102,15 @@ class Told:
         with open(path, "rb") as file:
             if all(piece.isascii() for piece in iter(lambda: file.read(PIECE), b"")):
                 return Entries(self._begins, self._lengths)
-        found, at, place = Entries(array.array("Q"), array.array("I")), 0, 0
+        begins, lengths, at, place = array.array("Q"), array.array("I"), 0, 0
         with open(path, encoding="utf-8", newline="") as text:
             for begin, length in zip(self._begins, self._lengths):
                 place += len(text.read(begin - at).encode())
                 size = len(text.read(length).encode())
-                found.begins.append(place)
-                found.lengths.append(size)
+                begins.append(place)
+                lengths.append(size)
                 at, place = begin + length, place + size
-        return found
+        return Entries(begins, lengths)
 
     def sizes(self, path: str) -> Dict[str, "array.array[int]"]:
         """How many bytes each field has of each file of sound that is beside this TBC file, by the ends of their names.
