@@ -1,11 +1,13 @@
 """What `write` copies of captures, and how: words that were recovered, older padding, and files in parts."""
 
 from array import array
+import json
 import os
+import re
 import sqlite3
 from types import SimpleNamespace
 
-from captured import draw, drawn, entries_of, inside, places_in, SETUPS, VIDEO
+from captured import draw, drawn, entries_of, inside, lost, places_in, SETUPS, VIDEO
 import ldvbi
 from ldvbi_side.write import copying
 from ldvbi_side.write.stretches import Stretch
@@ -125,3 +127,16 @@ def test_what_a_database_has_besides(room, monkeypatch):
     assert found == [[(text, field, 3) for field, text in enumerate(taken, 5)], [("a",)], [("other", 1)],
                      [(3, "NTSC", 16384, 51200, 48, "dr\u00e4wn")],
                      [(field, *VIDEO.words[place]) for field, place in enumerate(inside(VIDEO), 5)]]
+
+
+def test_what_is_around_the_fields_is_the_first_captures(room):
+    """And padding has what the first one's first field has."""
+    draw(room.named("b.tbc"), VIDEO, lost(VIDEO, (9, 0, 6)), gitBranch="other")
+    room.write("b.tbc.json", json.dumps({**json.loads(room.text("b.tbc.json")), "more": [2]}, indent=1))
+    words = drawn(room, "pictures lost")
+    document = json.loads(room.text("a.tbc.json"))
+    del document["fields"][0]["decodeFaults"]
+    room.write("a.tbc.json", json.dumps(document))
+    assert room.run_words(words + " b.tbc")[0] == 1
+    assert [one["seqNo"] for one in entries_of(room.named("out.tbc")) if "decodeFaults" not in one] == [*range(17, 23)]
+    assert re.findall(r'}([^"{}]*){"(?:audio|seq)', room.text("out.tbc.json")) == [", "] * 47

@@ -49,7 +49,7 @@ DETOURS = """
     inserted | NTSC f1..100 f41..60 f101..112 B e113..135 f135x3 f136..144 B | no breaks lost
         | said no: 1 detour (fields 251 to 300 show pictures 41 to 60); fields 1 to 418 are 2 fields more than their..
     inserted | NTSC f1..100 f41..60 f101..200 -302 +339=B
-        | said no: at least 1 field lost; 1 jump (with fields too many); 1 detour (fields 251 to 300 show pictures 41 to..
+        | said no: at least 1 field lost; 1 jump (with fields too many); 1 detour (fields 251 to 300 show..
     inserted | b1..200 b41..60 b201..219 b220 -/#220/#220 b221..400 | no breaks lost | reasons detours, off
     replaced | 1..60 40061..40070 71..140 | no lost breaks unread | missing 61-70 undecided | doubtful x20 | count 130
         | said can't tell: fields 121 to 140 show pictures 40061 to 40070, misread or played in the place of others; 1..

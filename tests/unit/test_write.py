@@ -126,19 +126,6 @@ def test_two_worn_captures_make_one_whole_side(room):
         [row[3], row[4], row[5], row[6], row[7]] for row in rows if row[3]]
 
 
-def test_what_is_around_the_fields_is_the_first_captures(room):
-    """And padding has what the first one's first field has."""
-    draw(room.named("b.tbc"), VIDEO, lost(VIDEO, (9, 0, 6)), gitBranch="other")
-    room.write("b.tbc.json", json.dumps({**json.loads(room.text("b.tbc.json")), "more": [2]}, indent=1))
-    words = drawn(room, "pictures lost")
-    document = json.loads(room.text("a.tbc.json"))
-    del document["fields"][0]["decodeFaults"]
-    room.write("a.tbc.json", json.dumps(document))
-    assert room.run_words(words + " b.tbc")[0] == 1
-    assert [one["seqNo"] for one in entries_of(room.named("out.tbc")) if "decodeFaults" not in one] == [*range(17, 23)]
-    assert re.findall(r'}([^"{}]*){"(?:audio|seq)', room.text("out.tbc.json")) == [", "] * 47
-
-
 def test_sound_that_one_lacks_is_left_out(room):
     words = drawn(room, "each lacks others")
     os.unlink(room.named("b.pcm"))
