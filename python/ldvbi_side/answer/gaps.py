@@ -119,7 +119,8 @@ class _Known:
         return bisect.bisect(self.open, gap.from_) < bisect.bisect_left(self.open, gap.to)
 
     def fate(self, gap: Gap) -> Optional[str]:
-        """Which of the lists of `Gaps` has it; None of a still. An open one counts if it is known here to be a loss."""
+        """Which of the lists of `Gaps` has it; None of a still. An open one of times is a loss, unless an unknown clock
+        may have left out its numbers."""
         # the library takes a number that is the same before and after lead-out for one that stays
         if gap.kind == GapKind.joined or _around(gap) in self.joins:
             return "joins"
@@ -153,9 +154,11 @@ class _Known:
     def _is_video(self, gap):
         """Whether a film may have video there, with two fields to each picture: it has fields for all of that. If a
         number stands between that is one off, it looks like a still with the one before or after it."""
+        if self.judged.pace != JudgedPace.film or gap.kind != GapKind.lost:
+            return False
         count, (after, before) = 2 * (gap.to - gap.from_), _around(gap)
         spans = self.begins.get(before, after) - after, before - self.ends.get(after, before)
-        return gap.kind == GapKind.lost and (before - after >= count or count in spans)
+        return before - after >= count or count in spans
 
     def _is_still(self, gap):
         """Whether a picture that stands still beside it may have stood longer than its number was read: by whole
