@@ -112,8 +112,7 @@ int main(int count, char **words) {
                                         fields, numbers, fields, ends, fields, gaps, fields, &found));
         check(ldvbi_set_aside(system, counted, pace, LDVBI_FIND_BOTH, &clock, gaps, found.tally.gaps, numbers, fields,
                               left, fields, &aside));
-        if (clock.kind != LDVBI_PLAIN || system != LDVBI_NTSC || counted != LDVBI_TIMES) continue;
-        /* a few minutes don't show enough of drop-frame: if no clock is found, what is whole by that is whole */
+        /* a few minutes don't show enough of drop-frame: what is whole by that is whole */
         clock.kind = LDVBI_DROP_FRAME;
         check(ldvbi_judge_side_by_clock(system, counted, pace, LDVBI_FIND_BOTH, (uint32_t)may_end, &clock, seen,
                                         fields, numbers, fields, ends, fields, NULL, 0, &dropped));

@@ -85,7 +85,7 @@ run extract $ntsc worn.tbc
 check 'a worn side: no line shows its word' [ "$(jq -c '[.fields[].vbi.vbiData[]] | [length, add]' out)" = '[144,0]' ]
 mkdir folder.tbc
 ln -s /dev/null null.tbc
-bounded python3 "$tests/cli/answers.py" draw misread clock slow rare away dark few || exit 1
+bounded python3 "$tests/cli/answers.py" draw misread clock slow rare away dark few even || exit 1
 does sh "$top/examples/side.sh" ./missing
 check 'side.sh without its program' [ "$status" = 127 ]
 bounded sh "$top/examples/side.sh" "$program"
@@ -98,11 +98,11 @@ for part in stops_4_478659 stops_5_0 stops_5_1 stops_8_32760 ten_18_478659 ten_2
     head -c $((478660 * ${fields%_*} + ${fields#*_})) ${part%%_*}.tbc > $part.tbc
 done
 # The settings of all, as players take them: metadata, and the first rows of a map
-for side in nowhere folder null empty cav side stops both scant misread worn long reach \
+for side in nowhere folder null empty cav side stops both misread worn long reach clock gaps \
     stops_4_478659 stops_5_0 ten_18_478659; do
     settles $side $on_cav
 done
-for side in clv sparse; do settles $side $on_clv; done
+for side in clv sparse rare; do settles $side $on_clv; done
 
 # A line that shows a picture, a line without a word, one that shows a chapter, and one that lacks a byte
 while read -r field line bytes ending said; do
@@ -169,26 +169,29 @@ $stops|2||cav|NTSC -1 51200;NTSC 1x 51200;NTSC 1~ 51200;NTSC '' 51200;NTSC 00000
 $stops|2||cav|NTSC 16384 4294967297;NTSC 16384 xyz;NTSC 16384 99999999999999999999|white is not a whole number
 $player|1|search: field 65 picture 30;play: field 97 picture 46;search: field 21 picture 7;play: field 33 picture 17\
 ;still: field 33 picture 17;search: not found, field 109 picture 52;still: field 109 picture 52\
-;search: not found, field 25 picture 9|side|@ search 30 play search 7 play still search 79999 still search 10|
+;search: not found, field 25 picture 9;search: not found, field 27 picture 14|side\
+|@ search 30 play search 7 play still search 79999 still search 10 search 13|
 $player|1|next: field 10;chapter: field 36;next: field 78;next: not found;previous: field 36;previous: field 10\
 ;chapter: not found|side|@ next chapter 1 next next previous previous chapter 3|
 $player|1|search: field 7 picture 4;play: field 8;play: field 9 picture 5;play: not found|stops\
 |@ search 4 play play play|
 $player|1|play: field 2;play: field 3 picture 2;play: field 5 picture 3;play: not found|both|@ play play play play|
-$player|0|play: field 23 picture 112;play: field 35 picture 118|misread|@ play play|
+$player|1|play: field 23 picture 112;play: field 35 picture 118;search: not found, field 1 picture 101|misread\
+|@ play play search 5|
 $player|0|search: field 23 picture 12;play: field 39 picture 20|worn|@ search 12 play|
 $player|0|search: field 65 picture 33|long|@ search 33|
-$player|1|play: field 5;play: not found|stops_5_0|@ play play|
-$player|1|chapter: not found, field 1|reach|@ chapter 1|
+$player|1|still: field 1;play: field 5;play: not found|stops_5_0|@ still play play|
+$player|1|chapter: not found, field 1;chapter: field 1|reach|@ chapter 1 chapter 2|
 $player|0|play: field 29 picture 15|sparse|@ play|
-$player|0|still: field 1|scant|@ still|
+$player|0|search: field 25|rare|@ search 0:04:00.00|
+$player|0|search: field 5;search: field 29|clock|@ search 0:59:59.20 search 1:00:00.04|
 $player|0|next: field 14;play: field 29 picture 15;play: field 38;next: field 60;search: field 39 picture 20\
 ;next: field 1;search: field 13 picture 7;next: field 14|reach|@ next play play next search 20 next search 7 next|
-$player|1|search: field 75 picture 38;play: field 125;next: not found;previous: field 60|reach\
-|@ search 38 play next previous|
+$player|1|search: field 75 picture 38;play: field 125;next: not found;previous: field 60;previous: field 14|reach\
+|@ search 38 play next previous previous|
 $player|1|search: not found|clv|@ search 3;@ search 9:59:59.24|
-$player|1|search: not found|cav|@ search 9:59:59.29|
-$player|1|chapter: not found|cav|@ chapter 79|
+$player|1|search: not found;chapter: not found|cav|@ search 9:59:59.29 chapter 79|
+$player|1|search: not found, field 9 picture 5;search: not found, field 11 picture 101|gaps|@ search 53 search 54|
 $player|1|search: not found, field 17 picture 9|ten_18_478659|@ search 10|
 $player|1|play: not found|stops_4_478659|@ play|
 player|2||cav|@|usage: player FILE MAP search PLACE|chapter N|next|previous|play|still ..
@@ -213,10 +216,9 @@ $seek $stops $whole|2||cav|NTSC 51200 16384 &;NTSC 16384 16384 &;NTSC 65535 6553
 $stops whole|2||cav|NTSC 16384 65536|$low*
 whole|2||cav|NTSC -1 2;NTSC 1x 2;NTSC 1~ 2;NTSC '' 2;NTSC 0000000001 2;NTSC 1 4294967297|a level is not a whole number
 whole.py|2||cav|NTSC -1 51200;NTSC 16384x 51200;NTSC 16384 65536;NTSC 16384 4294967297;NTSC 16384 xyz|*
-$whole|0|whole: yes|cav|@;@ cut;NTSC 000016384 000051200|
-$whole|0|whole: yes|ten;worn|@ cut|
-$whole|0|whole: yes|ten|@|
-$whole|0|whole: yes|few|@ cut|
+$whole|0|whole: yes|cav;ten|@;@ cut;NTSC 000016384 000051200|
+$whole|0|whole: yes|worn;few;even|@ cut|
+$whole|1|whole: no: fields are lost, $off, no lead-out;lost 4: field 3600 has 1799, field 3601 has 1802|few|@|
 $whole|4|whole: can't tell: no lead-out|ten_18_478659;ten_20_478659|@|
 $whole|4|whole: can't tell: no numbers|clv;stops_4_478659|@|
 $whole|4|whole: can't tell: its beginning isn't seen|late|@ cut|
@@ -240,8 +242,7 @@ $whole|1|whole: no: fields are lost, $off, no lead-out;$gaps;gaps left out: 1|ga
 $whole|1|whole: no: fields are lost, $off, no lead-out;$gaps|gaps_110_0|@|
 $whole|2||cav|NTSC 16384;@ cut cut;@ whole|usage: % FILE NTSC|PAL BLACK WHITE [cut]
 END
-status=0
-bounded python3 "$here/examples.py" < rows > out 2> err || status=$?
+bounded python3 "$here/examples.py" < rows > out 2> err; status=$?
 check "examples answer as the table has it" [ "$status" = 0 ]
 counted 'examples: run'
 
@@ -342,9 +343,8 @@ for half_cell in 1 0.82; do
         check "pixels: lines of $system at 13.5 MHz, half cells of $half_cell microseconds" \
             prints 0 "$(cat pixels.txt)" sh -c "./pixels $system 16 235 < lines.y8"
         bounded python3 "$here/resampled.py" $system < lines.y8 > resampled
-        rm -f rows.advice
-        bounded env ADVISED=rows.advice LD_PRELOAD="$work/advised.so" ./pixels $system 16 235 < lines.y8 > out
-        check "pixels: each sample of $system, half cells of $half_cell microseconds" cmp rows.advice resampled
+        bounded env ADVISED=$system.$half_cell LD_PRELOAD="$work/advised.so" ./pixels $system 16 235 < lines.y8 > out
+        check "pixels: each sample of $system, half cells of $half_cell microseconds" cmp $system.$half_cell resampled
     done
 done
 head -c 1 lines.y8 > part.y8
