@@ -43,7 +43,7 @@ stops|$ntsc|- F00001 F00001;- 800DDD 800DDD;- F00002 F00007;- 800DDD 800DDD;82CF
 marks|$pal|8AE000 87FFFF F0DD00;- 800DDD 800DDD;8AE001 F0DD00 F0DD00;8AE002 F0DD00 F0DD01;8AE003 87FFFF F1DD09
 END
 # Sides of ten pictures in order, and lead-out; of twelve parts of five pictures, with a gap between two of these; of
-# thirteen runs of five, of which each second one is misread; on which numbers go back, another side begins, the
+# thirteen runs of five times, of which each second one is misread; on which numbers go back, another side begins, the
 # beginning isn't seen, or a field is swapped; and of 129 fields, with all numbers; with few, so that the number of a
 # stop is due 24 fields before one which another supports 24 fields on; and with chapters 24 fields before a stop, and a
 # stop in lead-out
@@ -53,7 +53,11 @@ awk 'function draw(side, first, last) {
 BEGIN {
     draw("ten", 1, 10); print "- 80EEEE 80EEEE" > "ten.words"
     for (part = 0; part < 12; part++) draw("gaps", 100 * part + 1, 100 * part + 5)
-    for (run = 0; run < 13; run++) draw("runs", 5 * run + run % 2 * 40000 + 1, 5 * run + run % 2 * 40000 + 5)
+    for (run = 0; run < 13; run++) for (picture = 1; picture <= 5; picture++) {
+        time = 5 * run + run % 2 * 40000 + picture
+        second = sprintf("8%cE%d%02d", 65 + int(time / 250) % 6, int(time / 25) % 10, time % 25)
+        printf "%s 87FFFF F0DD%02d\n- - -\n", second, int(time / 1500) > "runs.words"
+    }
     draw("back", 1, 9); draw("back", 4, 12)
     draw("joined", 1, 9); print "- 80EEEE 80EEEE\n- 80EEEE 80EEEE" > "joined.words"; draw("joined", 1, 9)
     for (field = 1; field <= 101; field++) print "- - -" > "late.words"
@@ -69,10 +73,8 @@ BEGIN {
         print line (field % 2 && field > 1 && field < 120 ? number " -" : chapter " " chapter) > "reach.words"
     }
 }'
-for name in ten gaps runs back joined late swapped long reach; do
-    output_of draw $ntsc $name.words > $name.tbc
-done
-output_of draw $pal sparse.words > sparse.tbc
+for name in ten gaps back joined late swapped long reach; do output_of draw $ntsc $name.words > $name.tbc; done
+for name in sparse runs; do output_of draw $pal $name.words > $name.tbc; done
 # A worn side, where no line shows its word: whoever finds one has recovered it. A stop on line 16 alone isn't enough.
 awk 'BEGIN { for (picture = 1; picture <= 24; picture++) {
     worn = " @170-174L"
@@ -99,9 +101,7 @@ for part in stops_4_478659 stops_5_0 stops_5_1 stops_8_32760 ten_18_478659 ten_2
 done
 # The settings of all, as players take them: metadata, and the first rows of a map
 for side in nowhere folder null empty cav side stops both misread worn long reach clock gaps \
-    stops_4_478659 stops_5_0 ten_18_478659; do
-    settles $side $on_cav
-done
+    stops_4_478659 stops_5_0 ten_18_478659; do settles $side $on_cav; done
 for side in clv sparse rare; do settles $side $on_clv; done
 
 # A line that shows a picture, a line without a word, one that shows a chapter, and one that lacks a byte
