@@ -85,6 +85,5 @@ int main(int count, char **words) {
     if (system == 0) return refuse(ldvbi_status_text(LDVBI_BAD_SYSTEM));
     if (!parse_level(words[2], &black)) return refuse("black is not a whole number from 0 to 255");
     if (!parse_level(words[3], &white)) return refuse("white is not a whole number from 0 to 255");
-    if (black >= white) return refuse(ldvbi_status_text(LDVBI_BAD_LEVELS));
     return print_fields(system, black, white);
 }

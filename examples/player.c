@@ -14,7 +14,7 @@
 #include <unistd.h>
 typedef struct { uint32_t system, black, white; const uint8_t *bytes; size_t length, fields; } Side;
 typedef struct { size_t from, count; LdvbiFieldReadings read[LDVBI_PART]; LdvbiSightings seen[LDVBI_PART];
-                 LdvbiNumber shown[LDVBI_PART]; uint32_t states[LDVBI_PART]; } Part;
+                 LdvbiNumber shown[LDVBI_PART]; uint32_t pace, states[LDVBI_PART]; } Part;
 static void require(int holds, const char *fault) { if (!holds) exit((fprintf(stderr, "player: %s\n", fault), 2)); }
 static void check(uint32_t status) { require(status == LDVBI_DONE, ldvbi_status_text(status)); }
 static Side open_side(const char *path, const char *map) {
@@ -44,10 +44,10 @@ static Part read_around(const Side *side, size_t field, size_t reach) { /* and a
 }
 static int has_picture(const Side *side, size_t field, uint32_t *number) {
     Part p = read_around(side, field, 2 * LDVBI_REACH); /* so many that this is the answer of the whole side's judge */
-    check(ldvbi_judge(side->system, LDVBI_PICTURES, LDVBI_FIND_PACE, p.read, p.count, p.seen, p.count, p.shown,
-                      p.count));
-    *number = p.shown[field - p.from].number;
-    return p.shown[field - p.from].state == LDVBI_BELIEVED || p.shown[field - p.from].state == LDVBI_DUE;
+    LdvbiNumber shown;
+    check(ldvbi_find_pace(side->system, LDVBI_PICTURES, p.read, p.count, p.seen, p.count, &p.pace));
+    check(ldvbi_judge_field(side->system, LDVBI_PICTURES, p.pace, p.read, p.count, field - p.from, &shown));
+    return *number = shown.number, shown.state == LDVBI_BELIEVED || shown.state == LDVBI_DUE;
 }
 /* ---- Where commands lead: to a field, or to the count of all fields */
 static int chapter_of(const Side *side, size_t field) { /* the last one up to it; 80 in lead-out, -1 before all */

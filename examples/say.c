@@ -14,5 +14,4 @@ int main(void) {
     if (ldvbi_read_line(LDVBI_NTSC, 16384, 51200, line, sizeof line, &reading) == LDVBI_DONE
             && ldvbi_classify(reading.word, &code) == LDVBI_DONE && code.kind == LDVBI_PICTURE)
         printf("picture %u\n", code.first);
-    return 0;
 }

@@ -10,7 +10,7 @@ program=${1:-ldvbi}
 
 # ends CODE: eight fields of lead-in or lead-out
 ends() {
-    for field in 1 2 3 4 5 6 7 8; do
+    for field in $(seq 8); do
         printf -- '- %s %s\n' "$1" "$1"
     done
 }

@@ -155,7 +155,6 @@ int main(int count, char **words) try {
         std::cerr << "stops: the last field is cut: field " << fields.size() + 1 << " has " << length << " of "
                   << field.size() << " bytes\n";
     print_stops(system, fields);
-    return 0;
 } catch (const std::exception &error) {
     std::cerr << "stops: " << error.what() << '\n';
     return 2;

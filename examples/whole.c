@@ -66,7 +66,7 @@ static void print_aside(const LdvbiNumber *numbers, const LdvbiNumber *left, siz
         if (numbers[i].state != left[i].state) printf("aside: field %zu has %u\n", i + 1, (unsigned)numbers[i].number);
 }
 
-/* Prints the answer and the gaps that there was room for. Returns the program's status. */
+/* Prints the answer and the first gaps, ROOM at most. Returns the program's status. */
 static int print(const LdvbiSide *found, const LdvbiGap *gaps) {
     int is_whole = found->verdict == LDVBI_WHOLE, is_told = found->verdict != LDVBI_CANNOT_TELL;
     printf("whole: %s", is_whole ? "yes" : is_told ? "no" : "can't tell");
@@ -88,18 +88,19 @@ int main(int count, char **words) {
     uint32_t black = parse_number(words[3]), white = parse_number(words[4]), pace;
     check(ldvbi_recover_fields(system, black, white, NULL, 0, NULL, 0)); /* no fields: tests the numbers */
     int file = open(words[1], O_RDONLY);
-    size_t bytes = ldvbi_field_bytes(system), fields = (size_t)lseek(file, 0, SEEK_END) / bytes;
+    size_t bytes = ldvbi_field_bytes(system), fields = (size_t)lseek(file, 0, SEEK_END) / bytes, aside;
     void *side = mmap(NULL, fields * bytes, PROT_READ, MAP_SHARED, file, 0);
     LdvbiFieldReadings *read = (LdvbiFieldReadings *)calloc(fields, sizeof *read);
     LdvbiSightings *seen = (LdvbiSightings *)calloc(fields, sizeof *seen);
     LdvbiNumber *numbers = (LdvbiNumber *)calloc(fields, sizeof *numbers);
     uint32_t *ends = (uint32_t *)calloc(fields, sizeof *ends);
     LdvbiNumber *left = (LdvbiNumber *)calloc(fields, sizeof *left);
-    require(side != MAP_FAILED && read && seen && numbers && left && ends, "no field of the file can be mapped");
+    LdvbiGap *gaps = (LdvbiGap *)calloc(fields, sizeof *gaps);
+    require(side != MAP_FAILED && read && seen && numbers && ends && left && gaps,
+            "no field of the file can be mapped");
     madvise(side, fields * bytes, MADV_RANDOM); /* few pages of a field are read: read none ahead */
     read_side(system, black, white, (uint8_t *)side, fields, read);
     check(ldvbi_judge_ends(read, fields, ends, fields));
-    LdvbiGap gaps[ROOM];
     LdvbiClock clock;
     LdvbiSide found, dropped;
     found.reasons = LDVBI_NO_NUMBERS;
@@ -108,12 +109,10 @@ int main(int count, char **words) {
         check(ldvbi_judge(system, counted, pace, read, fields, seen, fields, numbers, fields));
         check(ldvbi_find_clock(system, counted, pace, LDVBI_FIND_BOTH, numbers, fields, &clock));
         check(ldvbi_judge_side_by_clock(system, counted, pace, LDVBI_FIND_BOTH, (uint32_t)may_end, &clock, seen,
-                                        fields, numbers, fields, ends, fields, gaps, ROOM, &found));
-        size_t told = found.tally.gaps < ROOM ? found.tally.gaps : (size_t)ROOM, aside;
-        check(ldvbi_set_aside(system, counted, pace, LDVBI_FIND_BOTH, &clock, gaps, told, numbers, fields, left,
-                              fields, &aside));
-        if (clock.kind != LDVBI_PLAIN || system != LDVBI_NTSC || counted != LDVBI_TIMES) continue;
-        /* a few minutes don't show enough of drop-frame: if no clock is found, what is whole by that is whole */
+                                        fields, numbers, fields, ends, fields, gaps, fields, &found));
+        check(ldvbi_set_aside(system, counted, pace, LDVBI_FIND_BOTH, &clock, gaps, found.tally.gaps, numbers, fields,
+                              left, fields, &aside));
+        /* a few minutes don't show enough of drop-frame: what is whole by that is whole */
         clock.kind = LDVBI_DROP_FRAME;
         check(ldvbi_judge_side_by_clock(system, counted, pace, LDVBI_FIND_BOTH, (uint32_t)may_end, &clock, seen,
                                         fields, numbers, fields, ends, fields, NULL, 0, &dropped));

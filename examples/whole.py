@@ -51,10 +51,10 @@ def main():
     for gap in found.gaps[:ROOM]:
         print("%s %d: field %d has %d, field %d has %d" % (
             gap.kind.name, gap.fields, gap.after + 1, gap.from_, gap.before + 1, gap.to))
-    for field in found.aside:  # what it shows stands in the place of another number
-        print("aside: field %d has %d" % (field + 1, found.numbers[field].number))
     if len(found.gaps) > ROOM:
         print("gaps left out: %d" % (len(found.gaps) - ROOM))
+    for field in found.aside:  # what it shows stands in the place of another number
+        print("aside: field %d has %d" % (field + 1, found.numbers[field].number))
     return status
 
 

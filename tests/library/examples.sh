@@ -22,7 +22,7 @@ whole='whole whole.py'
 for name in say seek stops player whole pixels; do
     bounded $cc -std=c99 $strict -o $name "$top/examples/$name.c" $linked
 done
-bounded $cxx -std=c++17 $strict -D_GLIBCXX_ASSERTIONS -o stops_cpp "$top/examples/stops.cpp" $linked
+bounded $cxx -std=c++17 $strict -D_GLIBCXX_DEBUG -o stops_cpp "$top/examples/stops.cpp" $linked
 for most in player.c:120 seek.c:80; do
     check "${most%:*} has at most ${most#*:} lines" [ "$(wc -l < "$top/examples/${most%:*}")" -le ${most#*:} ]
 done
@@ -35,23 +35,29 @@ while IFS='|' read -r name options rows; do
     echo "$rows" | tr ';' '\n' | bounded "$program" draw $options - > $name.tbc
 done << END
 scant|$ntsc|- F00001 F00001;- 800DDD 800DDD;- F00002 F00007
-differ|$ntsc|82CFFF F00002 F00007;82CFFF F00003 F00003
+differ|$ntsc|82CFFF F00009 -;82CFFF F00002 F00007;82CFFF F00003 F00003
 both|$ntsc|- F00001 F00001;82CFFF - -;82CFFF F00002 F00002;82CFFF F00002 F00002;82CFFF F00003 F00003;82CFFF - -\
 ;- F00004 -;- F00004 -
 stops|$ntsc|- F00001 F00001;- 800DDD 800DDD;- F00002 F00007;- 800DDD 800DDD;82CFFF 82CFFF F00003;- 801DDD 801DDD\
 ;- F00004 -;82CFFF 801DDD 801DDD;82CFFF F00005 F00005;- 802DDD 802DDD;- - 82CFFF;80EEEE 80EEEE 80EEEE
 marks|$pal|8AE000 87FFFF F0DD00;- 800DDD 800DDD;8AE001 F0DD00 F0DD00;8AE002 F0DD00 F0DD01;8AE003 87FFFF F1DD09
 END
-# Sides of ten pictures in order, and lead-out; of twelve parts of five pictures, with a gap between two of these; on
-# which numbers go back, another side begins, the beginning isn't seen, or a field is swapped; and of 129 fields, with
-# all numbers; with few, so that the number of a stop is due 24 fields before one which another supports 24 fields on;
-# and with chapters 24 fields before a stop, and a stop in lead-out
+# Sides of ten pictures in order, and lead-out; of twelve parts of five pictures, with a gap between two of these; of
+# thirteen runs of five times, of which each second one is misread; on which numbers go back, another side begins, the
+# beginning isn't seen, or a field is swapped; and of 129 fields, with all numbers; with few, so that the number of a
+# stop is due 24 fields before one which another supports 24 fields on; and with chapters 24 fields before a stop, and a
+# stop in lead-out
 awk 'function draw(side, first, last) {
     for (; first <= last; first++) printf "- F%05d F%05d\n- - -\n", first, first > side ".words"
 }
 BEGIN {
     draw("ten", 1, 10); print "- 80EEEE 80EEEE" > "ten.words"
     for (part = 0; part < 12; part++) draw("gaps", 100 * part + 1, 100 * part + 5)
+    for (run = 0; run < 13; run++) for (picture = 1; picture <= 5; picture++) {
+        time = 5 * run + run % 2 * 40000 + picture
+        second = sprintf("8%cE%d%02d", 65 + int(time / 250) % 6, int(time / 25) % 10, time % 25)
+        printf "%s 87FFFF F0DD%02d\n- - -\n", second, int(time / 1500) > "runs.words"
+    }
     draw("back", 1, 9); draw("back", 4, 12)
     draw("joined", 1, 9); print "- 80EEEE 80EEEE\n- 80EEEE 80EEEE" > "joined.words"; draw("joined", 1, 9)
     for (field = 1; field <= 101; field++) print "- - -" > "late.words"
@@ -67,9 +73,8 @@ BEGIN {
         print line (field % 2 && field > 1 && field < 120 ? number " -" : chapter " " chapter) > "reach.words"
     }
 }'
-for name in ten gaps back joined late swapped long sparse reach; do
-    output_of draw $ntsc $name.words > $name.tbc
-done
+for name in ten gaps back joined late swapped long reach; do output_of draw $ntsc $name.words > $name.tbc; done
+for name in sparse runs; do output_of draw $pal $name.words > $name.tbc; done
 # A worn side, where no line shows its word: whoever finds one has recovered it. A stop on line 16 alone isn't enough.
 awk 'BEGIN { for (picture = 1; picture <= 24; picture++) {
     worn = " @170-174L"
@@ -82,7 +87,7 @@ run extract $ntsc worn.tbc
 check 'a worn side: no line shows its word' [ "$(jq -c '[.fields[].vbi.vbiData[]] | [length, add]' out)" = '[144,0]' ]
 mkdir folder.tbc
 ln -s /dev/null null.tbc
-bounded python3 "$tests/cli/answers.py" draw misread clock slow rare away scratch dark few || exit 1
+bounded python3 "$tests/cli/answers.py" draw misread clock slow rare away dark few even || exit 1
 does sh "$top/examples/side.sh" ./missing
 check 'side.sh without its program' [ "$status" = 127 ]
 bounded sh "$top/examples/side.sh" "$program"
@@ -95,11 +100,9 @@ for part in stops_4_478659 stops_5_0 stops_5_1 stops_8_32760 ten_18_478659 ten_2
     head -c $((478660 * ${fields%_*} + ${fields#*_})) ${part%%_*}.tbc > $part.tbc
 done
 # The settings of all, as players take them: metadata, and the first rows of a map
-for side in nowhere folder null empty cav side stops both scant misread worn long sparse reach \
-    stops_4_478659 stops_5_0 ten_18_478659; do
-    settles $side $on_cav
-done
-settles clv $on_clv
+for side in nowhere folder null empty cav side stops both misread worn long reach clock gaps \
+    stops_4_478659 stops_5_0 ten_18_478659; do settles $side $on_cav; done
+for side in clv sparse rare; do settles $side $on_clv; done
 
 # A line that shows a picture, a line without a word, one that shows a chapter, and one that lacks a byte
 while read -r field line bytes ending said; do
@@ -125,10 +128,14 @@ no_system='system is neither NTSC nor PAL'
 gaps=$(awk 'BEGIN { for (part = 0; part < 10; part++)
     printf "%slost 190: field %d has %d, field %d has %d", part ? ";" : "", 10 * part + 9, 100 * part + 5, \
         10 * part + 11, 100 * part + 101 }')
-aside=$(awk 'BEGIN { for (field = 121; field <= 139; field += 2)
-    printf ";aside: field %d has %d", field, 40000 + (field + 1) / 2 }')
+runs=$(awk 'BEGIN {
+    for (run = 0; run < 10; run++) printf "replaced 0: field %d has %d, field %d has %d;", 10 * run + 9, \
+        5 * run + run % 2 * 40000 + 5, 10 * run + 11, 5 * run + (run + 1) % 2 * 40000 + 6
+    printf "gaps left out: 2"
+    for (run = 1; run < 12; run += 2) for (picture = 1; picture <= 5; picture++)
+        printf ";aside: field %d has %d", 10 * run + 2 * picture - 1, 5 * run + 40000 + picture }')
 cat > rows << END
-$seek|0|field 5|stops|@ 3;@ 000000003;NTSC 000016384 000051200 3|
+$seek|0|field 5|stops;stops_8_32760|@ 3;@ 000000003;NTSC 000016384 000051200 3|
 $seek|1|not found|stops|@ 7;@ 79999;@ chapter 79;@ 9:59:59.29|
 $seek|1|not found|scant;marks;clv|@ 1;@ 0:00:00.02;@ chapter 1;@ 9:59:59.24|
 $seek|0|field 23|worn|@ 12|
@@ -136,7 +143,6 @@ $seek|0|field 19|ten|@ 10|
 $seek|0|field 60|reach|@ chapter 79|
 $seek|1|not found|ten_18_478659|@ 10|
 $seek|1|not found|stops_4_478659|@ 3|
-$seek|0|field 5|stops_8_32760|@ 3|
 $seek|2||cav|@;@ chapter 3 4;@ 3 4;@ 3 chapter|usage: % FILE NTSC|PAL BLACK WHITE NUMBER|H:MM:SS.PP|chapter N
 $seek|2||cav|@ xyz;@ 3x;@ 3~;@ -3;@ '';@ 80000;@ 0000000003;@ 4294967299;@ chapter 80;@ chapter -1|$number
 $seek|2||cav|@ chapter 3x;@ chapter 256;@ chapter 0:00:00.00|$number
@@ -144,13 +150,14 @@ $seek|2||cav|NTSC 65536 51200 &;NTSC 16384 65536 &;NTSC -1 51200 &;NTSC 16384x 5
 $seek|2||cav|@ 0:00:60.00;@ 0:60:00.00;@ 0:00:00.30;@ 10:00:00.00;@ 0:00:00;@ 0:00:00.00.00|no time of a disc
 $seek|2||cav|@ 0:00:00.0x;@ 0:00:00.0~;@ 0:+1:00.00|no time of a disc
 $seek|2||clv|@ 0:00:00.25|no time of a disc
-$seek|2||empty|NTSC 51200 16384 3|$low*
+$seek $stops|2||empty|NTSC 51200 16384 &|$low*
 seek player whole|2||nowhere;folder;null;empty|@ &|no field of the file can be mapped
 seek.py player.py whole.py|2||nowhere;folder;null|@ &|*
 player.py whole.py|2||empty|@ &|no field in empty.tbc
 $stops|0|0 stops|clv;empty|@|
 $stops|0|field 5 picture 3;field 8;field 9 picture 5;3 stops|stops|@;NTSC 000016384 000051200|
-$stops|0|field 1;field 2 picture 3;2 stops|differ|@|
+$stops|0|field 29 picture 15;field 38;field 125;3 stops|sparse|@|
+$stops|0|field 1 picture 9;field 2;field 3 picture 3;3 stops|differ|@|
 $stops|0|field 3 picture 2;field 21 picture 11;field 39 picture 20;3 stops|worn|@|
 $stops|0|0 stops|stops_4_478659|@|$cut 5 has 478659 of 478660 bytes
 $stops|0|field 5 picture 3;1 stops|stops_5_0|@|
@@ -158,33 +165,33 @@ $stops|0|field 5 picture 3;1 stops|stops_5_1|@|$cut 6 has 1 of 478660 bytes
 stops|2||folder|@|Is a directory
 stops_cpp|2||folder|@|standard input: Is a directory
 $stops|2||cav|NTSC 16384;@ cav.tbc|usage: stops NTSC|PAL BLACK WHITE < FILE
-$stops|2||cav|NTSC -1 51200;NTSC 16384x 51200;NTSC 16384~ 51200|black is not a whole number
-$stops|2||cav|NTSC '' 51200;NTSC 0000016384 51200|black is not a whole number
+$stops|2||cav|NTSC -1 51200;NTSC 1x 51200;NTSC 1~ 51200;NTSC '' 51200;NTSC 0000016384 51200|black is not a whole number
 $stops|2||cav|NTSC 16384 4294967297;NTSC 16384 xyz;NTSC 16384 99999999999999999999|white is not a whole number
 $player|1|search: field 65 picture 30;play: field 97 picture 46;search: field 21 picture 7;play: field 33 picture 17\
 ;still: field 33 picture 17;search: not found, field 109 picture 52;still: field 109 picture 52\
-;search: not found, field 25 picture 9|side|@ search 30 play search 7 play still search 79999 still search 10|
-$player|1|chapter: field 36;next: field 78;next: not found;previous: field 36;previous: field 10;chapter: not found\
-|side|@ chapter 1 next next previous previous chapter 3|
+;search: not found, field 25 picture 9;search: not found, field 27 picture 14|side\
+|@ search 30 play search 7 play still search 79999 still search 10 search 13|
+$player|1|next: field 10;chapter: field 36;next: field 78;next: not found;previous: field 36;previous: field 10\
+;chapter: not found|side|@ next chapter 1 next next previous previous chapter 3|
 $player|1|search: field 7 picture 4;play: field 8;play: field 9 picture 5;play: not found|stops\
 |@ search 4 play play play|
 $player|1|play: field 2;play: field 3 picture 2;play: field 5 picture 3;play: not found|both|@ play play play play|
-$player|0|play: field 23 picture 112;play: field 35 picture 118|misread|@ play play|
+$player|1|play: field 23 picture 112;play: field 35 picture 118;search: not found, field 1 picture 101|misread\
+|@ play play search 5|
 $player|0|search: field 23 picture 12;play: field 39 picture 20|worn|@ search 12 play|
 $player|0|search: field 65 picture 33|long|@ search 33|
-$player|0|next: field 10|side|@ next|
-$player|1|play: field 5;play: not found|stops_5_0|@ play play|
-$player|1|chapter: not found, field 1|reach|@ chapter 1|
+$player|1|still: field 1;play: field 5;play: not found|stops_5_0|@ still play play|
+$player|1|chapter: not found, field 1;chapter: field 1|reach|@ chapter 1 chapter 2|
 $player|0|play: field 29 picture 15|sparse|@ play|
-$player|0|still: field 1|scant|@ still|
-$player|0|next: field 14;play: field 29 picture 15;play: field 38;next: field 60|reach|@ next play play next|
-$player|0|search: field 39 picture 20;next: field 1|reach|@ search 20 next|
-$player|0|search: field 13 picture 7;next: field 14|reach|@ search 7 next|
-$player|1|search: field 75 picture 38;play: field 125;next: not found;previous: field 60|reach\
-|@ search 38 play next previous|
+$player|0|search: field 25|rare|@ search 0:04:00.00|
+$player|0|search: field 5;search: field 29|clock|@ search 0:59:59.20 search 1:00:00.04|
+$player|0|next: field 14;play: field 29 picture 15;play: field 38;next: field 60;search: field 39 picture 20\
+;next: field 1;search: field 13 picture 7;next: field 14|reach|@ next play play next search 20 next search 7 next|
+$player|1|search: field 75 picture 38;play: field 125;next: not found;previous: field 60;previous: field 14|reach\
+|@ search 38 play next previous previous|
 $player|1|search: not found|clv|@ search 3;@ search 9:59:59.24|
-$player|1|search: not found|cav|@ search 9:59:59.29|
-$player|1|chapter: not found|cav|@ chapter 79|
+$player|1|search: not found;chapter: not found|cav|@ search 9:59:59.29 chapter 79|
+$player|1|search: not found, field 9 picture 5;search: not found, field 11 picture 101|gaps|@ search 53 search 54|
 $player|1|search: not found, field 17 picture 9|ten_18_478659|@ search 10|
 $player|1|play: not found|stops_4_478659|@ play|
 player|2||cav|@|usage: player FILE MAP search PLACE|chapter N|next|previous|play|still ..
@@ -207,13 +214,11 @@ $player|2||cav|@ stop|no such command
 $seek $stops $whole|2||cav|SECAM 16384 51200 &;pal 1 2 &;1 16384 51200 &|$no_system
 $seek $stops $whole|2||cav|NTSC 51200 16384 &;NTSC 16384 16384 &;NTSC 65535 65535 &|$low*
 $stops whole|2||cav|NTSC 16384 65536|$low*
-whole|2||cav|NTSC -1 51200;NTSC 16384x 51200;NTSC 16384~ 51200;NTSC '' 51200|a level is not a whole number
-whole|2||cav|NTSC 0000016384 51200;NTSC 16384 4294967297;NTSC 16384 xyz|a level is not a whole number
+whole|2||cav|NTSC -1 2;NTSC 1x 2;NTSC 1~ 2;NTSC '' 2;NTSC 0000000001 2;NTSC 1 4294967297|a level is not a whole number
 whole.py|2||cav|NTSC -1 51200;NTSC 16384x 51200;NTSC 16384 65536;NTSC 16384 4294967297;NTSC 16384 xyz|*
-$whole|0|whole: yes|cav|@;@ cut;NTSC 000016384 000051200|
-$whole|0|whole: yes|ten;worn|@ cut|
-$whole|0|whole: yes|ten|@|
-$whole|0|whole: yes|few|@ cut|
+$whole|0|whole: yes|cav;ten|@;@ cut;NTSC 000016384 000051200|
+$whole|0|whole: yes|worn;few;even|@ cut|
+$whole|1|whole: no: fields are lost, $off, no lead-out;lost 4: field 3600 has 1799, field 3601 has 1802|few|@|
 $whole|4|whole: can't tell: no lead-out|ten_18_478659;ten_20_478659|@|
 $whole|4|whole: can't tell: no numbers|clv;stops_4_478659|@|
 $whole|4|whole: can't tell: its beginning isn't seen|late|@ cut|
@@ -232,14 +237,12 @@ $whole|1|whole: no: too many fields, it begins late, $off, many numbers are in d
 $whole|1|whole: no: it begins late, fields may be lost;open 4: field 23 has 107999, field 25 has 108002|clock|@ cut|
 $whole|1|whole: no: fields don't belong there;inserted 40: field 359 has 180, field 361 has 381\
 ;inserted 0: field 399 has 400, field 401 has 181|away|@ cut|
-$whole|4|whole: can't tell: fields may be lost;replaced 0: field 119 has 60, field 121 has 40061\
-;replaced 0: field 139 has 40070, field 141 has 71$aside|scratch|@ cut|
+$whole|4|whole: can't tell: fields may be lost;$runs|runs|@ cut|
 $whole|1|whole: no: fields are lost, $off, no lead-out;$gaps;gaps left out: 1|gaps|@|
 $whole|1|whole: no: fields are lost, $off, no lead-out;$gaps|gaps_110_0|@|
 $whole|2||cav|NTSC 16384;@ cut cut;@ whole|usage: % FILE NTSC|PAL BLACK WHITE [cut]
 END
-status=0
-bounded python3 "$here/examples.py" < rows > out 2> err || status=$?
+bounded python3 "$here/examples.py" < rows > out 2> err; status=$?
 check "examples answer as the table has it" [ "$status" = 0 ]
 counted 'examples: run'
 
@@ -340,14 +343,13 @@ for half_cell in 1 0.82; do
         check "pixels: lines of $system at 13.5 MHz, half cells of $half_cell microseconds" \
             prints 0 "$(cat pixels.txt)" sh -c "./pixels $system 16 235 < lines.y8"
         bounded python3 "$here/resampled.py" $system < lines.y8 > resampled
-        rm -f rows.advice
-        bounded env ADVISED=rows.advice LD_PRELOAD="$work/advised.so" ./pixels $system 16 235 < lines.y8 > out
-        check "pixels: each sample of $system, half cells of $half_cell microseconds" cmp rows.advice resampled
+        bounded env ADVISED=$system.$half_cell LD_PRELOAD="$work/advised.so" ./pixels $system 16 235 < lines.y8 > out
+        check "pixels: each sample of $system, half cells of $half_cell microseconds" cmp $system.$half_cell resampled
     done
 done
 head -c 1 lines.y8 > part.y8
-check 'pixels: no line' answers_so pixels 0 '' '' './pixels NTSC 16 235'
-check 'pixels: levels of as many digits, and the highest' answers_so pixels 0 '' '' './pixels NTSC 016 255'
+check 'pixels: no line, and levels of one digit to three' \
+    answers_so pixels 0 '' '' './pixels NTSC 0 10 && ./pixels NTSC 016 255'
 while IFS='|' read -r words said; do
     check "pixels: $words" answers_so pixels 2 '' "$said" "./pixels $words"
 done << END
@@ -361,10 +363,8 @@ NTSC 16~ 235|black is not a whole number from 0 to 255
 NTSC '' 235|black is not a whole number from 0 to 255
 NTSC 0016 235|black is not a whole number from 0 to 255
 NTSC 16 256|white is not a whole number from 0 to 255
-NTSC 16 51200|white is not a whole number from 0 to 255
-NTSC 16 x|white is not a whole number from 0 to 255
-NTSC 235 16|$low, or one of them is above 65535
-NTSC 16 16|$low, or one of them is above 65535
+NTSC 235 16 < lines.y8|$low, or one of them is above 65535
+NTSC 16 16 < lines.y8|$low, or one of them is above 65535
 END
 
 # What a system may lack: room on a disk, memory, standard input, or the end of a file, now or when it is read; and the
@@ -388,4 +388,12 @@ stops|the library has another interface|$lacking=interface ./stops $on_cav
 stops_cpp|the library has another interface|$lacking=interface ./stops_cpp $on_cav
 pixels|the library has another interface|$lacking=interface ./pixels NTSC 16 235
 END
+
+# None writes or reads where it has no room, or a sanitizer would say so.
+for asked in 'pixels NTSC 16 235 < lines.y8' "whole side.tbc $on_cav" \
+    'player side.tbc side.map search 0:00:00.00 search 30 play chapter 1 next previous'; do
+    bounded $cc -std=c99 $strict -fsanitize=address,undefined -o guarded "$top/examples/${asked%% *}.c" $linked
+    does env ASAN_OPTIONS=detect_leaks=0 sh -c "./guarded ${asked#* }" || :
+    check "${asked%% *} keeps to the room that it has" [ ! -s err ]
+done
 finish
