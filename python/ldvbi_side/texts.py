@@ -1,6 +1,6 @@
 """What the reasons of an answer, the summary and a page say of a side in the same words."""
 
-from typing import Dict, Optional
+from typing import Any, Dict, Optional
 
 from .answer.entries import Answer, Lost
 from .judge.detours import Detour
@@ -11,6 +11,16 @@ UNITS: Dict[Optional[str], str] = {"picture": "pictures", "time": "times", "minu
 def counted(count: int, name: Optional[str]) -> str:
     """A count with its name, in the plural unless it is 1."""
     return "%d %s%s" % (count, name, "" if count == 1 else "s")
+
+
+def span(first: Any, last: Any) -> str:
+    """Two numbers as text, or one if they are the same."""
+    return str(first) if first == last else "%s to %s" % (first, last)
+
+
+def fields_text(first: int, last: int) -> str:
+    """The fields from the first to the last, or the one that both are."""
+    return ("field " if first == last else "fields ") + span(first, last)
 
 
 def counted_by(answer: Answer, why: str) -> int:

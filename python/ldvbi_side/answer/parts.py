@@ -27,7 +27,7 @@ def chapters_of(codes: Codes, places: Places, begin: int) -> Tuple[List[Chapter]
     breaks = [field for one in places.breaks for field in (one.after + 1, one.before)]
     breaks += [field for before, after in places.joins for field in (before.field + 1, after.field)]
     # backwards there is one at each end: of a chapter there one picture may be shown
-    breaks += [field for one in places.numbers.speeds if one.line.step != abs(one.line.step)
+    breaks += [field for one in places.numbers.speeds if one.line.step < 0
                for field in (one.first + 1, one.first + 2, one.last, one.last + 2)]
     breaks.sort()
     found = codes.kinds[Kind.chapter]

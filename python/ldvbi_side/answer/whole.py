@@ -9,7 +9,7 @@ from typing import Iterator, List, Optional, Sequence, Tuple, cast
 
 from ldvbi import JudgedSide, Kind, Reason, State
 from ..judge.paces import RATES
-from ..texts import counted, counted_by, detour_text, lost_fields_text
+from ..texts import counted, counted_by, detour_text, fields_text, lost_fields_text
 from .ends import Begin, end_of, ordinal_of
 from .entries import Answer, Ground
 from .gaps import Between, Gaps, is_outside
@@ -187,10 +187,10 @@ def _empty(answer: Answer, begin: Optional[Begin], unseen: Sequence[Tuple[int, i
     end of the side may have no field: then the numbers before the next field aren't there, but the clock may leave out
     these. After the disc's last number there are none."""
     if unseen:
-        yield "unseen", "no number in fields %d to %d%s" % (*unseen[0], _and_more(unseen))
+        yield "unseen", "no number in %s%s" % (fields_text(*unseen[0]), _and_more(unseen))
     end = None if last and last.is_there else end_of(answer)
     for first, to in filter(None, (begin and begin.unread, end)):
-        yield "ends", ("no number in fields %d to %d" % (first, to) if first <= to else
+        yield "ends", ("no number in %s" % fields_text(first, to) if first <= to else
                        "numbers before field %d may be lost, or the disc's clock left them out" % first)
 
 

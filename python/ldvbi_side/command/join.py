@@ -4,12 +4,13 @@ import argparse
 import json
 from typing import Any, Dict, Iterator, List, Optional, Tuple
 
-from ..draw.marks import SKIPPED, fields_text
+from ..draw.marks import SKIPPED
 from ..join.captures import TOGETHER, Capture, capture_of
 from ..join.entries import Dispute, Joined, Lacking, Told
 from ..join.plain import as_json
 from ..outside import printable, say
 from ..side import Side
+from ..texts import fields_text
 from ..write import told
 from ..write.joined import join
 from .chapters import LABELS, joined_spans, write_chapters

@@ -4,10 +4,10 @@ order of the disc or of the side."""
 from typing import Any, Callable, Collection, Iterator, Optional, TypeVar
 
 from ldvbi.codes import LINES, name_of
-from ..draw.marks import OUT_OF_PLACE, SKIPPED, fields_text, other_file, place_text
+from ..draw.marks import OUT_OF_PLACE, SKIPPED, other_file, place_text
 from ..answer.entries import Answer
 from ..levels import options_of
-from ..texts import UNITS, counted, detour_text, lost_text
+from ..texts import UNITS, counted, detour_text, fields_text, lost_text
 
 MOST_LINES = 27
 MOST_LISTED = 4  # places in a line

@@ -7,9 +7,9 @@ from typing import List, Tuple
 from ldvbi.codes import LINES
 from ..answer.entries import Answer
 from ..judge.readings import Fields
+from ..texts import fields_text
 from .axis import Axis
 from .colours import BLANK, DARK_BLUE, DARK_BROWN, DARK_CYAN, DARK_PURPLE, DARK_RED, STONE, TEXT, WORD
-from .marks import fields_text
 from .svg import Svg
 
 # What a line can show, from the top of its band to the bottom: its name and its colour

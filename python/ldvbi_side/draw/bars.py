@@ -4,11 +4,10 @@ numbers its capture has, and which of these are to be taken from it. Below all o
 from typing import Any, Iterable, Iterator, List, Optional, Tuple
 
 from ..join.entries import WHOLE, Joined
-from ..texts import counted
+from ..texts import counted, fields_text, span
 from .axis import BROAD, NARROW, Axis, Form
 from .colours import AXIS, DARK_BLUE, DARK_GREEN, DARK_PURPLE, DARK_RED, LANE, PINK, WORD
 from .curve import AXES, Scale
-from .marks import fields_text, span
 from .svg import Svg, shortened
 
 TITLE_Y, LEGEND_Y, NARROW_LEGEND_Y, BARS_TOP = 28, 54, 14, 76

@@ -6,9 +6,10 @@ from typing import Any, Dict, Iterable, Iterator, List, Optional, Set, Tuple
 
 from ldvbi import Kind
 from ..answer.entries import Answer, Doubt, Extent
+from ..texts import fields_text, span
 from .axis import Axis
 from .colours import CURVE, GRID, PINK
-from .marks import doubt_text, fields_text, span
+from .marks import doubt_text
 from .svg import Svg
 
 RATES = {"NTSC": 30, "PAL": 25}  # numbers of a second

@@ -5,11 +5,11 @@ picture stops, the numbers as a curve, and below it a lane for each kind of thin
 from typing import Optional
 
 from ..side import Side
-from ..texts import counted
+from ..texts import counted, fields_text
 from . import bands, curve
 from .axis import BROAD, NARROW, Axis, Form
 from .colours import AXIS, BROWN, INDIGO, LANE, NAVY, PAPER, RED, TEAL
-from .marks import LANES, Mark, counts_of, fields_text, lanes_of, marks_of, other_file
+from .marks import LANES, Mark, counts_of, lanes_of, marks_of, other_file
 from .svg import Svg, shortened, text_width
 
 # The drawing's own measures, in pixels; axis.py and curve.py have more

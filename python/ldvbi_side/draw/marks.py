@@ -1,11 +1,11 @@
 """The things to look at on a side, as marks: fields, and in words what is there and why. Each list of the answer is a
 lane of the drawing."""
 
-from typing import Any, Dict, List, NamedTuple
+from typing import Dict, List, NamedTuple
 
 from ldvbi.codes import name_of
 from ..answer.entries import Answer, Doubt
-from ..texts import counted_by, detour_text, lost_text
+from ..texts import counted_by, detour_text, fields_text, lost_text, span
 from .colours import AMBER, AXIS, BROWN, INDIGO, ORANGE, PINK, RED, ROSE, SKY, TEAL, VIOLET
 
 # What a reader is told of the answer's `leftOut` and `stray`
@@ -61,19 +61,10 @@ class Mark(NamedTuple):
     text: str
 
 
-def span(first: Any, last: Any) -> str:
-    """Two numbers as text, or one if they are the same."""
-    return str(first) if first == last else "%s to %s" % (first, last)
-
-
 def place_text(after: int, before: int) -> str:
     """Where something is missing: after a field, or before one at the beginning of a side, where there is none
     before."""
     return "after field %d" % after if after else "before field %d" % before
-
-
-def fields_text(first: int, last: int) -> str:
-    return ("field " if first == last else "fields ") + span(first, last)
 
 
 def other_file(answer: Answer) -> bool:
