@@ -5,7 +5,7 @@
 mod drawn;
 
 use drawn::{draw, picture};
-use ldvbi::{Counted, Number, OpenError, Side, SideOptions, System};
+use ldvbi::{Counted, MetaFault, Number, OpenError, Side, SideOptions, System};
 use std::path::{Path, PathBuf};
 use std::{env, fs, process};
 
@@ -87,5 +87,7 @@ fn names_the_file_that_has_a_fault() {
     // One byte more than is allowed
     fs::File::create(folder.join("side.tbc.json")).unwrap().set_len((256 << 20) + 1).unwrap();
     assert_eq!(said(&folder), "side.tbc.json: metadata too large");
+    let fault = Side::open(folder.join("side.tbc")).err();
+    assert!(matches!(fault, Some(OpenError::Metadata { fault: MetaFault::TooLarge, .. })));
     fs::remove_dir_all(folder).unwrap();
 }
