@@ -49,8 +49,8 @@ def _lacking(captures: Sequence[Capture], made: Plan, taken: Sequence[Source], m
                              ("unsure", OPEN, numbers_text(made, made.unsure, *2 * ["may have another's field"]))):
         if text:
             yield why, whole, text
-    read = {place.number for one in captures for place in one.places if place.how != NEIGHBOURS}
-    unread = sum(one.how == NEIGHBOURS and captures[0].ordinal(one.number) not in read for one in taken)
+    read, (first, *_) = {place.number for one in captures for place in one.places if place.how != NEIGHBOURS}, captures
+    unread = sum(one.how == NEIGHBOURS and first.ordinal(one.number) not in read for one in taken)
     unread += sum(one.count_ for one in missing if one.why == DUE)
     if unread and any(_of(one, "unread") for one in captures):  # which only a strict judge says
         yield "unread", NO, counted(unread, made.unit) + " unread"
