@@ -40,9 +40,18 @@ unset COVERAGE_PROCESS_START
 grep '^SKIPPED\|^XFAIL\|^XPASS' out > err
 check 'no test is skipped' [ ! -s err ]
 lines() {
-    bounded python3 -m coverage "$@" --rcfile coveragerc < empty > err 2>&1
+    asked=$1
+    shift
+    bounded python3 -m coverage "$asked" --rcfile coveragerc "$@" < empty > err 2>&1
 }
-check 'each line of the package runs: combine' lines combine -q
+# Each process leaves a file. Some at a time, side by side, they take a tenth of the time that they take one by one.
+combined() {
+    find lines -type f -print0 | bounded xargs -0 -n 40 -P "$(nproc)" sh -c \
+        'exec python3 -m coverage combine -q --rcfile coveragerc --data-file "parts/${1##*/}" "$@"' coverage > err 2>&1 &&
+        lines combine -q parts
+}
+mkdir parts
+check 'each line of the package runs: combine' combined
 check 'each line of the package runs: report' lines report --skip-covered --show-missing --fail-under 100
 check 'which test runs which line is kept' does python3 "$tests/recorded.py" lines/data times
 while read -r one; do
