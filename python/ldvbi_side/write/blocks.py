@@ -132,7 +132,7 @@ def _aligned(part: List[Anchor], before: int, seconds: Set[int]) -> List[Anchor]
     field `before` it is another number's, it is no anchor unless it is the only one."""
     row = min(one.field - (one.field in seconds) - 2 * one.rank for one in part)
     found = [one._replace(field=row + 2 * one.rank) for one in part if row + 2 * one.rank > before]
-    return found or [part[-1]._replace(lead=1)]
+    return found or [one._replace(lead=1) for one in part]
 
 
 def blocks_of(anchors: List[Anchor]) -> List[Block]:

@@ -45,10 +45,8 @@ class Followed(NamedTuple):
         shows a number to which they don't go on: a player may have jumped before that, by as many fields as the
         colour's phase takes to be the same again."""
         count = self.going.count(anchor.field, step, most)
-        for place in range(1, count + 1):
-            if not self.aside.fits(anchor, anchor.field + step * place):
-                return place - 1
-        return count
+        return next((place for place in range(count)
+                     if not self.aside.fits(anchor, anchor.field + step * (place + 1))), count)
 
     def shown(self, anchor: Anchor, step: int, count: int) -> int:
         """How many of these fields, all within its reach, are shown to be the disc's next ones by more than their

@@ -111,7 +111,7 @@ def _runs_of(captures: Sequence[Followed], known: Known, disputed: Set[Tuple[str
     runs = [run for ones in found for run in ones]
     if not runs:
         raise ValueError("no number is sure enough to be taken")
-    if is_sure or not any(one.aside.sure for one in captures):
+    if is_sure:
         return runs
     # one outside of all others would have padding up to them
     known = known._replace(extent=range(min(run.first() for run in runs), max(run.end() for run in runs)))

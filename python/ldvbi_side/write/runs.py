@@ -14,8 +14,6 @@ from .going import Going
 from .lengths import Lengths
 from .ranks import Ranks
 
-FAR = 64  # numbers from one to another, beyond which more fields may be lost between them than look alike
-
 
 class Known(NamedTuple):
     """What is known of the disc beside one capture: the ranks of its numbers, how many fields they have, the ranks from
@@ -119,20 +117,21 @@ def _cuts_frames(capture: Followed, lengths: Lengths) -> bool:
     have where it isn't seen. If neither frames nor the colour are known, any loss may be one."""
     for one, other in zip(capture.parts, capture.parts[1:]):
         last, first = one[-1], other[0]
-        fields = first.field - last.field - 1
-        if last.rank >= first.rank or _fields_of(range(last.rank, first.rank), lengths) <= fields + 1:
+        fields = first.field - last.field
+        if _fields_of(range(last.rank, first.rank), fields, lengths) <= fields:
             continue
-        after = capture.reach(last, 1, fields)
-        before = min(capture.reach(first, -1, fields), fields - after)
+        after = capture.reach(last, 1, fields - 1)
+        before = min(capture.reach(first, -1, fields - 1), fields - 1 - after)
         if capture.source.period() == 1 or (_whole_fields(last.rank, 1 + after, lengths) != 1 + after
                                             or _whole_fields(first.rank - 1, before, lengths, -1) != before):
             return True
     return False
 
 
-def _fields_of(ranks: range, lengths: Lengths) -> int:
-    """How many fields these numbers have; more than look alike, if they are many."""
-    return sum(map(lengths.of, ranks[:FAR]))
+def _fields_of(ranks: range, most: int, lengths: Lengths) -> int:
+    """How many fields these numbers have; of more than the most the first ones alone, which have more fields than
+    that."""
+    return sum(map(lengths.of, ranks[:most]))
 
 
 def _whole_fields(rank: int, fields: int, lengths: Lengths, step: int = 1) -> int:
@@ -151,7 +150,7 @@ def _after_last(capture: Followed, known: Known) -> Tuple[_Own, int]:
     more = end.fields
     if end.is_marked and more > 1 and not known.lengths.is_film:
         more -= 1 - more % 2  # lead-out has fields that aren't read, too
-    due = _fields_of(range(end.rank, known.extent.stop), known.lengths) - 1  # its own first one is there
+    due = _fields_of(range(end.rank, known.extent.stop), LONGEST, known.lengths) - 1  # its own first one is there
     is_seen = _is_seen(end, end.rank in known.ends, due, capture, known)
     seen = more if is_seen else capture.shown(capture.last(), 1, more)
     if capture.source.period() == 1 and not end.is_marked:
@@ -165,7 +164,7 @@ def _before_first(capture: Followed, known: Known) -> Tuple[_Own, int]:
     more = end.fields
     if end.is_marked and not known.lengths.is_film:
         more -= more % 2  # lead-in has fields that aren't read, too
-    due = _fields_of(range(known.extent.start, end.rank), known.lengths)
+    due = _fields_of(range(known.extent.start, end.rank), LONGEST, known.lengths)
     is_seen = (capture.source.period() > 1 or end.is_marked) and _is_seen(
         end, end.rank in known.begins, due, capture, known)
     seen = more if is_seen else capture.shown(capture.first(), -1, more)
