@@ -35,8 +35,11 @@ class Lengths:
                     self._known[one.rank] = max(self._known.get(one.rank, fields), fields)
 
     def of(self, rank: int, step: int = -1) -> int:
-        """The fields of a number; if no capture shows it, by the cadence before it, or after it (step 1)."""
-        return self._known[rank] if rank in self._known else _fields_by(self._cadence(rank, step), rank)
+        """The fields of a number; if no capture shows it, by the cadence before it, or after it (step 1), or else by
+        that on its other side."""
+        if rank in self._known:
+            return self._known[rank]
+        return _fields_by(self._cadence(rank, step) or self._cadence(rank, -step), rank)
 
     def is_known(self, rank: int, step: int = -1) -> bool:
         """Whether a number's fields are known, by a capture or by the cadence on that side."""

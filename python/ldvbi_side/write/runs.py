@@ -93,9 +93,9 @@ def _sure_runs(place: int, blocks: List[Block]) -> List[Run]:
 def _shared(last: Anchor, first: Anchor, capture: Followed, lengths: Lengths) -> Tuple[_Own, _Own]:
     """What two runs get of the fields between them. By its frame and the colour alone none of these is surely a run's:
     a player may have jumped by as many fields as look the same again, and have left others out. Some may go on from
-    either run: then both get them, and none surely."""
+    either run: then both get them, and none surely. Those that show the first run's last number are its own."""
     fields = first.field - last.field - 1
-    after, before = capture.reach(last, 1, fields), capture.reach(first, -1, fields)
+    after, before = capture.reach(last, 1, fields), capture.reach(first, -1, first.field - last.last - 1)
     own_after, own_before = min(after, fields - before), min(before, fields - after)
     own = last.lead + 1 + own_after
     return (_Own(min(own_after + _whole_fields(last.rank, own, lengths) - own, after),
