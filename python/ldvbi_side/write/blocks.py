@@ -92,8 +92,9 @@ def _afters(source: Source) -> List[int]:
     found.update(one.before - 1 for one in capture.breaks)
     found.update(one.last for one in capture.answer.lead_in + capture.answer.lead_out)
     if first and capture.answer.pace == "both":  # whose numbers don't show the loss of one field
-        found.update(field for field in range(1, capture.answer.fields)
-                     if first[field - 1] == first[field] and field not in pairs and field + 1 not in pairs)
+        turns = list(enumerate(first, 1))
+        found.update(field for (field, one), (after, other) in zip(turns, turns[1:])
+                     if one == other and pairs.keys().isdisjoint((field, after)))
     return sorted(found)
 
 
@@ -164,16 +165,13 @@ class Aside:
 
     def fits(self, anchor: Anchor, field: int) -> bool:
         """Whether a field shows nothing else than it would if it went on to this number, or from it."""
-        return field not in self.all or self._fits(anchor.rank, anchor.field, field, self.all[field])
+        return field not in self.all or any(
+            _is_apart(self._pace, anchor.rank, one - anchor.rank, field - anchor.field) for one in self.all[field])
 
-    def unlike(self, block: Block) -> bool:
-        """Whether a field of a block surely shows another number than it would as the block's."""
+    def is_in(self, block: Block) -> bool:
+        """Whether a field of a block, but for its first one, surely shows a number that isn't believed."""
         fields = self._sure_fields
-        inside = slice(bisect.bisect(fields, block.field), bisect.bisect_left(fields, block.field + block.fields))
-        return any(not self._fits(block.rank, block.field, field, self.sure[field]) for field in fields[inside])
-
-    def _fits(self, rank, first, field, told):
-        return any(_is_apart(self._pace, rank, one - rank, field - first) for one in told)
+        return bisect.bisect(fields, block.field) < bisect.bisect_left(fields, block.field + block.fields)
 
 
 def _is_apart(pace: Optional[str], rank: int, step: int, fields: int) -> bool:

@@ -52,8 +52,8 @@ class Followed(NamedTuple):
         """How many of these fields, all within its reach, are shown to be the disc's next ones by more than their
         frames and the colour: up to the last one that shows a number, even if that isn't believed."""
         of_picture = anchor.last - anchor.field if step > 0 else 0
-        return max([min(of_picture, count), *(place for place in range(1, count + 1)
-                                              if anchor.field + step * place in self.aside.all)])
+        return max([min(of_picture, count), *(1 + place for place in range(count)
+                                              if anchor.field + step * (1 + place) in self.aside.all)])
 
     def end(self, step: int) -> End:
         """What stands after its last number (step 1), or before its first one (-1)."""

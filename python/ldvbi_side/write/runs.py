@@ -70,7 +70,7 @@ def set_aside(place: int, capture: Followed, known: Known, runs: Sequence[Run], 
 def _is_sure(block: Block, capture: Followed, known: Known) -> bool:
     """Whether nothing speaks against it that a block has the fields of its numbers."""
     return (capture.going.takes_turns(block.field, block.fields) and not known.lengths.is_short(block)
-            and not capture.aside.unlike(block) and not _is_at_speed(capture.source.answer.speeds, block.field))
+            and not capture.aside.is_in(block) and not _is_at_speed(capture.source.answer.speeds, block.field))
 
 
 def _is_at_speed(speeds: Sequence[Speed], field: int) -> bool:
@@ -115,17 +115,18 @@ def _is_seen(end: End, is_agreed: bool, due: int, capture: Followed, known: Know
 def _cuts_frames(capture: Followed, lengths: Lengths) -> bool:
     """Whether a capture lost fields from within a frame on, or up to within one, between two numbers, so that it may
     have where it isn't seen. If neither frames nor the colour are known, any loss may be one."""
-    for one, other in zip(capture.parts, capture.parts[1:]):
-        last, first = one[-1], other[0]
-        fields = first.field - last.field
-        if _fields_of(range(last.rank, first.rank), fields, lengths) <= fields:
-            continue
-        after = capture.reach(last, 1, fields - 1)
-        before = min(capture.reach(first, -1, fields - 1), fields - 1 - after)
-        if capture.source.period() == 1 or (_whole_fields(last.rank, 1 + after, lengths) != 1 + after
-                                            or _whole_fields(first.rank - 1, before, lengths, -1) != before):
-            return True
-    return False
+    return any(_cuts_one(one[-1], other[0], capture, lengths) for one, other in zip(capture.parts, capture.parts[1:]))
+
+
+def _cuts_one(last: Anchor, first: Anchor, capture: Followed, lengths: Lengths) -> bool:
+    """The same of a loss between two numbers, if there is one."""
+    fields = first.field - last.field
+    if _fields_of(range(last.rank, first.rank), fields, lengths) <= fields:
+        return False
+    after = 1 + capture.reach(last, 1, fields - 1)
+    before = min(capture.reach(first, -1, fields - 1), fields - after)
+    return (capture.source.period() == 1 or _whole_fields(last.rank, after, lengths) != after
+            or _whole_fields(first.rank - 1, before, lengths, -1) != before)
 
 
 def _fields_of(ranks: range, most: int, lengths: Lengths) -> int:
