@@ -76,7 +76,7 @@ def anchored(source: Source, ranks: Ranks) -> List[List[Anchor]]:
         else:
             parts.append([one])
             place = bisect.bisect_left(afters, one.field)
-            befores.append(max([last.last if last else 0, *afters[place - 1:place]]))
+            befores.append(max([last.last if last else 0, *afters[:place]]))
     if answer.pace != "both":
         return parts
     seconds = _seconds(source, [one for part in parts for one in part])

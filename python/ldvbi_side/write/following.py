@@ -51,9 +51,9 @@ class Followed(NamedTuple):
     def shown(self, anchor: Anchor, step: int, count: int) -> int:
         """How many of these fields, all within its reach, are shown to be the disc's next ones by more than their
         frames and the colour: up to the last one that shows a number, even if that isn't believed."""
-        of_picture = anchor.last - anchor.field if step > 0 else 0
-        return max([min(of_picture, count), *(1 + place for place in range(count)
-                                              if anchor.field + step * (1 + place) in self.aside.all)])
+        own = range(anchor.field, anchor.last + 1)
+        fields = [anchor.field + step * (1 + place) for place in range(count)]
+        return max((1 + place for place, one in enumerate(fields) if one in own or one in self.aside.all), default=0)
 
     def end(self, step: int) -> End:
         """What stands after its last number (step 1), or before its first one (-1)."""

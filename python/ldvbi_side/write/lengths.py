@@ -48,7 +48,7 @@ class Lengths:
     def is_short(self, block: Block) -> bool:
         """Whether a number has fewer fields in a block than another capture shows."""
         fields = block.lead + block.fields + block.trail
-        return block.ranks == 1 and fields < self._known.get(block.rank, fields)
+        return fields < self._known.get(block.rank, fields)  # never of several numbers, which have more
 
     def between(self, first: int, end: int, fits: Callable[[int], bool]) -> int:
         """How many fields the numbers from the first one to before the end have, none of which is shown: of film, the

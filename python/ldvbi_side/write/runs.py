@@ -149,7 +149,7 @@ def _after_last(capture: Followed, known: Known) -> Tuple[_Own, int]:
     """The fields after the last number of a capture, and the most numbers that these may have."""
     end = capture.end(1)
     more = end.fields
-    if end.is_marked and more > 1 and not known.lengths.is_film:
+    if end.is_marked and more and not known.lengths.is_film:
         more -= 1 - more % 2  # lead-out has fields that aren't read, too
     due = _fields_of(range(end.rank, known.extent.stop), LONGEST, known.lengths) - 1  # its own first one is there
     is_seen = _is_seen(end, end.rank in known.ends, due, capture, known)
