@@ -48,7 +48,7 @@ def runs_of(place: int, capture: Followed, known: Known, disputed: Set[int], is_
             blocks = _with_end(blocks_of(anchors), anchors[-1], after, capture, known, is_sure)
             blocks = _with_begin(blocks, anchors[0], before, capture, known)
         blocks = [one if _is_sure(one, capture, known) else one._replace(doubt=OPEN) for one in blocks
-                  if one.doubt == KNOWN or one.field not in disputed]
+                  if one.field not in disputed]
         runs += _sure_runs(place, blocks) if is_sure else [Run(place, blocks)]
     return runs
 
@@ -124,7 +124,7 @@ def _cuts_one(last: Anchor, first: Anchor, capture: Followed, lengths: Lengths) 
     if _fields_of(range(last.rank, first.rank), fields, lengths) <= fields:
         return False
     after = 1 + capture.reach(last, 1, fields - 1)
-    before = min(capture.reach(first, -1, fields - 1), fields - after)
+    before = capture.reach(first, -1, fields - after)
     return (capture.source.period() == 1 or _whole_fields(last.rank, after, lengths) != after
             or _whole_fields(first.rank - 1, before, lengths, -1) != before)
 
@@ -168,8 +168,7 @@ def _before_first(capture: Followed, known: Known) -> Tuple[_Own, int]:
     due = _fields_of(range(known.extent.start, end.rank), LONGEST, known.lengths)
     is_seen = (capture.source.period() > 1 or end.is_marked) and _is_seen(
         end, end.rank in known.begins, due, capture, known)
-    seen = more if is_seen else capture.shown(capture.first(), -1, more)
-    return _Own(more, seen), end.rank - known.extent.start
+    return _Own(more, more * is_seen), end.rank - known.extent.start
 
 
 def _with_end(blocks: List[Block], last: Anchor, after: Optional[Anchor], capture: Followed, known: Known,
