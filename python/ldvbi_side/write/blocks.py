@@ -75,8 +75,7 @@ def anchored(source: Source, ranks: Ranks) -> List[List[Anchor]]:
             parts[-1].append(one)
         else:
             parts.append([one])
-            place = bisect.bisect_left(afters, one.field)
-            befores.append(max([last.last if last else 0, *afters[:place]]))
+            befores.append(max(afters[:bisect.bisect_left(afters, one.field)], default=0))
     if answer.pace != "both":
         return parts
     seconds = _seconds(source, [one for part in parts for one in part])
