@@ -1,6 +1,6 @@
 """How far fields go on from a number that a capture reads, and what shows that they do."""
 
-from typing import List, NamedTuple, Sequence, Set
+from typing import List, NamedTuple, Sequence, Set, Tuple
 
 from ..answer.ends import LONGEST
 from .blocks import Anchor, Aside, anchored
@@ -35,6 +35,10 @@ class Followed(NamedTuple):
     def last(self) -> Anchor:
         """Its last number."""
         return self.parts[-1][-1]
+
+    def gaps(self) -> List[Tuple[Anchor, Anchor]]:
+        """Between each two parts the last number of the one and the first of the other."""
+        return [(one[-1], other[0]) for one, other in zip(self.parts, self.parts[1:])]
 
     def is_on_both(self) -> bool:
         """Whether both fields of a picture have its number."""

@@ -35,13 +35,12 @@ class _Own(NamedTuple):
 def runs_of(place: int, capture: Followed, known: Known, disputed: Set[int], is_sure: bool = False) -> List[Run]:
     """The runs of a capture, in the order of its fields; `place` is the capture's index. A run with a number in a field
     that is `disputed` is left out: another capture has what belongs there. With `is_sure`, so is what isn't sure."""
-    answer, parts = capture.source.answer, capture.parts
+    answer, gaps = capture.source.answer, capture.gaps()
     runs: List[Run] = []
-    for at, anchors in enumerate(parts):
+    for anchors, before, after in zip(capture.parts, [None, *(last for last, _ in gaps)],
+                                      [*(first for _, first in gaps), None]):
         if any(one.field in disputed for one in anchors):
             continue
-        before = parts[at - 1][-1] if at else None
-        after = parts[at + 1][0] if at + 1 < len(parts) else None
         if answer.pace == "minute":
             blocks = _minute_blocks(anchors, capture.going, MINUTE_FIELDS[answer.system][0])
         else:
@@ -115,7 +114,7 @@ def _is_seen(end: End, is_agreed: bool, due: int, capture: Followed, known: Know
 def _cuts_frames(capture: Followed, lengths: Lengths) -> bool:
     """Whether a capture lost fields from within a frame on, or up to within one, between two numbers, so that it may
     have where it isn't seen. If neither frames nor the colour are known, any loss may be one."""
-    return any(_cuts_one(one[-1], other[0], capture, lengths) for one, other in zip(capture.parts, capture.parts[1:]))
+    return any(_cuts_one(last, first, capture, lengths) for last, first in capture.gaps())
 
 
 def _cuts_one(last: Anchor, first: Anchor, capture: Followed, lengths: Lengths) -> bool:
