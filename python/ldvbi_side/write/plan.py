@@ -199,8 +199,6 @@ class _Making:
         first, last = number(block.rank), number(block.end() - 1)
         block = self._free(source, block)
         layout.pad(block.lead, first, first)
-        if not block.fields:  # of one number, since others have got all of them
-            return
         how = WHOLE if block.is_sure else UNSURE
         for rank, begin, end in self._parts(block):
             layout.take(source, begin, end - begin, number(rank), how)
@@ -237,7 +235,7 @@ class _Making:
             return block
         fields = [field for field in range(block.field, block.field + block.fields)
                   if self._owners[source, field] == block.rank]
-        if not fields:
+        if not fields:  # of one number, since others have got all of them
             return block._replace(lead=block.lead + block.fields + block.trail, fields=0)
         lead = fields[0] - block.field
         return block._replace(field=fields[0], fields=len(fields), lead=block.lead + lead,
