@@ -57,7 +57,7 @@ class Followed(NamedTuple):
         frames and the colour: up to the last one that shows a number, even if that isn't believed."""
         own = range(anchor.field, anchor.last + 1)
         fields = [anchor.field + step * (1 + place) for place in range(count)]
-        return max((1 + place for place, one in enumerate(fields) if one in own or one in self.aside.all), default=0)
+        return max((abs(one - anchor.field) for one in fields if one in own or one in self.aside.all), default=0)
 
     def end(self, step: int) -> End:
         """What stands after its last number (step 1), or before its first one (-1)."""
