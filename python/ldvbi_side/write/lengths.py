@@ -21,9 +21,10 @@ class Lengths:
     its cadence. A number of video has two."""
 
     def __init__(self, captures: Sequence[Followed]) -> None:
-        self.is_film = any(one.source.answer.pace == "film" for one in captures)
+        paces = {one.source.answer.pace for one in captures}
+        self.is_film = "film" in paces
         self._known: Dict[int, int] = {}
-        for capture in captures:
+        for capture in captures if paces != {"video"} else ():  # of which each number has two
             self._add(capture)
 
     def _add(self, capture: Followed) -> None:
