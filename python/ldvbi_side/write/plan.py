@@ -277,7 +277,7 @@ class _Making:
         field = block.field
         for one in self._sources[source].answer.lead_in:
             count = (field - one.first) // 2 * 2
-            if count and one.last == field - 1:
+            if one.last == field - 1:
                 self._layout.take(source, field - count, count, None, WHOLE)
 
     def _take_lead_out(self, node: Node) -> None:
