@@ -298,7 +298,7 @@ def test_a_wrong_plan_is_refused(said, sides, stretches):
 
 def test_what_a_plan_says_of_itself_is_so():
     found, sources = planned("LACKS")
-    refuse_wrong(found, [*sources, source("1..10", "b")])
+    refuse_wrong(found, [*sources, source("1..10", "b"), source("1..11 14..30", "c")])  # whose 11 isn't sure
     late = found._replace(
         stretches=stretches_of("1+20 1-10 a1, 21+6 11-12 x, 27+56 13-40 a21"), fields=82,
         first_field={number: field + 2 * (number > 12) for number, field in found.first_field.items()})

@@ -75,8 +75,7 @@ def anchored(source: Source, ranks: Ranks) -> List[List[Anchor]]:
             parts[-1].append(one)
         else:
             parts.append([one])
-            place = bisect.bisect_left(afters, one.field)
-            befores.append(max([last.last if last else 0, *afters[place - 1:place]]))
+            befores.append(max(afters[:bisect.bisect_left(afters, one.field)], default=0))
     if answer.pace != "both":
         return parts
     seconds = _seconds(source, [one for part in parts for one in part])
@@ -92,8 +91,9 @@ def _afters(source: Source) -> List[int]:
     found.update(one.before - 1 for one in capture.breaks)
     found.update(one.last for one in capture.answer.lead_in + capture.answer.lead_out)
     if first and capture.answer.pace == "both":  # whose numbers don't show the loss of one field
-        found.update(field for field in range(1, capture.answer.fields)
-                     if first[field - 1] == first[field] and field not in pairs and field + 1 not in pairs)
+        turns = list(enumerate(first, 1))
+        found.update(field for (field, one), (after, other) in zip(turns, turns[1:])
+                     if one == other and pairs.keys().isdisjoint((field, after)))
     return sorted(found)
 
 
@@ -132,7 +132,7 @@ def _aligned(part: List[Anchor], before: int, seconds: Set[int]) -> List[Anchor]
     field `before` it is another number's, it is no anchor unless it is the only one."""
     row = min(one.field - (one.field in seconds) - 2 * one.rank for one in part)
     found = [one._replace(field=row + 2 * one.rank) for one in part if row + 2 * one.rank > before]
-    return found or [part[-1]._replace(lead=1)]
+    return found or [one._replace(lead=1) for one in part]
 
 
 def blocks_of(anchors: List[Anchor]) -> List[Block]:
@@ -164,16 +164,13 @@ class Aside:
 
     def fits(self, anchor: Anchor, field: int) -> bool:
         """Whether a field shows nothing else than it would if it went on to this number, or from it."""
-        return field not in self.all or self._fits(anchor.rank, anchor.field, field, self.all[field])
+        return field not in self.all or any(
+            _is_apart(self._pace, anchor.rank, one - anchor.rank, field - anchor.field) for one in self.all[field])
 
-    def unlike(self, block: Block) -> bool:
-        """Whether a field of a block surely shows another number than it would as the block's."""
+    def is_in(self, block: Block) -> bool:
+        """Whether a field of a block, but for its first one, surely shows a number that isn't believed."""
         fields = self._sure_fields
-        inside = slice(bisect.bisect(fields, block.field), bisect.bisect_left(fields, block.field + block.fields))
-        return any(not self._fits(block.rank, block.field, field, self.sure[field]) for field in fields[inside])
-
-    def _fits(self, rank, first, field, told):
-        return any(_is_apart(self._pace, rank, one - rank, field - first) for one in told)
+        return bisect.bisect(fields, block.field) < bisect.bisect_left(fields, block.field + block.fields)
 
 
 def _is_apart(pace: Optional[str], rank: int, step: int, fields: int) -> bool:

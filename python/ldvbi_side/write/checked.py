@@ -44,12 +44,18 @@ def _disorder(made: Plan) -> Optional[str]:
 
 # ---- As the library checks it
 
+# That of video last: a few numbers look like its, whatever disc they are of
+_SPACINGS = (("film", Spacing.film), ("both", Spacing.both), ("minute", Spacing.rising), ("video", Spacing.video))
+
+
 class _Shown:
     """What each capture shows: of each field, counted from 1, its number as a rank. Numbers of swapped fields count
     nowhere, nor do those that the plan left aside."""
 
     def __init__(self, made: Plan, sources: Sequence[Source]) -> None:
         self.sources, self.ranks = sources, Ranks(set(made.left_out))
+        paces = {one.answer.pace for one in sources}
+        self.spacing = next(spacing for pace, spacing in _SPACINGS if pace in paces)
         self.places: List[Dict[int, int]] = []
         for source in sources:
             pairs, showings = straightened(source.answer), source.answer.showings
@@ -123,15 +129,12 @@ def _stretches(made: Plan, shown: _Shown, begun: _Begun) -> List[ldvbi.Stretch]:
 def _fault(made: Plan, shown: _Shown) -> Optional[str]:
     """What the library finds wrong. Padding may hide what isn't sure, or what another capture disputes."""
     begun = _begun(made, shown.ranks)
-    stretches, spacing = _stretches(made, shown, begun), _SPACINGS[str(shown.sources[0].answer.pace)]
+    stretches, spacing = _stretches(made, shown, begun), shown.spacing
     found = ldvbi.check_plan(shown.packed(), stretches, begun.end, spacing, begin=begun.out - 1)
     if found and found.rule == Rule.hidden:
         shown.set_aside(made, begun)
         found = ldvbi.check_plan(shown.packed(), stretches, begun.end, spacing, begin=begun.out - 1)
     return found and _text_of(found, made, shown)
-
-
-_SPACINGS = {"video": Spacing.video, "film": Spacing.film, "both": Spacing.both, "minute": Spacing.rising}
 
 
 def _text_of(found: Fault, made: Plan, shown: _Shown) -> str:
@@ -155,7 +158,7 @@ def _text_of(found: Fault, made: Plan, shown: _Shown) -> str:
 
 def _misplaced(one: Stretch, made: Plan, shown: _Shown) -> Iterator[str]:
     """What is said of each number of a stretch that is elsewhere than the plan says."""
-    text, is_on_both = made.count_unit().text_of, shown.sources[0].answer.pace == "both"
+    text, is_on_both = made.count_unit().text_of, shown.spacing == Spacing.both
     for number, out in shown.of(one):
         wanted = made.first_field.get(number)
         if wanted is None:

@@ -1,6 +1,6 @@
 """How far fields go on from a number that a capture reads, and what shows that they do."""
 
-from typing import List, NamedTuple, Sequence, Set
+from typing import List, NamedTuple, Sequence, Set, Tuple
 
 from ..answer.ends import LONGEST
 from .blocks import Anchor, Aside, anchored
@@ -36,6 +36,10 @@ class Followed(NamedTuple):
         """Its last number."""
         return self.parts[-1][-1]
 
+    def gaps(self) -> List[Tuple[Anchor, Anchor]]:
+        """Between each two parts the last number of the one and the first of the other."""
+        return [(one[-1], other[0]) for one, other in zip(self.parts, self.parts[1:])]
+
     def is_on_both(self) -> bool:
         """Whether both fields of a picture have its number."""
         return self.source.answer.pace == "both"
@@ -45,17 +49,15 @@ class Followed(NamedTuple):
         shows a number to which they don't go on: a player may have jumped before that, by as many fields as the
         colour's phase takes to be the same again."""
         count = self.going.count(anchor.field, step, most)
-        for place in range(1, count + 1):
-            if not self.aside.fits(anchor, anchor.field + step * place):
-                return place - 1
-        return count
+        return next((place for place in range(count)
+                     if not self.aside.fits(anchor, anchor.field + step * (place + 1))), count)
 
     def shown(self, anchor: Anchor, step: int, count: int) -> int:
         """How many of these fields, all within its reach, are shown to be the disc's next ones by more than their
         frames and the colour: up to the last one that shows a number, even if that isn't believed."""
-        of_picture = anchor.last - anchor.field if step > 0 else 0
-        return max([min(of_picture, count), *(place for place in range(1, count + 1)
-                                              if anchor.field + step * place in self.aside.all)])
+        own = range(anchor.field, anchor.last + 1)
+        fields = [anchor.field + step * (1 + place) for place in range(count)]
+        return max((abs(one - anchor.field) for one in fields if one in own or one in self.aside.all), default=0)
 
     def end(self, step: int) -> End:
         """What stands after its last number (step 1), or before its first one (-1)."""

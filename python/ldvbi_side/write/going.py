@@ -31,8 +31,9 @@ class Going:
 
     def takes_turns(self, field: int, count: int) -> bool:
         """Whether first and second fields take turns in so many fields from this one on."""
-        first, pairs = self._source.facts.first, self._pairs
-        return not first or len({first[pairs.get(one, one) - 1] == one % 2 for one in range(field, field + count)}) < 2
+        first = self._source.facts.first
+        turns = [first[self._pairs.get(one, one) - 1] for one in range(field, field + count)] if first else []
+        return all(one != other for one, other in zip(turns, turns[1:]))
 
     def is_end(self, field: int) -> bool:
         """Whether lead-in or lead-out stands in a field, or the capture has none there."""

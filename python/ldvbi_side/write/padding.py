@@ -42,17 +42,11 @@ class Layout:
 
     def take(self, source: int, field: int, fields: int, number: Optional[int], how: str) -> None:
         """Adds fields of a capture that have this number, those of a swapped pair in their right order."""
-        pairs = self._pairs[source]
-        if not pairs:
-            self._take(source, field, fields, number, how)
-            return
-        for one in range(field, field + fields):  # those that go on become one stretch
-            self._take(source, pairs.get(one, one), 1, number, how)
-
-    def _take(self, source, field, fields, number, how):
-        if self._is_film and self.stretches and self.stretches[-1].source is None:
-            self._fit_padding(source, field, number)
-        self._add(Stretch(self.out, fields, number, number, source, field, how))
+        for place in range(field, field + fields):  # those that go on become one stretch
+            one = self._pairs[source].get(place, place)
+            if self._is_film and self.stretches and self.stretches[-1].source is None:
+                self._fit_padding(source, one, number)
+            self._add(Stretch(self.out, 1, number, number, source, one, how))
 
     def _fit_padding(self, source, field, number):
         """Makes the padding before a field a field or two longer or shorter, if only so the two go on as on the disc:

@@ -111,7 +111,7 @@ def _runs_of(captures: Sequence[Followed], known: Known, disputed: Set[Tuple[str
     runs = [run for ones in found for run in ones]
     if not runs:
         raise ValueError("no number is sure enough to be taken")
-    if is_sure or not any(one.aside.sure for one in captures):
+    if is_sure:
         return runs
     # one outside of all others would have padding up to them
     known = known._replace(extent=range(min(run.first() for run in runs), max(run.end() for run in runs)))
@@ -199,8 +199,6 @@ class _Making:
         first, last = number(block.rank), number(block.end() - 1)
         block = self._free(source, block)
         layout.pad(block.lead, first, first)
-        if not block.fields:  # of one number, since others have got all of them
-            return
         how = WHOLE if block.is_sure else UNSURE
         for rank, begin, end in self._parts(block):
             layout.take(source, begin, end - begin, number(rank), how)
@@ -237,7 +235,7 @@ class _Making:
             return block
         fields = [field for field in range(block.field, block.field + block.fields)
                   if self._owners[source, field] == block.rank]
-        if not fields:
+        if not fields:  # of one number, since others have got all of them
             return block._replace(lead=block.lead + block.fields + block.trail, fields=0)
         lead = fields[0] - block.field
         return block._replace(field=fields[0], fields=len(fields), lead=block.lead + lead,
@@ -279,7 +277,7 @@ class _Making:
         field = block.field
         for one in self._sources[source].answer.lead_in:
             count = (field - one.first) // 2 * 2
-            if count and one.last == field - 1:
+            if one.last == field - 1:
                 self._layout.take(source, field - count, count, None, WHOLE)
 
     def _take_lead_out(self, node: Node) -> None:

@@ -14,8 +14,6 @@ from .going import Going
 from .lengths import Lengths
 from .ranks import Ranks
 
-FAR = 64  # numbers from one to another, beyond which more fields may be lost between them than look alike
-
 
 class Known(NamedTuple):
     """What is known of the disc beside one capture: the ranks of its numbers, how many fields they have, the ranks from
@@ -37,20 +35,19 @@ class _Own(NamedTuple):
 def runs_of(place: int, capture: Followed, known: Known, disputed: Set[int], is_sure: bool = False) -> List[Run]:
     """The runs of a capture, in the order of its fields; `place` is the capture's index. A run with a number in a field
     that is `disputed` is left out: another capture has what belongs there. With `is_sure`, so is what isn't sure."""
-    answer, parts = capture.source.answer, capture.parts
+    answer, gaps = capture.source.answer, capture.gaps()
     runs: List[Run] = []
-    for at, anchors in enumerate(parts):
+    for anchors, before, after in zip(capture.parts, [None, *(last for last, _ in gaps)],
+                                      [*(first for _, first in gaps), None]):
         if any(one.field in disputed for one in anchors):
             continue
-        before = parts[at - 1][-1] if at else None
-        after = parts[at + 1][0] if at + 1 < len(parts) else None
         if answer.pace == "minute":
             blocks = _minute_blocks(anchors, capture.going, MINUTE_FIELDS[answer.system][0])
         else:
             blocks = _with_end(blocks_of(anchors), anchors[-1], after, capture, known, is_sure)
             blocks = _with_begin(blocks, anchors[0], before, capture, known)
         blocks = [one if _is_sure(one, capture, known) else one._replace(doubt=OPEN) for one in blocks
-                  if one.doubt == KNOWN or one.field not in disputed]
+                  if one.field not in disputed]
         runs += _sure_runs(place, blocks) if is_sure else [Run(place, blocks)]
     return runs
 
@@ -72,7 +69,7 @@ def set_aside(place: int, capture: Followed, known: Known, runs: Sequence[Run], 
 def _is_sure(block: Block, capture: Followed, known: Known) -> bool:
     """Whether nothing speaks against it that a block has the fields of its numbers."""
     return (capture.going.takes_turns(block.field, block.fields) and not known.lengths.is_short(block)
-            and not capture.aside.unlike(block) and not _is_at_speed(capture.source.answer.speeds, block.field))
+            and not capture.aside.is_in(block) and not _is_at_speed(capture.source.answer.speeds, block.field))
 
 
 def _is_at_speed(speeds: Sequence[Speed], field: int) -> bool:
@@ -95,9 +92,9 @@ def _sure_runs(place: int, blocks: List[Block]) -> List[Run]:
 def _shared(last: Anchor, first: Anchor, capture: Followed, lengths: Lengths) -> Tuple[_Own, _Own]:
     """What two runs get of the fields between them. By its frame and the colour alone none of these is surely a run's:
     a player may have jumped by as many fields as look the same again, and have left others out. Some may go on from
-    either run: then both get them, and none surely."""
+    either run: then both get them, and none surely. Those that show the first run's last number are its own."""
     fields = first.field - last.field - 1
-    after, before = capture.reach(last, 1, fields), capture.reach(first, -1, fields)
+    after, before = capture.reach(last, 1, fields), capture.reach(first, -1, first.field - last.last - 1)
     own_after, own_before = min(after, fields - before), min(before, fields - after)
     own = last.lead + 1 + own_after
     return (_Own(min(own_after + _whole_fields(last.rank, own, lengths) - own, after),
@@ -117,22 +114,24 @@ def _is_seen(end: End, is_agreed: bool, due: int, capture: Followed, known: Know
 def _cuts_frames(capture: Followed, lengths: Lengths) -> bool:
     """Whether a capture lost fields from within a frame on, or up to within one, between two numbers, so that it may
     have where it isn't seen. If neither frames nor the colour are known, any loss may be one."""
-    for one, other in zip(capture.parts, capture.parts[1:]):
-        last, first = one[-1], other[0]
-        fields = first.field - last.field - 1
-        if last.rank >= first.rank or _fields_of(range(last.rank, first.rank), lengths) <= fields + 1:
-            continue
-        after = capture.reach(last, 1, fields)
-        before = min(capture.reach(first, -1, fields), fields - after)
-        if capture.source.period() == 1 or (_whole_fields(last.rank, 1 + after, lengths) != 1 + after
-                                            or _whole_fields(first.rank - 1, before, lengths, -1) != before):
-            return True
-    return False
+    return any(_cuts_one(last, first, capture, lengths) for last, first in capture.gaps())
 
 
-def _fields_of(ranks: range, lengths: Lengths) -> int:
-    """How many fields these numbers have; more than look alike, if they are many."""
-    return sum(map(lengths.of, ranks[:FAR]))
+def _cuts_one(last: Anchor, first: Anchor, capture: Followed, lengths: Lengths) -> bool:
+    """The same of a loss between two numbers, if there is one."""
+    fields = first.field - last.field
+    if _fields_of(range(last.rank, first.rank), fields, lengths) <= fields:
+        return False
+    after = 1 + capture.reach(last, 1, fields - 1)
+    before = capture.reach(first, -1, fields - after)
+    return (capture.source.period() == 1 or _whole_fields(last.rank, after, lengths) != after
+            or _whole_fields(first.rank - 1, before, lengths, -1) != before)
+
+
+def _fields_of(ranks: range, most: int, lengths: Lengths) -> int:
+    """How many fields these numbers have; of more than the most the first ones alone, which have more fields than
+    that."""
+    return sum(map(lengths.of, ranks[:most]))
 
 
 def _whole_fields(rank: int, fields: int, lengths: Lengths, step: int = 1) -> int:
@@ -149,9 +148,9 @@ def _after_last(capture: Followed, known: Known) -> Tuple[_Own, int]:
     """The fields after the last number of a capture, and the most numbers that these may have."""
     end = capture.end(1)
     more = end.fields
-    if end.is_marked and more > 1 and not known.lengths.is_film:
+    if end.is_marked and more and not known.lengths.is_film:
         more -= 1 - more % 2  # lead-out has fields that aren't read, too
-    due = _fields_of(range(end.rank, known.extent.stop), known.lengths) - 1  # its own first one is there
+    due = _fields_of(range(end.rank, known.extent.stop), LONGEST, known.lengths) - 1  # its own first one is there
     is_seen = _is_seen(end, end.rank in known.ends, due, capture, known)
     seen = more if is_seen else capture.shown(capture.last(), 1, more)
     if capture.source.period() == 1 and not end.is_marked:
@@ -165,11 +164,10 @@ def _before_first(capture: Followed, known: Known) -> Tuple[_Own, int]:
     more = end.fields
     if end.is_marked and not known.lengths.is_film:
         more -= more % 2  # lead-in has fields that aren't read, too
-    due = _fields_of(range(known.extent.start, end.rank), known.lengths)
+    due = _fields_of(range(known.extent.start, end.rank), LONGEST, known.lengths)
     is_seen = (capture.source.period() > 1 or end.is_marked) and _is_seen(
         end, end.rank in known.begins, due, capture, known)
-    seen = more if is_seen else capture.shown(capture.first(), -1, more)
-    return _Own(more, seen), end.rank - known.extent.start
+    return _Own(more, more * is_seen), end.rank - known.extent.start
 
 
 def _with_end(blocks: List[Block], last: Anchor, after: Optional[Anchor], capture: Followed, known: Known,
