@@ -363,8 +363,8 @@ NTSC 16~ 235|black is not a whole number from 0 to 255
 NTSC '' 235|black is not a whole number from 0 to 255
 NTSC 0016 235|black is not a whole number from 0 to 255
 NTSC 16 256|white is not a whole number from 0 to 255
-NTSC 235 16 < lines.y8|$low, or one of them is above 65535
-NTSC 16 16 < lines.y8|$low, or one of them is above 65535
+NTSC 235 16|$low, or one of them is above 65535
+NTSC 16 16|$low, or one of them is above 65535
 END
 
 # What a system may lack: room on a disk, memory, standard input, or the end of a file, now or when it is read; and the
