@@ -18,9 +18,9 @@ fn run() -> Result<ExitCode, Box<dyn Error>> {
     let asked = |counted| SideOptions { may_end, ..SideOptions::new(counted) };
     let has_pictures = side.whole(asked(Counted::Pictures)).reasons != [Reason::NoNumbers];
     let options = asked(if has_pictures { Counted::Pictures } else { Counted::Times });
-    // A few minutes don't show enough of drop-frame: what is whole by that is whole. Pictures, and the times of PAL,
-    // keep to no clock, so that all answers are the same.
-    let is_dropped = side.whole_by_clock(options, Clock::DropFrame)?.verdict == Verdict::Yes;
+    // A few minutes don't show enough of drop-frame: what is whole by that is whole.
+    let has_clock = system == System::Ntsc && options.counted == Counted::Times;
+    let is_dropped = has_clock && side.whole_by_clock(options, Clock::DropFrame)?.verdict == Verdict::Yes;
     let clock = if is_dropped { Clock::DropFrame } else { side.find_clock(options) };
     let whole = side.whole_by_clock(options, clock)?;
     let (said, status) = match whole.verdict {
