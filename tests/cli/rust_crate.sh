@@ -60,6 +60,15 @@ quiet() {
     bounded env RUSTFLAGS= "$@" > "$work/out" 2> "$work/err" || status=$?
     ! grep -q '^\(warning\|error\)' "$work/err" && [ "$status" = 0 ]
 }
+# What it is, its licence, whoever made it and its keywords are those of Python's package, though cargo takes five
+# keywords at most; it stands in groups that crates.io has; and who wants the program, asks for it.
+wanted=$(sed -n 's/^description = \(".*"\)$/\1/p; s/^license = { text = \(".*"\) }$/\1/p
+    s/^authors = \[{ name = \(".*"\) }\]$/[\1]/p' "$top/pyproject.toml")
+five=$(sed -n 's/^keywords = \(\[.*\]\)$/\1/p' "$top/pyproject.toml" | jq -c '.[:5]')
+bounded cargo metadata --quiet --no-deps --format-version 1 > "$work/out" 2> "$work/err"
+check 'what cargo knows of it' [ "$(jq -c '.packages[0] | .description, .license, .authors, .keywords, .categories,
+    (.targets[] | ."required-features" // empty)' "$work/out")" = \
+    "$wanted$newline$five$newline[\"multimedia::video\",\"command-line-utilities\"]$newline[\"cli\"]" ]
 touch src/lib.rs
 while IFS='|' read -r name words; do
     check "$name" quiet $words
@@ -76,15 +85,6 @@ the example in its documents|cargo test --doc --quiet
 its interface on drawn sides|cargo test --quiet --tests
 sides that it opens|cargo test --quiet --features metadata --test opened
 END
-# What it is, its licence, whoever made it and its keywords are those of Python's package, though cargo takes five
-# keywords at most; it stands in groups that crates.io has; and who wants the program, asks for it.
-wanted=$(sed -n 's/^description = \(".*"\)$/\1/p; s/^license = { text = \(".*"\) }$/\1/p
-    s/^authors = \[{ name = \(".*"\) }\]$/[\1]/p' "$top/pyproject.toml")
-five=$(sed -n 's/^keywords = \(\[.*\]\)$/\1/p' "$top/pyproject.toml" | jq -c '.[:5]')
-bounded cargo metadata --quiet --no-deps --format-version 1 > "$work/out" 2> "$work/err"
-check 'what cargo knows of it' [ "$(jq -c '.packages[0] | .description, .license, .authors, .keywords, .categories,
-    (.targets[] | ."required-features" // empty)' "$work/out")" = \
-    "$wanted$newline$five$newline[\"multimedia::video\",\"command-line-utilities\"]$newline[\"cli\"]" ]
 check 'a panic ends the process' sh -c "cargo rustc --quiet --release --lib -- --print cfg | grep -qx 'panic=\"abort\"'"
 # Who takes the library takes none of what the program alone needs.
 bounded cargo tree --quiet --edges normal --prefix none > "$work/out" 2> "$work/err"
