@@ -27,7 +27,7 @@ static void resample(uint32_t system, uint32_t black, const uint8_t *pixels, uin
     size_t before = system == LDVBI_NTSC ? NTSC_BEFORE : PAL_BEFORE;
     for (size_t column = 0; column < width; column++) {
         size_t moment = column * whole; /* in parts of a pixel, of which it has `width` */
-        uint32_t sample = black * 257;
+        uint32_t sample = black;
         if (moment >= before * width && moment < (before + PIXELS - 1) * width) {
             const uint8_t *pixel = pixels + moment / width - before;
             uint32_t part = (uint32_t)(moment % width), rest = (uint32_t)width - part;
@@ -51,6 +51,11 @@ static int refuse(const char *why) {
     return 2;
 }
 
+/* Ends the program if a call of the library refuses what it is given. */
+static void check(uint32_t status) {
+    if (status != LDVBI_DONE) exit(refuse(ldvbi_status_text(status)));
+}
+
 /* Reads whole fields until there are no more. Returns the program's status. */
 static int print_fields(uint32_t system, uint32_t black, uint32_t white) {
     size_t length, line = ldvbi_line_bytes(system), whole = 3 * line;
@@ -59,9 +64,8 @@ static int print_fields(uint32_t system, uint32_t black, uint32_t white) {
         LdvbiFieldReadings field;
         uint32_t stop;
         for (size_t i = 0; i < 3; i++) resample(system, black, pixels + i * PIXELS, lines + i * line);
-        uint32_t status = ldvbi_recover_rows(system, black * 257, white * 257, lines, whole, &field);
-        if (status == LDVBI_DONE) status = ldvbi_judge_stops(&field, 1, &stop, 1);
-        if (status != LDVBI_DONE) return refuse(ldvbi_status_text(status));
+        check(ldvbi_recover_rows(system, black, white, lines, whole, &field));
+        check(ldvbi_judge_stops(&field, 1, &stop, 1));
         print_field(&field, stop);
     }
     if (ferror(stdin)) return refuse(strerror(errno));
@@ -70,11 +74,11 @@ static int print_fields(uint32_t system, uint32_t black, uint32_t white) {
     return ferror(stdout) ? refuse(strerror(errno)) : 0;
 }
 
-/* A whole number from 0 to 255. */
+/* A whole number from 0 to 255, as a sample of 16 bits. */
 static int parse_level(const char *text, uint32_t *level) {
     size_t length = strlen(text);
-    *level = (uint32_t)strtoul(text, NULL, 10);
-    return length > 0 && length <= 3 && strspn(text, "0123456789") == length && *level <= 255;
+    *level = (uint32_t)strtoul(text, NULL, 10) * 257;
+    return length > 0 && length <= 3 && strspn(text, "0123456789") == length && *level <= 65535;
 }
 
 int main(int count, char **words) {
@@ -82,8 +86,8 @@ int main(int count, char **words) {
     if (ldvbi_abi() != LDVBI_ABI) return refuse("the library has another interface");
     if (count != 4) return refuse("usage: pixels NTSC|PAL BLACK WHITE < FILE");
     uint32_t system = strcmp(words[1], "NTSC") == 0 ? LDVBI_NTSC : strcmp(words[1], "PAL") == 0 ? LDVBI_PAL : 0;
-    if (system == 0) return refuse(ldvbi_status_text(LDVBI_BAD_SYSTEM));
     if (!parse_level(words[2], &black)) return refuse("black is not a whole number from 0 to 255");
     if (!parse_level(words[3], &white)) return refuse("white is not a whole number from 0 to 255");
+    check(ldvbi_recover_fields(system, black, white, NULL, 0, NULL, 0)); /* tests the numbers */
     return print_fields(system, black, white);
 }

@@ -44,10 +44,10 @@ static Part read_around(const Side *side, size_t field, size_t reach) { /* and a
 }
 static int has_picture(const Side *side, size_t field, uint32_t *number) {
     Part p = read_around(side, field, 2 * LDVBI_REACH); /* so many that this is the answer of the whole side's judge */
-    LdvbiNumber shown;
     check(ldvbi_find_pace(side->system, LDVBI_PICTURES, p.read, p.count, p.seen, p.count, &p.pace));
-    check(ldvbi_judge_field(side->system, LDVBI_PICTURES, p.pace, p.read, p.count, field - p.from, &shown));
-    return *number = shown.number, shown.state == LDVBI_BELIEVED || shown.state == LDVBI_DUE;
+    check(ldvbi_judge_field(side->system, LDVBI_PICTURES, p.pace, p.read, p.count, field - p.from, p.shown));
+    *number = p.shown[0].number;
+    return p.shown[0].state == LDVBI_BELIEVED || p.shown[0].state == LDVBI_DUE;
 }
 /* ---- Where commands lead: to a field, or to the count of all fields */
 static int chapter_of(const Side *side, size_t field) { /* the last one up to it; 80 in lead-out, -1 before all */

@@ -112,11 +112,11 @@ int main(int count, char **words) {
                                         fields, numbers, fields, ends, fields, gaps, fields, &found));
         check(ldvbi_set_aside(system, counted, pace, LDVBI_FIND_BOTH, &clock, gaps, found.tally.gaps, numbers, fields,
                               left, fields, &aside));
-        /* a few minutes don't show enough of drop-frame: what is whole by that is whole */
+        /* a few minutes of an NTSC CLV disc don't show enough of drop-frame: what is whole by that is whole */
         clock.kind = LDVBI_DROP_FRAME;
         check(ldvbi_judge_side_by_clock(system, counted, pace, LDVBI_FIND_BOTH, (uint32_t)may_end, &clock, seen,
                                         fields, numbers, fields, ends, fields, NULL, 0, &dropped));
-        if (dropped.verdict == LDVBI_WHOLE) found = dropped;
+        if (dropped.verdict == LDVBI_WHOLE && system == LDVBI_NTSC && counted == LDVBI_TIMES) found = dropped;
     }
     int status = print(&found, gaps);
     print_aside(numbers, left, fields);

@@ -26,11 +26,12 @@ VERDICTS = {Verdict.whole: ("yes", 0), Verdict.not_whole: ("no", 1), Verdict.can
 
 
 def judged_by(readings, system, counted, may_end):
-    """The answer by the clock that is found. A few minutes don't show enough of drop-frame: what is whole by that is
-    whole. Pictures, and the times of PAL, keep to no clock, so that both answers are the same."""
+    """The answer by the clock that is found. A few minutes of an NTSC CLV disc don't show enough of drop-frame: what is
+    whole by that is whole."""
     found, dropped = (ldvbi.judge_side(readings, system, counted, may_end=may_end, clock=clock)
                       for clock in ("find", ldvbi.Clock(ldvbi.ClockKind.drop_frame)))
-    return dropped if dropped.verdict == Verdict.whole else found
+    has_clock = system == "NTSC" and counted == ldvbi.Counted.times
+    return dropped if has_clock and dropped.verdict == Verdict.whole else found
 
 
 def main():

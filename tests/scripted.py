@@ -48,6 +48,7 @@ ROWS = (
     ("rust/hand/src/exports.rs", HAND, (LIBRARY,)),
     ("rust/hand/src/main.rs", HAND, ON_BUILT), ("rust/hand/src/system.rs", HAND, ON_BUILT),
     ("rust/hand/src/clap.rs", HAND, ON_BUILT[:2]),
+    ("rust/hand/src/lib.rs", HAND, (TESTS, script("cli/rust_crate"))),
     ("rust/hand/src/", HAND, (TESTS,)),
     ("rust/hand/", CRATE + "cp -r rust/hand/. rust/crate", (script("cli/rust_crate"),)),
     ("include/ldvbi.h", "", (WRITTEN, NAMED, MODULE, script("library/library"), script("library/examples"))),

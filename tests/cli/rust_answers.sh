@@ -38,6 +38,9 @@ player|1|both.tbc play play play play|play: field 2;play: field 3 picture 2;play
 whole|1|side.tbc $on_cav cut|whole: no [IsLost, IsOff];lost 8: field 25 has 9, field 27 has 14\
 ;still 2: field 41 has 21, field 43 has 21;still 2: field 43 has 21, field 45 has 21\
 ;still 2: field 45 has 21, field 47 has 21|
+whole|4|scratch.tbc $on_cav cut|whole: can't tell [IsOpen];replaced 0: field 119 has 60, field 121 has 40061\
+;replaced 0: field 139 has 40070, field 141 has 71$(for number in 1 2 3 4 5 6 7 8 9 10; do
+    printf ';aside: field %d has %d' $((119 + 2 * number)) $((40060 + number)); done)|
 whole|4|film.tbc $on_cav|whole: can't tell [EndUnseen]|
 whole|0|film.tbc $on_cav cut|whole: yes []|
 whole|4|empty $on_cav|whole: can't tell [NoNumbers]|

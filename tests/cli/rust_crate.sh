@@ -29,6 +29,24 @@ code|const SAME: bool = 1 ≡ 1;|'≡' is unknown here
 code|fn few() { let Some(_) = None::<u8> }|a let .. else of another form
 END
 
+# build.rs has that script write the modules, unless they are there, and says what cargo has to know.
+bounded rustc --edition 2021 -o building "$top/rust/hand/build.rs" || exit 1
+mkdir -p rust/hand written
+cp "$top/rust/erase.py" rust
+printf 'pub fn has_body() { one_outcome() }' > crates/vbi_words/src/laws.rt
+printf '%s\n' 'cargo:rustc-check-cfg=cfg(one_file)' 'cargo:rerun-if-changed=build.rs' > begun
+{ cat begun; printf '%s\n' "cargo:rerun-if-changed=$top/rust/hand/../../crates" 'cargo:rustc-cfg=one_file'; } > all
+while IFS='|' read -r name place path ended told said; do
+    does env PATH="$path" CARGO_MANIFEST_DIR="$place" OUT_DIR="$work/written" ./building
+    check "build.rs $name" [ "$status $(cmp out $told; tr "':" '\n\n' < err | grep -cx "${said:-.*}")" = "$ended" ]
+done << END
+of the repository|$top/rust/hand|$PATH|0 0|all|
+of the crate|$top/rust/crate|$PATH|0 0|begun|
+without python3|$top/rust/hand|none|101 1|begun|python3 is needed, which writes the proved source as plain Rust
+of a source that is refused|$work/rust/hand|$PATH|101 1|begun|erase.py has said why
+END
+check 'one file is written' [ "$(ls written)" = modules.rs ]
+
 version=$(sed -n 's/^version = "\(.*\)"$/\1/p' "$top/rust/hand/Cargo.toml")
 check 'the version of the crate is that of make' [ "$version" = "$(sed -n 's/^VERSION := //p' "$top/Makefile")" ]
 
@@ -42,6 +60,15 @@ quiet() {
     bounded env RUSTFLAGS= "$@" > "$work/out" 2> "$work/err" || status=$?
     ! grep -q '^\(warning\|error\)' "$work/err" && [ "$status" = 0 ]
 }
+# What it is, its licence, whoever made it and its keywords are those of Python's package, though cargo takes five
+# keywords at most; it stands in groups that crates.io has; and who wants the program, asks for it.
+wanted=$(sed -n 's/^description = \(".*"\)$/\1/p; s/^license = { text = \(".*"\) }$/\1/p
+    s/^authors = \[{ name = \(".*"\) }\]$/[\1]/p' "$top/pyproject.toml")
+five=$(sed -n 's/^keywords = \(\[.*\]\)$/\1/p' "$top/pyproject.toml" | jq -c '.[:5]')
+bounded cargo metadata --quiet --no-deps --format-version 1 > "$work/out" 2> "$work/err"
+check 'what cargo knows of it' [ "$(jq -c '.packages[0] | .description, .license, .authors, .keywords, .categories,
+    (.targets[] | ."required-features" // empty)' "$work/out")" = \
+    "$wanted$newline$five$newline[\"multimedia::video\",\"command-line-utilities\"]$newline[\"cli\"]" ]
 touch src/lib.rs
 while IFS='|' read -r name words; do
     check "$name" quiet $words
@@ -55,18 +82,9 @@ bits_above is compiled in each of its ways|sh $here/bits_above.sh $work
 that of x86-64 is the plain loop|$work/x86-64
 so is that of 64-bit ARM|$work/arm-64
 the example in its documents|cargo test --doc --quiet
-its interface on drawn sides|cargo test --quiet --test facade --test whole
+its interface on drawn sides|cargo test --quiet --tests
 sides that it opens|cargo test --quiet --features metadata --test opened
 END
-# Its licence, whoever made it and its keywords are those of Python's package, though cargo takes five keywords at most;
-# it stands in groups that crates.io has; and who wants the program, asks for it.
-wanted=$(sed -n 's/^license = { text = \(".*"\) }$/\1/p; s/^authors = \[{ name = \(".*"\) }\]$/[\1]/p' \
-    "$top/pyproject.toml")
-five=$(sed -n 's/^keywords = \(\[.*\]\)$/\1/p' "$top/pyproject.toml" | jq -c '.[:5]')
-bounded cargo metadata --quiet --no-deps --format-version 1 > "$work/out" 2> "$work/err"
-check 'what cargo knows of it' [ "$(jq -c '.packages[0] | .license, .authors, .keywords, .categories,
-    (.targets[] | ."required-features" // empty)' "$work/out")" = \
-    "$wanted$newline$five$newline[\"multimedia::video\",\"command-line-utilities\"]$newline[\"cli\"]" ]
 check 'a panic ends the process' sh -c "cargo rustc --quiet --release --lib -- --print cfg | grep -qx 'panic=\"abort\"'"
 # Who takes the library takes none of what the program alone needs.
 bounded cargo tree --quiet --edges normal --prefix none > "$work/out" 2> "$work/err"

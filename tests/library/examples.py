@@ -12,7 +12,7 @@ import sys
 sys.path.append(str(pathlib.Path(__file__).parents[1] / "cli"))
 from answers import EXAMPLES, LEVELS, run
 
-PAL = "clv", "marks", "rare", "runs", "sparse"  # sides; all others are of NTSC
+PAL = "clv", "marks", "minutely", "rare", "runs", "sparse"  # sides; all others are of NTSC
 ELSE = {"seek": "3", "player": "search 3"}
 
 

@@ -87,7 +87,7 @@ run extract $ntsc worn.tbc
 check 'a worn side: no line shows its word' [ "$(jq -c '[.fields[].vbi.vbiData[]] | [length, add]' out)" = '[144,0]' ]
 mkdir folder.tbc
 ln -s /dev/null null.tbc
-bounded python3 "$tests/cli/answers.py" draw misread clock slow rare away dark few even || exit 1
+bounded python3 "$tests/cli/answers.py" draw misread clock slow rare away dark few even minutely pairless || exit 1
 does sh "$top/examples/side.sh" ./missing
 check 'side.sh without its program' [ "$status" = 127 ]
 bounded sh "$top/examples/side.sh" "$program"
@@ -219,6 +219,7 @@ whole.py|2||cav|NTSC -1 51200;NTSC 16384x 51200;NTSC 16384 65536;NTSC 16384 4294
 $whole|0|whole: yes|cav;ten|@;@ cut;NTSC 000016384 000051200|
 $whole|0|whole: yes|worn;few;even|@ cut|
 $whole|1|whole: no: fields are lost, $off, no lead-out;lost 4: field 3600 has 1799, field 3601 has 1802|few|@|
+$whole|1|whole: no: fields are lost, $off;lost 4: field 3599 has 1799, field 3601 has 1802|minutely;pairless|@ cut|
 $whole|4|whole: can't tell: no lead-out|ten_18_478659;ten_20_478659|@|
 $whole|4|whole: can't tell: no numbers|clv;stops_4_478659|@|
 $whole|4|whole: can't tell: its beginning isn't seen|late|@ cut|
@@ -267,8 +268,7 @@ check 'player.py: no metadata' answers_so player.py 2 '' '*' "python3 $top/examp
 # Of a side that is read as a whole the pages with lines 16 to 18 are asked for ahead, once; of all that map a side
 # nothing else is read ahead. Of a file on standard input few bytes are read, and of a pipe all; it may begin after the
 # file's first field.
-bounded $cc -std=c99 -Wall -Wextra -Werror -shared -fPIC -I"$top/include" -o advised.so "$here/advised.c" \
-    -ldl
+bounded $cc -std=c99 -Wall -Wextra -Werror -shared -fPIC -I"$top/include" -o advised.so "$here/advised.c" -ldl
 awk -v fields=129 'BEGIN {
     print "random", 0, 478660 * fields
     for (rows = 15 * 1820; asked++ < fields; rows += 478660) print "asks", rows - rows % 4096, rows + 3 * 1820
@@ -363,8 +363,8 @@ NTSC 16~ 235|black is not a whole number from 0 to 255
 NTSC '' 235|black is not a whole number from 0 to 255
 NTSC 0016 235|black is not a whole number from 0 to 255
 NTSC 16 256|white is not a whole number from 0 to 255
-NTSC 235 16 < lines.y8|$low, or one of them is above 65535
-NTSC 16 16 < lines.y8|$low, or one of them is above 65535
+NTSC 235 16|$low, or one of them is above 65535
+NTSC 16 16|$low, or one of them is above 65535
 END
 
 # What a system may lack: room on a disk, memory, standard input, or the end of a file, now or when it is read; and the

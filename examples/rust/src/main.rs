@@ -40,9 +40,8 @@ fn search(side: &Side, place: Place) -> Option<(Field, u32)> {
 fn play(side: &Side, at: usize) -> Option<Field> {
     let mut next = at;
     side.stops(at).find(|stop| {
-        let follows = stop.index == next && next > at;
         let is_same = || [None, picture_of(side, stop.index - 1)].contains(&picture_of(side, stop.index));
-        let is_passed = stop.index == at || follows && is_same();
+        let is_passed = stop.index == at || stop.index == next && is_same();
         next = stop.index + 1;
         !is_passed
     })
@@ -56,7 +55,7 @@ fn run() -> Result<ExitCode, Box<dyn Error>> {
         let alone = |field| (field, 0);
         let found = match command.as_str() {
             "search" => search(&side, place_of(&word()?)?),
-            "chapter" => side.seek_on(Place::Chapter(word()?.parse()?), 80),
+            "chapter" => side.seek_on(Place::Chapter(word()?.parse()?), u32::MAX),
             "next" => side.next_chapter(at).map(alone),
             "previous" => side.previous_chapter(at).map(alone),
             "play" => play(&side, at).map(alone),

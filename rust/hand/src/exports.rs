@@ -29,11 +29,10 @@ unsafe fn room<'a, T>(start: *mut T, length: usize) -> &'a mut [T] {
     from_raw_parts_mut(start, length.min(MOST / size_of::<T>()))
 }
 
-/// Says that this library is built from the source without its contracts. The proved library has no such call.
+/// Says, by being there, that this library is built from the source without its contracts: the proved one has no such
+/// call.
 #[no_mangle]
-pub extern "C" fn ldvbi_plain_rust() -> u32 {
-    1
-}
+pub extern "C" fn ldvbi_plain_rust() {}
 
 macro_rules! exports {
     ($(fn $name:ident($($arguments:tt)*) -> $answer:ty;)*) => { $(export! { $name $answer, [] [] $($arguments)*, })* };

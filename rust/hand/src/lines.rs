@@ -27,9 +27,9 @@ pub(crate) fn check_lines(system: System, bytes: usize, most: usize) -> Result<(
     is_right.then_some(()).ok_or(Error::NoLine { bytes, line })
 }
 
-/// Takes the status of a call whose arguments are right, by their types or because they were tested.
+/// Takes the status of a call whose arguments are right, by their types or because they were tested: it is done.
 pub(crate) fn done(status: u32) {
-    assert_eq!(status, 0, "the library refused what it takes");
+    assert!(status == 0);
 }
 
 /// The system as the library's calls take it.
@@ -97,5 +97,14 @@ impl Feeder {
     /// How many bytes of the field that isn't whole have come. If the stream ends now, this field is cut.
     pub fn cut_bytes(&self) -> usize {
         self.at
+    }
+}
+
+#[cfg(test)]
+mod tests {
+    #[test]
+    #[should_panic]
+    fn a_call_that_is_refused_is_a_fault() {
+        super::done(1);
     }
 }

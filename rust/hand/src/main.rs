@@ -10,13 +10,12 @@ use ldvbi::program::{
     do_command, read_words, settle, status, AppFault, Input, Job, MetaFault, Outlet, Source, WordsFault, META_LIMIT,
 };
 use std::fs::File;
-use std::io::{ErrorKind, Read, Write};
+use std::io::{self, BufReader, ErrorKind, Read, Write};
 use system::Stream;
 
-/// Prints the line of a fault, and returns the status. If printing fails, there is no way left to say so.
-fn complain(fault: &str, status: u8) -> u8 {
+/// Prints the line of a fault. If printing fails, there is no way left to say so.
+fn complain(fault: &str) {
     let _ = Stream::error().write_all(format!("ldvbi: {fault}\n").as_bytes());
-    status
 }
 
 /// Runs the program, and returns its status.
@@ -24,7 +23,10 @@ fn run() -> u8 {
     let words: Result<Vec<String>, _> = std::env::args_os().map(|word| word.into_string()).collect();
     let words = match words {
         Ok(words) => words,
-        Err(_) => return complain("arguments are not UTF-8", 2),
+        Err(_) => {
+            complain("arguments are not UTF-8");
+            return 2;
+        }
     };
     let job = match read_words(&words) {
         Ok(job) => job,
@@ -36,18 +38,19 @@ fn run() -> u8 {
             return fault.status();
         }
     };
-    match run_with_files(&job) {
-        Ok(status) => status,
-        Err(fault) => complain(&fault, 1),
-    }
+    run_with_files(&job).unwrap_or_else(|fault| {
+        complain(&fault);
+        1
+    })
 }
 
 /// Prints help or the version, as asked, and returns the status.
 fn help(text: &str) -> u8 {
-    match Stream::output().write_all(text.as_bytes()) {
-        Ok(()) => 0,
-        Err(_) => complain("cannot write output", 1),
+    if Stream::output().write_all(text.as_bytes()).is_ok() {
+        return 0;
     }
+    complain("cannot write output");
+    1
 }
 
 /// Opens what the job names, does the job, and returns the status.
@@ -69,12 +72,8 @@ fn run_with_files(job: &Job) -> Result<u8, String> {
         Err(fault) => Err(AppFault::Meta(fault)),
     };
     match (&ended, &beside) {
-        (Err(AppFault::Meta(fault)), Some(name)) if is_in_metadata(fault) => {
-            complain(&format!("{name}: {fault}"), 1);
-        }
-        (Err(fault), _) => {
-            complain(&fault.to_string(), 1);
-        }
+        (Err(AppFault::Meta(fault)), Some(name)) if is_in_metadata(fault) => complain(&format!("{name}: {fault}")),
+        (Err(fault), _) => complain(&fault.to_string()),
         _ => {}
     }
     Ok(status(&ended))
@@ -106,7 +105,7 @@ fn metadata_of(job: &Job, beside: Option<&str>) -> Result<Option<Vec<u8>>, Strin
 }
 
 /// Opens a file that nobody has named. A pipe or a device in its place might have the program wait for ever.
-fn file_at(path: &str) -> std::io::Result<File> {
+fn file_at(path: &str) -> io::Result<File> {
     match std::fs::metadata(path)?.is_file() {
         true => File::open(path),
         false => Err(ErrorKind::InvalidInput.into()),
@@ -114,22 +113,13 @@ fn file_at(path: &str) -> std::io::Result<File> {
 }
 
 /// Whether a file that can't be opened isn't there. Older compilers have no kind for error 20, a name below a file.
-fn is_absent(error: &std::io::Error) -> bool {
+fn is_absent(error: &io::Error) -> bool {
     error.kind() == ErrorKind::NotFound || cfg!(unix) && error.raw_os_error() == Some(20)
 }
 
 /// The bytes of a metadata file, up to one more than is allowed. An interrupted read is tried again.
-fn metadata(opened: std::io::Result<File>) -> Result<Vec<u8>, &'static str> {
-    let mut file = opened.map_err(|_| "cannot read metadata")?;
-    let (mut bytes, mut piece) = (Vec::new(), vec![0; 65536]);
-    while bytes.len() <= META_LIMIT {
-        let most = piece.len().min(META_LIMIT + 1 - bytes.len());
-        match file.read(&mut piece[..most]) {
-            Ok(0) => break,
-            Ok(count) => bytes.extend_from_slice(&piece[..count]),
-            Err(error) if error.kind() == ErrorKind::Interrupted => {}
-            Err(_) => return Err("cannot read metadata"),
-        }
-    }
-    Ok(bytes)
+fn metadata(opened: io::Result<File>) -> Result<Vec<u8>, &'static str> {
+    let mut bytes = Vec::new();
+    let read = opened.and_then(|file| BufReader::new(file).take(META_LIMIT as u64 + 1).read_to_end(&mut bytes));
+    read.map(|_| bytes).map_err(|_| "cannot read metadata")
 }

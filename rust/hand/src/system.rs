@@ -32,32 +32,28 @@ pub(crate) struct Stream(ManuallyDrop<File>);
 
 impl Stream {
     pub(crate) fn input() -> Stream {
-        Stream::of(0)
+        Stream::of(0, io::stdin)
     }
 
     pub(crate) fn output() -> Stream {
-        Stream::of(1)
+        Stream::of(1, io::stdout)
     }
 
     pub(crate) fn error() -> Stream {
-        Stream::of(2)
+        Stream::of(2, io::stderr)
     }
 
+    /// That of this number, as Unix knows it; under Windows that of the handle which Rust's own has.
     #[cfg(unix)]
-    fn of(number: i32) -> Stream {
+    fn of<Own>(number: i32, _own: fn() -> Own) -> Stream {
         use std::os::unix::io::FromRawFd;
         Stream(ManuallyDrop::new(unsafe { File::from_raw_fd(number) }))
     }
 
     #[cfg(windows)]
-    fn of(number: i32) -> Stream {
-        use std::os::windows::io::{AsRawHandle, FromRawHandle};
-        let handle = match number {
-            0 => io::stdin().as_raw_handle(),
-            1 => io::stdout().as_raw_handle(),
-            _ => io::stderr().as_raw_handle(),
-        };
-        Stream(ManuallyDrop::new(unsafe { File::from_raw_handle(handle) }))
+    fn of<Own: std::os::windows::io::AsRawHandle>(_number: i32, own: fn() -> Own) -> Stream {
+        use std::os::windows::io::FromRawHandle;
+        Stream(ManuallyDrop::new(unsafe { File::from_raw_handle(own().as_raw_handle()) }))
     }
 }
 

@@ -181,7 +181,8 @@ fn numbers_in_the_place_of_others() {
 
 #[test]
 fn numbers_in_the_place_of_others_on_film_and_by_a_clock() {
-    // On film pictures with an odd number last three fields, the others two.
+    // On film pictures with an odd number last three fields, the others two. By the clock those before and after the
+    // 15 of the last row are 20, of which 10 stand on either side.
     let film = |first: u32, last: u32| {
         let rows = (first..=last).flat_map(|number| {
             let shown = [0, picture(number), picture(number)];
@@ -192,7 +193,7 @@ fn numbers_in_the_place_of_others_on_film_and_by_a_clock() {
     for (counted, parts, clock) in [
         (Counted::Pictures, [film(1, 30), film(201, 210), film(41, 60)], Clock::Plain),
         (Counted::Times, [times(0, 30), times(201, 210), times(41, 60)], Clock::Plain),
-        (Counted::Times, [times(1780, 1799), times(601, 610), times(1812, 1840)], Clock::DropFrame),
+        (Counted::Times, [times(1790, 1799), times(601, 615), times(1817, 1826)], Clock::DropFrame),
     ] {
         let (bytes, begin) = (draw(System::Ntsc, &parts.concat()), parts[0].len());
         let (side, options) = (Side::new(&bytes, System::Ntsc, levels()).unwrap(), cut_off(counted));

@@ -18,12 +18,10 @@ fn run() -> Result<ExitCode, Box<dyn Error>> {
     let asked = |counted| SideOptions { may_end, ..SideOptions::new(counted) };
     let has_pictures = side.whole(asked(Counted::Pictures)).reasons != [Reason::NoNumbers];
     let options = asked(if has_pictures { Counted::Pictures } else { Counted::Times });
-    let mut clock = side.find_clock(options);
-    // A few minutes don't show enough of drop-frame: if no clock is found, what is whole by that is whole.
-    if clock == Clock::Plain && system == System::Ntsc && options.counted == Counted::Times {
-        let dropped = side.whole_by_clock(options, Clock::DropFrame)?;
-        clock = if dropped.verdict == Verdict::Yes { Clock::DropFrame } else { clock };
-    }
+    // A few minutes don't show enough of drop-frame: what is whole by that is whole.
+    let has_clock = system == System::Ntsc && options.counted == Counted::Times;
+    let is_dropped = has_clock && side.whole_by_clock(options, Clock::DropFrame)?.verdict == Verdict::Yes;
+    let clock = if is_dropped { Clock::DropFrame } else { side.find_clock(options) };
     let whole = side.whole_by_clock(options, clock)?;
     let (said, status) = match whole.verdict {
         Verdict::Yes => ("yes", 0),
