@@ -203,6 +203,8 @@ WHOLE = """
         | can't tell: 1 picture may have another's field (40); no lead-out after picture 40
     strict | L 1..40 -42:47 ; 1..40 -61:62 O | - | yes || strict | L 1..40 42=? O ; 1..40 | - | yes
     strict | L 1..40 42=? O ; 1..40 41=? | unread | no: 1 picture unread
+    strict | L Bx4 3..40 O ; 1..40 O | - | yes
+    strict | L m57x3000 Bx3000 m59x3000 O ; m57x3000 m59x3000 | unread, begins, minutes | no: 1 minute unread; ..
     strict | 1..40 -41:46 ; 1..40 -61:62 | lead-in, lead-out | no: no lead-in; no lead-out after picture 40
     42 | 1..40 ; 1..38 | missing | no: 2 pictures lost || 40 | 1..40 -41:46 ; 1..40 -61:62 | - | yes
     42 | 1..40 Bx4 ; 1..38 | undecided | can't tell: 2 pictures undecided

@@ -29,9 +29,10 @@ def join(captures: List[Capture]) -> Joined:
     """What these captures have together, and what `write` makes of them. A ValueError if two of them can't be of one
     disc."""
     refuse_other_discs(captures)
-    unit, found = captures[0].unit(), disagreements_of(captures)
+    found = disagreements_of(captures)
     disputed = disputed_in(found)
     made = planned([Source(one, one.facts) for one in captures], found)
+    unit = made.count_unit()
     taken, piled = taken_of(made, captures), read_together(captures, disputed)
     standings, left_out = standings_of(captures, disputed), set(made.left_out)
     first, last = taken[0].number, taken[-1].number
@@ -42,8 +43,7 @@ def join(captures: List[Capture]) -> Joined:
                                     *_beyond(captures, last)])
     grounds = grounds_of(captures, made, rows, missing)
     return Joined(
-        VERSION, whole_of(grounds), grounds, captures[0].answer.system, captures[0].answer.format, unit.name,
-        shown_by(captures),
+        VERSION, whole_of(grounds), grounds, made.system, captures[0].answer.format, unit.name, shown_by(captures),
         [_of_capture(one) for one in captures], Extent(len(taken), unit.text_of(first), unit.text_of(last)),
         missing, _skipped(made, first, last, unit),
         [one for capture in captures for one in _lacks(capture, captures, taken, left_out)],
