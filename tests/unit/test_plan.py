@@ -233,7 +233,7 @@ def test_random_sets(seed):
 
 @pytest.mark.parametrize("side_text, has_dropouts, sums", (
     ("lost=2,4 NTSC 1..3", False, [0, 0, 200000, 400000, 400000]), ("lost=2 grey= NTSC 1..2", False, [0, 0, 0, 0]),
-    ("lost= grey=3 NTSC 1..2", False, [0, 0, 0, 0, 0]),
+    ("lost= grey=3 NTSC 1..2", False, [0, 0, 0, 0, 0]), ("lost=3 grey=4 NTSC 1..3", False, [0, 0, 0] + 3 * [200000]),
     ("1..2 3.16=?", False, [0, 0, 0, 500, 500]), ("dropouts=2..3 1..2", True, [0, 0, 900, 1800, 1800])))
 def test_how_much_is_damaged(side_text, has_dropouts, sums):
     """A place where the colour doesn't go on counts as much as two changes of the capture do."""

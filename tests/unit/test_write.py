@@ -251,8 +251,8 @@ REFUSED = (
     ({"b.tbc": lambda data: data + b"12"}, "", "b.tbc: its last field is cut: 2 bytes; head -c makes it whole"),
     ({"b.pcm": lambda data: data + b"1234"}, "",
      "b.pcm has 161896 bytes, and its fields' audioSamples come to 161892"),
-    ({"b.tbc.json": changed(lambda one: one["fields"][2].pop("efmTValues"))}, "",
-     "b.efm has 2413 bytes, and its fields' efmTValues come to no sum"),
+    ({"b.tbc.json": changed(lambda one: one["fields"][2].pop("efmTValues")), "b.efm": lambda data: data[:2370]}, "",
+     "b.efm has 2370 bytes, and its fields' efmTValues come to no sum"),
     ({"b.tbc.json": None}, "", "b.tbc: no b.tbc.json or b.tbc.db beside it"),
     *(({one: None, name: lambda _: b"old"}, "", name + " is there, and would be taken for a part of what is written: "
        "remove it") for one, name in (("b.pcm", "out.pcm"), ("b.efm", "out.efm"), ("no", "out.tbc.db"))),

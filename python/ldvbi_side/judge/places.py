@@ -80,8 +80,8 @@ def places_of(numbers: Numbers, codes: Codes) -> Places:
     # of all other believed readings the next one is that of the next number
     steps = [_step(numbers, place) for place in numbers.odd_places]
     begins, values = sorted(lead_in), numbers.values
-    # from this place on no number but the last one is shown: that may stay beside lead-out
-    last = max((place for place, number in enumerate(values, 1) if number != values[-1]), default=0)
+    # from this place on no number but the last one is shown (None is none): that may stay beside lead-out
+    last = max(place for place, number in enumerate([None, *values]) if values[-1:] != [number])
     # another side begins between two readings that don't fit, if one of these ends stands there
     joined = [step for step in steps if step.kind in ("still", "break") and _is_between(
         ends if step.place <= last else begins, step.before.field, step.after.field)]

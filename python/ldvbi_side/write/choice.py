@@ -1,6 +1,5 @@
 """Which run each rank is taken from: the cheapest way from the first rank to the last."""
 
-import operator
 from typing import Dict, List, NamedTuple, Optional, Sequence
 
 from .blocks import OPEN, SEEN, Block, Run
@@ -20,7 +19,8 @@ class Price(NamedTuple):
     samples: int = 0
 
     def plus(self, other: "Price") -> "Price":
-        return Price(*map(operator.add, self, other))
+        return Price(self.padding + other.padding, self.open + other.open, self.seen + other.seen,
+                     self.samples + other.samples)
 
 
 class Node(NamedTuple):

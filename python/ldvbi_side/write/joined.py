@@ -58,7 +58,7 @@ def _beyond(captures: List[Capture], last: int) -> List[int]:
     """The numbers after this one, up to the one that is given as the disc's last. Those that its clock leaves out
     aren't among them."""
     end = min((one.number for one in lasts_of(captures)), default=last)
-    left_out: Set[int] = set().union(*(one.clock.left_out_in(last + 1, end) for one in captures))
+    left_out: Set[int] = set().union(*(one.clock.left_out_in(last, end) for one in captures))
     return [number for number in range(last + 1, end + 1) if number not in left_out]
 
 
