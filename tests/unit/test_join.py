@@ -195,6 +195,10 @@ WHOLE = """
     open | PAL/42 1..40 ; PAL/40 1..40 | - | yes
     open | NTSC t0..59!31 ; NTSC t0..59!41 | - | yes || open | 1 ; 1 | numbers | can't tell: too few numbers to judge by
     open | m0..1x3000 ; m0..1x3000 | minutes | can't tell: no minute is between two others
+    open | b1..30 +38=B ; b1..30 +38=B | off | can't tell: a field may be lost or too many in fields 1 to 61
+    open | NTSC f1..40 ~48 ; NTSC f1..40 ~48 | order | can't tell: fields 48 and 49 may be swapped
+    open | t0..19 5.16=s0.25 7.18=@0:60 ; t0..19 5.16=s0.25 7.18=@0:60 | doubtful
+        | can't tell: numbers set aside in 2 of 20 fields
     open | NTSC t3..39 ; NTSC t3..39 | ends | can't tell: numbers before time 0:00:00.03 may be lost
     open | 1..40 -41:46 Bx150 ; 1..40 -71:72 Bx150 | ends | can't tell: numbers after picture 40 may be lost
     open | 1..20 Bx120 81..100 ; 1..20 Bx120 81..100 | unseen | can't tell: no number in fields 40 to 160
@@ -207,6 +211,8 @@ WHOLE = """
         | can't tell: 1 picture may have another's field (40); no lead-out after picture 40
     strict | L 1..40 -42:47 ; 1..40 -61:62 O | - | yes || strict | L 1..40 42=? O ; 1..40 | - | yes
     strict | L 1..40 42=? O ; 1..40 41=? | unread | no: 1 picture unread
+    strict | L 1..20 12=? 31..40 O ; 1..20 11=? 31..40 | missing, unread, unsure
+        | no: 10 pictures lost; 1 picture unread; 1 picture may have another's field (20)
     strict | L 1..40 42=? O ; 1..40 11=? 13=? | - | yes || strict | L Bx4 3..40 O ; 1..40 O | - | yes
     strict | L m57x3000 Bx3000 m59x3000 O ; m57x3000 m59x3000 | unread, begins, minutes | no: 1 minute unread; ..
     strict | 1..40 -41:46 ; 1..40 -61:62 | lead-in, lead-out | no: no lead-in; no lead-out after picture 40
@@ -249,13 +255,16 @@ def test_chapters_and_stops_together():
         ("stop", 11, 22, 11, "read", "b")]
     assert chapters_text("PAL", joined_spans(found), "x.txt") == (
         "0.020000\t0.620000\tChapter 1\n0.620000\t1.600000\tChapter 2\n")
+    # it begins beside a picture of film that isn't read
+    assert together("NTSC f1..20 11=B 12:13=-/c1/c1 15=-/c1/c1").chapters == [
+        (0, 1, "a", 2, 1, 2), (1, 5, "a", 12, 6, 12), (0, 7, "a", 17, 9, 17)]
     # what stands before the first field of 1 in a is in that of b
     assert together("-/c1/c1 1..40 3:81/2=-/c1/c1 62=?/#31/#31", "1..40 2:80/2=-/c1/c1").chapters == [
         (1, 1, "b", 1, 1, 1)]
     assert together("S/-/- 1x2 2..40 64=?/#31/#31", "1..40").stops == [(1, "b", 1, 1, "read")]
     assert together("1..9", "B 1..9 1:9=B").stops == []
     assert together("S/-/- B 1..40", "1..40").stops == []  # near no number
-    away = together("DETOUR 121=S/#161/#161 122:140/2=-/c5/c5", "1..100")
+    away = together("1..10 105..142 49..62 31=S/#110/#110 22:96/2=-/c5/c5", "1..62")
     assert (away.stops, [one.chapter for one in away.chapters]) == ([], [0])
     worn = together("1..9 3=S^/#2/#2 5=S^/#3/#3 7=S/#4/#4 -11:14", "1..9 3=S^/#2/#2 5=S/#3/#3 7=S^/#4/#4")
     assert [row for row in joined_rows(worn, ()) if row[0] == "stop"] == [

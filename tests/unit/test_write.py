@@ -163,7 +163,7 @@ def test_dropouts_and_phases_that_are_known(room):
 
     some = facts(dropouts((3, 7)), {}, {"dropOuts": {"endx": 3}}, dropouts((1, 1), (8, 9)), dropouts())
     assert (list(some.damage), some.phase) == ([5, 0, 0, 3, 0], None)
-    assert facts({"dropOuts": []}, {}).damage is None and list(facts(dropouts()).damage) == [0]
+    assert facts({"dropOuts": []}, {}, dropouts((2, 0))).damage is None and list(facts(dropouts()).damage) == [0]
     assert list(facts(*({"fieldPhaseID": one} for one in (1, 8, 9, 0, -1, True, 2.0, None))).phase) == [1, 8] + 6 * [0]
     draw(room.named("a.tbc"), VIDEO, VIDEO.order[:5], form="db", worse=[2])
     for statements, wanted in (

@@ -50,7 +50,7 @@ def join(captures: List[Capture]) -> Joined:
         _shown(How.ALONE, standings, unit, left_out), _shown(How.BETTER, standings, unit, left_out),
         [Alike(*one[:3]) for one in _standing_so(How.ALIKE, standings, lambda _: None, unit, left_out)],
         [Dispute(one.why, [_told(one.one, unit), _told(one.other, unit)]) for one in found],
-        rows, _ranges(made, captures, unit), chapters_at(captures, taken, made), stops_at(captures, taken, unit),
+        rows, _ranges(made, captures, unit), chapters_at(captures, taken, unit), stops_at(captures, taken, unit),
         _written(made, captures), made.fields)
 
 
