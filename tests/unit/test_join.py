@@ -201,6 +201,7 @@ WHOLE = """
         | can't tell: numbers set aside in 2 of 20 fields
     open | NTSC t3..39 ; NTSC t3..39 | ends | can't tell: numbers before time 0:00:00.03 may be lost
     open | 1..40 -41:46 Bx150 ; 1..40 -71:72 Bx150 | ends | can't tell: numbers after picture 40 may be lost
+    40 | 1..40 -41:46 Bx150 ; 1..40 -71:72 Bx150 | - | yes
     open | 1..20 Bx120 81..100 ; 1..20 Bx120 81..100 | unseen | can't tell: no number in fields 40 to 160
     open | 1..20 Bx120 81..100 -5:6 ; 1..100 -11:12 | - | yes
     open | 1..40 t0..4 -9:12 ; 1..40 -41:44 | format | no: a: codes of CLV in 10 fields, from field 77 on
