@@ -65,7 +65,9 @@ def stretch_text(one):
 
 
 def told(known, name):
-    """What plain data say: of @2 where number 2 is taken, else a list."""
+    """What plain data say: of @2 where number 2 is taken, how many `numbers` are, else a list."""
+    if name == "numbers":
+        return str(known[name]["count"])
     if name[0] == "@":
         return next("%s %d %d %s" % (*row[1:],) for row in known["taken"] if str(row[0]) == name[1:])
     return ", ".join(map(stretch_text, known[name]))

@@ -43,11 +43,11 @@ def _shown(one: Stretch, capture: Capture, begins: List[int]) -> Iterator[Tuple[
 
 
 def _others(one: Stretch, first_field: Dict[int, int], left_out: Set[int]) -> Iterator[Tuple[int, int, str]]:
-    """All numbers of a stretch, each with the field in which it begins as planned; if that isn't there, the nearest."""
+    """All numbers of a stretch, each with the field in which it begins as planned; if that comes before, the first."""
     assert one.field is not None and one.first is not None and one.last is not None
     field = one.field
     for number in range(one.first, one.last + 1):
         if number in first_field:
             field = one.field + max(first_field[number] - one.out, 0)
         if number not in left_out:
-            yield number, min(field, one.field + one.fields - 1), NEIGHBOURS
+            yield number, field, NEIGHBOURS
