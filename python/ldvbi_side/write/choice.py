@@ -13,10 +13,10 @@ BAD_LINE = 500  # the same of a bad line, if not each capture has dropouts
 class Price(NamedTuple):
     """What ways cost, by weight: fields of padding, then pictures that may have another's field, then those whose
     fields only their frames and the colour show, then samples in dropouts, and changes from run to run as samples."""
-    padding: int = 0
-    open: int = 0
-    seen: int = 0
-    samples: int = 0
+    padding: int
+    open: int
+    seen: int
+    samples: int
 
     def plus(self, other: "Price") -> "Price":
         return Price(self.padding + other.padding, self.open + other.open, self.seen + other.seen,
@@ -44,7 +44,7 @@ class Choice:
 
     def __init__(self, runs: Sequence[Run], sources: Sequence[Source], change: int, lengths: Lengths) -> None:
         """`change` is the price of a change in samples."""
-        self._runs, self._change, self._lengths = runs, Price(samples=change), lengths
+        self._runs, self._change, self._lengths = runs, change, lengths
         self._damage = [damage_of(source, _have_dropouts(sources)) for source in sources]
         self._begins: Dict[int, List[int]] = {}
         for place, run in enumerate(runs):
@@ -54,7 +54,7 @@ class Choice:
 
     def nodes(self, ranks: range) -> List[Node]:
         """The nodes of the cheapest way through these ranks."""
-        self._ways[None] = _Way(Price(), None, ranks.start)
+        self._ways[None] = _Way(Price(*4 * [0]), None, ranks.start)
         for rank in ranks:
             self._step(rank)
         node = self._cheapest(ranks.stop).node
@@ -75,7 +75,7 @@ class Choice:
         cost, node, end = cheapest = self._cheapest(rank)
         padding = node if node is not None and node.run is None else Node(None, rank, node)
         ways: Dict[Optional[int], _Way] = {
-            None: _Way(cost.plus(Price(padding=self._lengths.of(rank))), padding, end)}
+            None: _Way(cost._replace(padding=cost.padding + self._lengths.of(rank)), padding, end)}
         for place in list(self._next):
             blocks, index = self._runs[place].blocks, self._next[place]
             if index < len(blocks) and blocks[index].rank == rank:
@@ -89,8 +89,9 @@ class Choice:
 
     def _entered(self, place: int, block: Block, cheapest: _Way) -> _Way:
         """The cheapest way that ends in this block of a run: from within the run, or from the cheapest way."""
+        way, enter = self._ways.get(place), cheapest.cost
         # a change is paid for the first run, too, which each way has
-        way, enter = self._ways.get(place), cheapest.cost.plus(self._change)
+        enter = enter._replace(samples=enter.samples + self._change)
         cost, node = way[:2] if way and way.cost <= enter else (enter, Node(place, block.rank, cheapest.node))
         return _Way(cost.plus(self._price(self._runs[place], block)), node, block.end())
 
