@@ -65,7 +65,9 @@ def stretch_text(one):
 
 
 def told(known, name):
-    """What plain data say: of @2 where number 2 is taken, else a list."""
+    """What plain data say: of @2 where number 2 is taken, how many `numbers` are, else a list."""
+    if name == "numbers":
+        return str(known[name]["count"])
     if name[0] == "@":
         return next("%s %d %d %s" % (*row[1:],) for row in known["taken"] if str(row[0]) == name[1:])
     return ", ".join(map(stretch_text, known[name]))
@@ -188,21 +190,34 @@ WHOLE = """
     open | 1..40 ; 1..20 Lx5 1..20 | - | yes || open | 5..40 ; 1..9 | - | yes
     open | 5..40 ; 7..44 | begins | no: begins at picture 5
     open | 1..15 ; 1..20 Lx5 1..20 | joined | no: b: lead-in again in field 41 (two sides joined)
+    open | 1..20 Lx5 1..20 ; 1..20 Lx5 1..20 | joined | no: ..
     open | 1..10 Bx20 ; 21..40 | unsure | can't tell: 10 pictures may have another's field (11 to 20)
     open | NTSC t0..59!31 ; NTSC t0..59!31 | open | can't tell: in all of them fields may be lost at the same place
+    open | PAL/41 1..40 ; PAL/41 1..40 | open | can't tell: in all of them fields may be lost at the same place
+    open | PAL/42 1..40 ; PAL/40 1..40 | - | yes
     open | NTSC t0..59!31 ; NTSC t0..59!41 | - | yes || open | 1 ; 1 | numbers | can't tell: too few numbers to judge by
     open | m0..1x3000 ; m0..1x3000 | minutes | can't tell: no minute is between two others
+    open | b1..30 +38=B ; b1..30 +38=B | off | can't tell: a field may be lost or too many in fields 1 to 61
+    open | NTSC f1..40 ~48 ; NTSC f1..40 ~48 | order | can't tell: fields 48 and 49 may be swapped
+    open | t0..19 5.16=s0.25 7.18=@0:60 ; t0..19 5.16=s0.25 7.18=@0:60 | doubtful
+        | can't tell: numbers set aside in 2 of 20 fields
     open | NTSC t3..39 ; NTSC t3..39 | ends | can't tell: numbers before time 0:00:00.03 may be lost
     open | 1..40 -41:46 Bx150 ; 1..40 -71:72 Bx150 | ends | can't tell: numbers after picture 40 may be lost
+    40 | 1..40 -41:46 Bx150 ; 1..40 -71:72 Bx150 | - | yes
     open | 1..20 Bx120 81..100 ; 1..20 Bx120 81..100 | unseen | can't tell: no number in fields 40 to 160
     open | 1..20 Bx120 81..100 -5:6 ; 1..100 -11:12 | - | yes
     open | 1..40 t0..4 -9:12 ; 1..40 -41:44 | format | no: a: codes of CLV in 10 fields, from field 77 on
+    open | 0..40 t0..4 -9:12 ; 1..40 | format | no: a: codes of CLV in 10 fields, from field 79 on
     end | 1..40 -41:46 O ; 1..40 -61:62 | - | yes
     end | 1..40 -41:46 ; 1..40 -61:62 | lead-out | can't tell: no lead-out after picture 40
     end | 1..40 -41:46 ; 1..38 -5:6 O | unsure, lead-out
         | can't tell: 1 picture may have another's field (40); no lead-out after picture 40
     strict | L 1..40 -42:47 ; 1..40 -61:62 O | - | yes || strict | L 1..40 42=? O ; 1..40 | - | yes
     strict | L 1..40 42=? O ; 1..40 41=? | unread | no: 1 picture unread
+    strict | L 1..20 12=? 31..40 O ; 1..20 11=? 31..40 | missing, unread, unsure
+        | no: 10 pictures lost; 1 picture unread; 1 picture may have another's field (20)
+    strict | L 1..40 42=? O ; 1..40 11=? 13=? | - | yes || strict | L Bx4 3..40 O ; 1..40 O | - | yes
+    strict | L m57x3000 Bx3000 m59x3000 O ; m57x3000 m59x3000 | unread, begins, minutes | no: 1 minute unread; ..
     strict | 1..40 -41:46 ; 1..40 -61:62 | lead-in, lead-out | no: no lead-in; no lead-out after picture 40
     42 | 1..40 ; 1..38 | missing | no: 2 pictures lost || 40 | 1..40 -41:46 ; 1..40 -61:62 | - | yes
     42 | 1..40 Bx4 ; 1..38 | undecided | can't tell: 2 pictures undecided
@@ -243,12 +258,17 @@ def test_chapters_and_stops_together():
         ("stop", 11, 22, 11, "read", "b")]
     assert chapters_text("PAL", joined_spans(found), "x.txt") == (
         "0.020000\t0.620000\tChapter 1\n0.620000\t1.600000\tChapter 2\n")
+    # it begins beside a picture of film that isn't read
+    assert together("NTSC f1..20 11=B 12:13=-/c1/c1 15=-/c1/c1").chapters == [
+        (0, 1, "a", 2, 1, 2), (1, 5, "a", 12, 6, 12), (0, 7, "a", 17, 9, 17)]
     # what stands before the first field of 1 in a is in that of b
     assert together("-/c1/c1 1..40 3:81/2=-/c1/c1 62=?/#31/#31", "1..40 2:80/2=-/c1/c1").chapters == [
         (1, 1, "b", 1, 1, 1)]
-    assert together("S/-/- 1..40 62=?/#31/#31", "1..40").stops == [(1, "b", 1, 1, "read")]
+    assert together("S/-/- 1x2 2..40 64=?/#31/#31", "1..40").stops == [(1, "b", 1, 1, "read")]
     assert together("1..9", "B 1..9 1:9=B").stops == []
     assert together("S/-/- B 1..40", "1..40").stops == []  # near no number
+    away = together("1..10 105..142 49..62 31=S/#110/#110 22:96/2=-/c5/c5", "1..62")
+    assert (away.stops, [one.chapter for one in away.chapters]) == ([], [0])
     worn = together("1..9 3=S^/#2/#2 5=S^/#3/#3 7=S/#4/#4 -11:14", "1..9 3=S^/#2/#2 5=S/#3/#3 7=S^/#4/#4")
     assert [row for row in joined_rows(worn, ()) if row[0] == "stop"] == [
         ("stop", 2, 3, 2, "unsure", "b"), ("stop", 3, 5, 3, "read", "b"), ("stop", 4, 7, 4, "read", "b")]

@@ -28,7 +28,8 @@ def half_worn(number, setup, cell):
     return worn_line(picture(number), setup, cell, HALF[setup[0]])
 
 
-def capture(room, name, setup=NTSC, lines=(), dropouts=None, numbers=range(1, 21), fields=()):
+def capture(room, name, setup=NTSC, lines=(), dropouts=None, numbers=range(1, 21), fields=(),
+            is_strict=False):
     """A capture of these fields, or else of pictures, with the number in the first field of each. `lines` has lines 17
     and 18 of some."""
     path, words = room.named(name + ".tbc"), dict(lines)
@@ -36,6 +37,7 @@ def capture(room, name, setup=NTSC, lines=(), dropouts=None, numbers=range(1, 21
         [0, *words.get(number, [picture(number)] * 2)], [0, 0, 0])])
     side = side_of_tbc(path, ldvbi.System[setup[0]], *setup[1:], dropouts=dropouts)
     room.cleanup.callback(side.samples.close)
+    side.is_strict = is_strict
     return capture_of(side, name)
 
 
@@ -55,6 +57,12 @@ def test_each_is_worn_elsewhere(room, setup):
     captures = each_elsewhere(room, setup, 3)
     for some in (captures[:2], captures[1:], captures):
         assert how(*some) == {5: "together"}
+
+
+def test_what_is_read_together_is_read(room):
+    """Also by a strict judge."""
+    ones = [capture(room, str(cell), NTSC, {5: [half_worn(5, NTSC, cell), 0]}, is_strict=True) for cell in (5, 6)]
+    assert ["unread" in {one.why for one in join(some).reasons} for some in (ones[:1], ones)] == [True, False]
 
 
 def test_more_than_a_pile_has(room):

@@ -131,6 +131,10 @@ def test_sound_that_one_lacks_is_left_out(room):
     os.unlink(room.named("b.pcm"))
     assert room.run_words(words)[0] == 0
     assert "out.pcm" not in room.names() and "out.efm" in room.names()
+    for end in ("", ".json"):  # beside a file whose name has no end the sound has its whole name
+        os.rename(room.named("b.tbc" + end), room.named("b" + end))
+    assert room.run_words(words.replace("b.tbc", "b"))[0] == 0
+    assert "out.efm" in room.names()
 
 
 @pytest.mark.parametrize("form", ["json", "db"])
@@ -159,15 +163,18 @@ def test_dropouts_and_phases_that_are_known(room):
 
     some = facts(dropouts((3, 7)), {}, {"dropOuts": {"endx": 3}}, dropouts((1, 1), (8, 9)), dropouts())
     assert (list(some.damage), some.phase) == ([5, 0, 0, 3, 0], None)
-    assert facts({"dropOuts": []}, {}).damage is None and list(facts(dropouts()).damage) == [0]
+    assert facts({"dropOuts": []}, {}, dropouts((2, 0))).damage is None and list(facts(dropouts()).damage) == [0]
     assert list(facts(*({"fieldPhaseID": one} for one in (1, 8, 9, 0, -1, True, 2.0, None))).phase) == [1, 8] + 6 * [0]
     draw(room.named("a.tbc"), VIDEO, VIDEO.order[:5], form="db", worse=[2])
-    in_database(room.named("a.tbc.db"), "CREATE TABLE ones AS SELECT field_id, startx, endx FROM drop_outs",
-                "DROP TABLE drop_outs", "ALTER TABLE ones RENAME TO drop_outs",
-                "DELETE FROM drop_outs WHERE field_id = 3", "INSERT INTO drop_outs VALUES (2, 7, 9)")
-    found = told.Told(False)
-    found.add_rows(room.named("a.tbc.db"))
-    assert list(found.facts(Metadata("", None, None, None, [])).damage) == [2, 2, 103, 0, 2]
+    for statements, wanted in (
+            (["CREATE TABLE ones AS SELECT field_id, startx, endx FROM drop_outs", "DROP TABLE drop_outs",
+              "ALTER TABLE ones RENAME TO drop_outs", "DELETE FROM drop_outs WHERE field_id = 3",
+              "INSERT INTO drop_outs VALUES (2, 7, 9)"], [2, 2, 103, 0, 2]), (["DELETE FROM drop_outs"], None)):
+        in_database(room.named("a.tbc.db"), *statements)
+        found = told.Told(False)
+        found.add_rows(room.named("a.tbc.db"))
+        damage = found.facts(Metadata("", None, None, None, [])).damage
+        assert (damage and list(damage)) == wanted
 
 
 def test_numbers_set_aside_are_no_words(room):
@@ -244,8 +251,8 @@ REFUSED = (
     ({"b.tbc": lambda data: data + b"12"}, "", "b.tbc: its last field is cut: 2 bytes; head -c makes it whole"),
     ({"b.pcm": lambda data: data + b"1234"}, "",
      "b.pcm has 161896 bytes, and its fields' audioSamples come to 161892"),
-    ({"b.tbc.json": changed(lambda one: one["fields"][2].pop("efmTValues"))}, "",
-     "b.efm has 2413 bytes, and its fields' efmTValues come to no sum"),
+    ({"b.tbc.json": changed(lambda one: one["fields"][2].pop("efmTValues")), "b.efm": lambda data: data[:2370]}, "",
+     "b.efm has 2370 bytes, and its fields' efmTValues come to no sum"),
     ({"b.tbc.json": None}, "", "b.tbc: no b.tbc.json or b.tbc.db beside it"),
     *(({one: None, name: lambda _: b"old"}, "", name + " is there, and would be taken for a part of what is written: "
        "remove it") for one, name in (("b.pcm", "out.pcm"), ("b.efm", "out.efm"), ("no", "out.tbc.db"))),

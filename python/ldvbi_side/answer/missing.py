@@ -100,7 +100,8 @@ class PassedOver:
         """The numbers from the first to the last in parts of one reason each."""
         begin, end = bisect.bisect(self.begins, first), bisect.bisect(self.begins, last)
         cuts = [first, *self.begins[begin:end], last + 1]
-        return zip(cuts, [cut - 1 for cut in cuts[1:]], map(self._whys.__getitem__, itertools.count(begin)))
+        for place, (cut, other) in enumerate(zip(cuts, cuts[1:]), begin):
+            yield cut, other - 1, self._whys[place]
 
 
 def _passed_over(places: Places, breaks: List[Break], losses: Between, codes: Codes) -> Spans:

@@ -2,7 +2,6 @@
 one side and the start of another."""
 
 import bisect
-import itertools
 from collections import Counter
 from typing import Any, Dict, List, NamedTuple, Optional, Set, Tuple
 
@@ -80,10 +79,9 @@ def places_of(numbers: Numbers, codes: Codes) -> Places:
     ends = sorted(lead_in | codes.sure_fields(Kind.lead_out))
     # of all other believed readings the next one is that of the next number
     steps = [_step(numbers, place) for place in numbers.odd_places]
-    # from this place on no number but the last one is shown: that may stay beside lead-out
     begins, values = sorted(lead_in), numbers.values
-    *_, final = [None, *values]
-    last = len(values) - len(list(itertools.takewhile(final.__eq__, reversed(values))))
+    # from this place on no number but the last one is shown (None is none): that may stay beside lead-out
+    last = max(place for place, number in enumerate([None, *values]) if values[-1:] != [number])
     # another side begins between two readings that don't fit, if one of these ends stands there
     joined = [step for step in steps if step.kind in ("still", "break") and _is_between(
         ends if step.place <= last else begins, step.before.field, step.after.field)]

@@ -1,17 +1,26 @@
-"""Which run each rank is taken from: the cheapest way from the first rank to the last, by fields of padding, then by
-pictures that may have another's field, then by those whose fields only their frames and the colour show, then by
-samples in dropouts and changes from run to run."""
+"""Which run each rank is taken from: the cheapest way from the first rank to the last."""
 
 from typing import Dict, List, NamedTuple, Optional, Sequence
 
-from .blocks import KNOWN, OPEN, SEEN, Block, Run
+from .blocks import OPEN, SEEN, Block, Run
 from .lengths import Lengths
 from .sources import Source
 
 CHANGE = 100000  # samples in dropouts that a change of the capture costs as much as
 BAD_LINE = 500  # the same of a bad line, if not each capture has dropouts
-PADDED = 1 << 80  # the price of a field of padding
-DOUBT = {KNOWN: 0, SEEN: 1 << 50, OPEN: 1 << 65}  # that of a block, by how well it is known
+
+
+class Price(NamedTuple):
+    """What ways cost, by weight: fields of padding, then pictures that may have another's field, then those whose
+    fields only their frames and the colour show, then samples in dropouts, and changes from run to run as samples."""
+    padding: int
+    open: int
+    seen: int
+    samples: int
+
+    def plus(self, other: "Price") -> "Price":
+        return Price(self.padding + other.padding, self.open + other.open, self.seen + other.seen,
+                     self.samples + other.samples)
 
 
 class Node(NamedTuple):
@@ -24,7 +33,7 @@ class Node(NamedTuple):
 
 class _Way(NamedTuple):
     """A way to some rank: what it costs, its last node, and the rank after its last block."""
-    cost: int
+    cost: Price
     node: Optional[Node]
     end: int
 
@@ -45,7 +54,7 @@ class Choice:
 
     def nodes(self, ranks: range) -> List[Node]:
         """The nodes of the cheapest way through these ranks."""
-        self._ways[None] = _Way(0, None, ranks.start)
+        self._ways[None] = _Way(Price(*4 * [0]), None, ranks.start)
         for rank in ranks:
             self._step(rank)
         node = self._cheapest(ranks.stop).node
@@ -66,7 +75,7 @@ class Choice:
         cost, node, end = cheapest = self._cheapest(rank)
         padding = node if node is not None and node.run is None else Node(None, rank, node)
         ways: Dict[Optional[int], _Way] = {
-            None: _Way(cost + self._lengths.of(rank) * PADDED, padding, end)}
+            None: _Way(cost._replace(padding=cost.padding + self._lengths.of(rank)), padding, end)}
         for place in list(self._next):
             blocks, index = self._runs[place].blocks, self._next[place]
             if index < len(blocks) and blocks[index].rank == rank:
@@ -80,14 +89,16 @@ class Choice:
 
     def _entered(self, place: int, block: Block, cheapest: _Way) -> _Way:
         """The cheapest way that ends in this block of a run: from within the run, or from the cheapest way."""
-        way, enter = self._ways.get(place), cheapest.cost + self._change  # also for the first one, which each way has
+        way, enter = self._ways.get(place), cheapest.cost
+        # a change is paid for the first run, too, which each way has
+        enter = enter._replace(samples=enter.samples + self._change)
         cost, node = way[:2] if way and way.cost <= enter else (enter, Node(place, block.rank, cheapest.node))
-        return _Way(cost + self._price(self._runs[place], block), node, block.end())
+        return _Way(cost.plus(self._price(self._runs[place], block)), node, block.end())
 
-    def _price(self, run: Run, block: Block) -> int:
+    def _price(self, run: Run, block: Block) -> Price:
         sums = self._damage[run.source]
-        return ((block.lead + block.trail) * PADDED + DOUBT[block.doubt]
-                + sums[block.field + block.fields - 1] - sums[block.field - 1])
+        return Price(block.lead + block.trail, block.doubt == OPEN, block.doubt == SEEN,
+                     sums[block.field + block.fields - 1] - sums[block.field - 1])
 
 
 def _have_dropouts(sources: Sequence[Source]) -> bool:

@@ -29,9 +29,10 @@ def join(captures: List[Capture]) -> Joined:
     """What these captures have together, and what `write` makes of them. A ValueError if two of them can't be of one
     disc."""
     refuse_other_discs(captures)
-    unit, found = captures[0].unit(), disagreements_of(captures)
+    found = disagreements_of(captures)
     disputed = disputed_in(found)
     made = planned([Source(one, one.facts) for one in captures], found)
+    unit = made.count_unit()
     taken, piled = taken_of(made, captures), read_together(captures, disputed)
     standings, left_out = standings_of(captures, disputed), set(made.left_out)
     first, last = taken[0].number, taken[-1].number
@@ -42,15 +43,14 @@ def join(captures: List[Capture]) -> Joined:
                                     *_beyond(captures, last)])
     grounds = grounds_of(captures, made, rows, missing)
     return Joined(
-        VERSION, whole_of(grounds), grounds, captures[0].answer.system, captures[0].answer.format, unit.name,
-        shown_by(captures),
+        VERSION, whole_of(grounds), grounds, made.system, captures[0].answer.format, unit.name, shown_by(captures),
         [_of_capture(one) for one in captures], Extent(len(taken), unit.text_of(first), unit.text_of(last)),
         missing, _skipped(made, first, last, unit),
         [one for capture in captures for one in _lacks(capture, captures, taken, left_out)],
         _shown(How.ALONE, standings, unit, left_out), _shown(How.BETTER, standings, unit, left_out),
         [Alike(*one[:3]) for one in _standing_so(How.ALIKE, standings, lambda _: None, unit, left_out)],
         [Dispute(one.why, [_told(one.one, unit), _told(one.other, unit)]) for one in found],
-        rows, _ranges(made, captures, unit), chapters_at(captures, taken, made), stops_at(captures, taken, unit),
+        rows, _ranges(made, captures, unit), chapters_at(captures, taken, unit), stops_at(captures, taken, unit),
         _written(made, captures), made.fields)
 
 
@@ -58,7 +58,7 @@ def _beyond(captures: List[Capture], last: int) -> List[int]:
     """The numbers after this one, up to the one that is given as the disc's last. Those that its clock leaves out
     aren't among them."""
     end = min((one.number for one in lasts_of(captures)), default=last)
-    left_out: Set[int] = set().union(*(one.clock.left_out_in(last + 1, end) for one in captures))
+    left_out: Set[int] = set().union(*(one.clock.left_out_in(last, end) for one in captures))
     return [number for number in range(last + 1, end + 1) if number not in left_out]
 
 

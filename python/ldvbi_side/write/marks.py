@@ -8,7 +8,6 @@ from ..answer.entries import frame_of
 from ..join.captures import Capture
 from ..join.entries import ChapterAt, StopAt
 from ..judge.paces import Unit
-from .plan import Plan
 from .taken import Taken
 
 
@@ -19,14 +18,14 @@ class _Said(NamedTuple):
     offset: int
 
 
-def chapters_at(captures: Sequence[Capture], taken: Sequence[Taken], made: Plan) -> List[ChapterAt]:
+def chapters_at(captures: Sequence[Capture], taken: Sequence[Taken], unit: Unit) -> List[ChapterAt]:
     """Where each stretch of a chapter begins: at the least number of those that captures have for it."""
     said = sorted(one for capture in captures for one in _Beside(capture).chapters())
     of_number = {one.number: one for one in taken}
     firsts = [one for before, one in zip([None, *said], said) if before is None or before.chapter != one.chapter]
-    return [ChapterAt(one.chapter, made.count_unit().text_of(one.number), *_place(of_number[one.number], one.offset),
-                      max(made.first_field[one.number] + one.offset, 1))
-            for one in firsts if one.number in of_number and one.number in made.first_field]
+    return [ChapterAt(one.chapter, unit.text_of(one.number), *_place(of_number[one.number], one.offset),
+                      max(of_number[one.number].written + one.offset, 1))
+            for one in firsts if one.number in of_number]
 
 
 def stops_at(captures: Sequence[Capture], taken: Sequence[Taken], unit: Unit) -> List[StopAt]:

@@ -71,10 +71,10 @@ def _breaks(known: List[Tuple[int, int]], count: int) -> List[Tuple[int, int]]:
 
 
 def _without_lone(known: List[Tuple[int, int]], count: int) -> List[Tuple[int, int]]:
-    """Known fields without each one that alone is off between two that go on: it is misread."""
+    """Known fields without those between two that go on: one that is off there, alone, is misread."""
     offs = [(phase - field) % count for field, phase in known]
-    kept = [0]
-    for place in range(1, len(known)):
-        if offs[place] == offs[kept[-1]] or offs[place + 1:place + 2] != [offs[kept[-1]]]:
+    kept: List[int] = []
+    for place in range(len(known)):
+        if not kept or offs[place + 1:place + 2] != [offs[kept[-1]]]:
             kept.append(place)
-    return [known[place] for place in kept] if known else []
+    return [known[place] for place in kept]

@@ -9,10 +9,11 @@ from .stretches import Stretch
 
 
 class Taken(NamedTuple):
-    """A number with the capture to take it from, its first field there, and how it is known there."""
+    """A number with the capture to take it from, its first field there and in the output, and how it is known there."""
     number: int
     capture: Capture
     field: int
+    written: int
     how: str
 
 
@@ -24,11 +25,11 @@ def taken_of(made: Plan, captures: List[Capture]) -> List[Taken]:
     for one in made.stretches:
         if one.source is None:
             continue
+        assert one.field is not None
         capture = captures[one.source]
-        for number, field, how in _shown(one, capture, begins[one.source]):
-            found.setdefault(number, Taken(number, capture, field, how))
-        for number, field in _others(one, made.first_field, left_out):
-            found.setdefault(number, Taken(number, capture, field, NEIGHBOURS))
+        for number, field, how in (*_shown(one, capture, begins[one.source]),
+                                   *_others(one, made.first_field, left_out)):
+            found.setdefault(number, Taken(number, capture, field, one.out + field - one.field, how))
     return [found[number] for number in sorted(found)]
 
 
@@ -41,12 +42,12 @@ def _shown(one: Stretch, capture: Capture, begins: List[int]) -> Iterator[Tuple[
             yield place.number, place.field, place.how
 
 
-def _others(one: Stretch, first_field: Dict[int, int], left_out: Set[int]) -> Iterator[Tuple[int, int]]:
-    """All numbers of a stretch, each with the field in which it begins as planned; if that isn't there, the nearest."""
+def _others(one: Stretch, first_field: Dict[int, int], left_out: Set[int]) -> Iterator[Tuple[int, int, str]]:
+    """All numbers of a stretch, each with the field in which it begins as planned; if that comes before, the first."""
     assert one.field is not None and one.first is not None and one.last is not None
     field = one.field
     for number in range(one.first, one.last + 1):
         if number in first_field:
             field = one.field + max(first_field[number] - one.out, 0)
         if number not in left_out:
-            yield number, min(field, one.field + one.fields - 1)
+            yield number, field, NEIGHBOURS

@@ -8,7 +8,6 @@ from ldvbi.metadata import Metadata, is_database
 from ..into.field import place_of_words
 from .sources import PHASES, Facts
 
-PIECE = 1 << 22  # bytes
 NONE = -1  # in the place of a count that isn't there
 
 
@@ -74,13 +73,13 @@ class Told:
                 found = column_of_fields(database, name) if has_column_of_fields(database, name) else None
                 return [None] * len(fields) if found is None else found
             fields = column_of_fields(database, "field_id") or []
-            sums: Optional[Dict[Any, Any]] = None
+            sums: Dict[Any, Any] = {}
             if {"field_id", "startx", "endx"} <= set(columns_of(database, "drop_outs")):
                 sums = dict(database.execute("SELECT field_id, sum(endx - startx + 1) FROM drop_outs "
                                              "GROUP BY field_id"))
             for field, phase, *counts in zip(fields, column("field_phase_id"),
                                              *(column(sound.column) for sound in SOUNDS)):
-                self._add(phase, counts, NONE if sums is None else sums.get(field, 0))
+                self._add(phase, counts, sums.get(field, NONE))
 
     def _add(self, phase: Any, counts: List[Any], damage: int) -> None:
         self._phase.append(phase if _is_count(phase) and phase <= max(PHASES.values()) else 0)
@@ -99,9 +98,6 @@ class Told:
         """Where the text in this file has the fields, in bytes; None of a database."""
         if self.is_database:
             return None
-        with open(path, "rb") as file:
-            if all(piece.isascii() for piece in iter(lambda: file.read(PIECE), b"")):
-                return Entries(self._begins, self._lengths)
         begins, lengths, at, place = array.array("Q"), array.array("I"), 0, 0
         with open(path, encoding="utf-8", newline="") as text:
             for begin, length in zip(self._begins, self._lengths):

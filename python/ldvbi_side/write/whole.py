@@ -2,7 +2,7 @@
 
 from typing import Iterator, List, Optional, Sequence, Set, Tuple
 
-from ..answer.ends import end_of
+from ..answer.ends import end_of, ordinal_of
 from ..answer.entries import Ground
 from ..answer.last import Last, last_of
 from ..answer.whole import NO, OPEN, YES, whole_of
@@ -35,7 +35,8 @@ def grounds_of(captures: Sequence[Capture], made: Plan, taken: Sequence[Source],
     if any(one.answer.whole == YES and one in ends for one in begins):
         return []
     found = [Ground(why, whole, text) for why, whole, text in (
-        *_lacking(captures, made, taken, missing), *_ends(captures, begins, ends, taken), *_shared(captures))]
+        *_lacking(captures, made, taken, missing), *_ends(captures, begins, ends, made, taken),
+        *_shared(captures))]
     return sorted(found, key=lambda one: one.whole != NO)
 
 
@@ -49,8 +50,9 @@ def _lacking(captures: Sequence[Capture], made: Plan, taken: Sequence[Source], m
                              ("unsure", OPEN, numbers_text(made, made.unsure, *2 * ["may have another's field"]))):
         if text:
             yield why, whole, text
-    read, (first, *_) = {place.number for one in captures for place in one.places if place.how != NEIGHBOURS}, captures
-    unread = sum(one.how == NEIGHBOURS and first.ordinal(one.number) not in read for one in taken)
+    read = {place.number for one in captures for place in one.places if place.how != NEIGHBOURS}
+    rate = made.count_unit().rate
+    unread = sum(one.how == NEIGHBOURS and ordinal_of(one.number, rate) not in read for one in taken)
     unread += sum(one.count_ for one in missing if one.why == DUE)
     if unread and any(_of(one, "unread") for one in captures):  # which only a strict judge says
         yield "unread", NO, counted(unread, made.unit) + " unread"
@@ -64,12 +66,13 @@ def _open_places(capture: Capture) -> Set[int]:
     return {place.number for place in capture.places if not fields.isdisjoint(range(place.field, place.last + 1))}
 
 
-def _ends(captures: Sequence[Capture], begins: Sequence[Capture], ends: Sequence[Capture], taken: Sequence[Source]
-          ) -> Found:
+def _ends(captures: Sequence[Capture], begins: Sequence[Capture], ends: Sequence[Capture], made: Plan,
+          taken: Sequence[Source]) -> Found:
     """How those begin that have the first number, and those end that have the last one."""
-    unit = UNITS[captures[0].answer.unit][:-1]
-    if all(one.begin for one in begins):
-        is_known = all(one.begin and one.begin.lacks is not None for one in begins)
+    unit = UNITS[made.unit][:-1]
+    lacks = [one.begin.lacks for one in begins if one.begin]
+    if len(lacks) == len(begins):
+        is_known = None not in lacks
         text = "begins at %s %s" if is_known else "numbers before %s %s may be lost"
         yield "begins" if is_known else "ends", NO if is_known else OPEN, text % (unit, taken[0].number)
     if all(_of(one, "lead-in") for one in captures):
