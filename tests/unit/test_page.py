@@ -178,7 +178,7 @@ def test_a_whole_index(room):
         if number != 4:
             room.write(name, "")
     text = index_of(os.path.join(os.path.dirname(room.folder), "index.html"), pages,
-                    [Fault("/x/b", "b<.tbc", "no <such> file")], True)
+                    [Fault("/x/b", "b<.tbc", "no <such> file")])
     looks = sorting.looks_of(["side", "whole", "why", "lost", "unread", "try", "system", "format", "from", "to",
                               "lead-in", "lead-out", "scanned on"])
     folder = os.path.basename(room.folder)

@@ -153,7 +153,7 @@ class _Folder:
             others = [os.path.join(self.path, name) for name, side in sides_of(self.path).items()
                       if side not in read]
             faults += [one for one in faults_in(self.index) if one.side not in read and not is_gone(one.side)]
-            text = index_of(self.index, [*pages, *filter(is_page, others)], faults, True)
+            text = index_of(self.index, [*pages, *filter(is_page, others)], faults)
             with whole_file(self.index) as file:
                 file.write(text)
 

@@ -178,16 +178,16 @@ def links_beside(path: str, sides: Iterable[str], index: str) -> Tuple[Dict[str,
 
 # ---- The index
 
-def index_of(path: str, pages: Iterable[str], faults: Sequence[Fault] = (), names_gone: bool = False) -> str:
+def index_of(path: str, pages: Iterable[str], faults: Sequence[Fault] = ()) -> str:
     """The text of an index that is written to `path`: a row for each of these pages, and for each of these sides
-    without one, in the order of ORDER. With `names_gone` it says for which pages the side isn't there any longer."""
+    without one, in the order of ORDER. It says for which pages the side isn't there any longer."""
     found = [(page, *head_of(page)) for page in pages]
     names = Counter([title for _, title, _ in found] + [fault.name for fault in faults])
     rows = [Row(fault.side if names[fault.name] > 1 else fault.name, None, FAULT, fault.text) for fault in faults]
     for page, title, said in found:
         link = quote(os.fsencode(os.path.relpath(page, os.path.dirname(os.path.abspath(path)))))
         name = said["side"] if names[title] > 1 and said["side"] else title
-        rows.append(_row_of(name, link, said, names_gone and said["side"] is not None and is_gone(said["side"]),
+        rows.append(_row_of(name, link, said, said["side"] is not None and is_gone(said["side"]),
                             os.stat(page).st_mtime))
     rows.sort(key=lambda row: (ORDER.index(row.whole), row.name.split("/")))
     counts = Counter(row.whole for row in rows)
