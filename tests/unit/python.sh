@@ -44,7 +44,7 @@ lines() {
     shift
     bounded python3 -m coverage "$asked" --rcfile coveragerc "$@" < empty > err 2>&1
 }
-# Each process leaves a file. Some at a time, side by side, they take a tenth of the time that they take one by one.
+# Each process leaves a file. Some are combined at a time, side by side, which is quicker than one by one.
 combined() {
     find lines -type f -print0 | bounded xargs -0 -n 40 -P "$(nproc)" sh -c \
         'exec python3 -m coverage combine -q --rcfile coveragerc --data-file "parts/${1##*/}" "$@"' coverage > err 2>&1 &&

@@ -4,7 +4,6 @@ is refused, and what is left then."""
 import contextlib
 import json
 import os
-import re
 import signal
 
 from captured import CASES, disc, draw, drawn, entries_of, FILM, going_back, inside, lost, PAL, places_in, TIMES, VIDEO
