@@ -181,15 +181,16 @@ def refuse_code(database: sqlite3.Connection, table: str) -> None:
     text, = database.execute("SELECT sql FROM sqlite_master WHERE type = 'table' AND name = ?", (table,)).fetchone()
     plain = _APART.sub(" ", text or "").upper()
     found = [what for what, is_there in (
-        ("a check", re.search(r"\bCHECK\b", plain)), ("a virtual table", re.match(r"\s*CREATE\s+VIRTUAL\b", plain)),
-        ("a generated column", re.search(r"\b(?:GENERATED|AS)\s*(?:ALWAYS\s+AS\s*)?\(", plain)),
-        ("a default that is computed", re.search(r"\bDEFAULT\s*\(", plain))) if is_there]
+        ("is a virtual table", re.match(r"\s*CREATE\s+VIRTUAL\b", plain)),
+        ("has a check", re.search(r"\bCHECK\b", plain)),
+        ("has a generated column", re.search(r"\b(?:GENERATED|AS)\s*(?:ALWAYS\s+AS\s*)?\(", plain)),
+        ("has a default that is computed", re.search(r"\bDEFAULT\s*\(", plain))) if is_there]
     for _, index, _, _, is_partial in database.execute("PRAGMA index_list(%s)" % quoted(table)).fetchall():
         columns = database.execute("PRAGMA index_xinfo(%s)" % quoted(index)).fetchall()
         if is_partial or any(column[1] == -2 for column in columns):
-            found.append("the index %s, which is partial or on an expression" % index)
+            found.append("has the index %s, which is partial or on an expression" % index)
     if found:
-        raise ValueError("its table %s has %s, whose code would run" % (table, found[0]))
+        raise ValueError("its table %s %s, whose code would run" % (table, found[0]))
 
 
 def quoted(name: str) -> str:

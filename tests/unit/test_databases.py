@@ -124,6 +124,8 @@ def test_what_was_written_last_is_copied_too(room):
     ("SQLite can't copy it: no such column: capture_id", FORM.replace("(capture_id", "(a", 1), 9, ()),
     *(("its trigger one of the table %s may write something else" % table, FORM, 0, [TRIGGER % table])
       for table in ("vbi", "drop_outs")),
+    ("its table vbi is a virtual table, whose code would run",
+     FORM.replace("TABLE vbi (", "VIRTUAL TABLE vbi USING fts4("), 0, ()),
     *(("its table vbi has %s, whose code would run" % what, FORM.replace("vbi2 INTEGER NOT NULL", column), 0, more)
       for what, column, more in (
           ("a check", "vbi2 INTEGER CHECK (length(randomblob(900000000)) > 0)", ()),
