@@ -80,8 +80,8 @@ def recorded(names, jobs):
 
 @contextlib.contextmanager
 def room(is_for_python=True):
-    """A copy of the tree, and beside it a folder for temporary files, since tests copy the tree. Both are another user's if
-    root asks."""
+    """A copy of the tree, and beside it a folder for temporary files, since tests copy the tree. Both are another user's
+    if root asks."""
     with tempfile.TemporaryDirectory(prefix="ldvbi-mutants-") as name:
         folder = pathlib.Path(os.path.realpath(name), "tree")
         shutil.copytree(TOP, folder, True, shutil.ignore_patterns(*LEFT_OUT))
@@ -201,8 +201,8 @@ def work(folder, jobs, seen, connection):
 
 
 def ordered(plant, tests, seen):
-    """The tests of a plant with their seconds: the one that saw it before, then those that saw others in its function or,
-    five of them, in its file, then the quickest."""
+    """The tests of a plant with their seconds: the one that saw it before, then those that saw others in its function
+    or, five of them, in its file, then the quickest."""
     function, file = plant.name.partition(": ")[0], plant.file + " "
     near = [[test for name, test in seen.items() if test in tests and is_near(name)] for is_near in (
         plant.name.__eq__, lambda name: name.partition(": ")[0] == function, lambda name: name.startswith(file))]

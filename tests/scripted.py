@@ -96,8 +96,9 @@ def environment(folder):
     """That of a command. A make within another one would say on standard output which folder it is in."""
     program = "rust/ldvbi" if (TOP / "rust" / "ldvbi").exists() else "ldvbi"
     more = {"TRIED": program, "STOP_AT_FIRST": "yes", "RUN_SECONDS": "120", "HOME": folder,
-            "TMPDIR": temporary(folder), "CARGO_TARGET_DIR": folder / "rust" / "out", "CARGO_PROFILE_DEV_OPT_LEVEL": "1",
-            "CARGO_PROFILE_DEV_DEBUG": "0", "PYTHONDONTWRITEBYTECODE": "1"}
+            "TMPDIR": temporary(folder), "PYTHONDONTWRITEBYTECODE": "1",
+            "CARGO_TARGET_DIR": folder / "rust" / "out", "CARGO_PROFILE_DEV_OPT_LEVEL": "1",
+            "CARGO_PROFILE_DEV_DEBUG": "0"}
     more["DIFFERENCES"] = folder / "rust" / "differences.txt" if program.startswith("rust") else ""
     asked = ["rustc", "--print", "sysroot"]  # rustup's own commands are where another user may not go
     if shutil.which("rustc"):
@@ -167,6 +168,6 @@ def is_good(folder, file, command, old):
                 succeeds(folder, command, file, said) for _ in range(2))
             if not KNOWN[command]:
                 said.seek(max(0, said.tell() - MOST_SAID))
-                print("scripted: without a plant this fails: %s\n%s" % (command, said.read().decode("utf-8", "replace")),
-                      file=sys.stderr, flush=True)
+                text = said.read().decode("utf-8", "replace")
+                print("scripted: without a plant this fails: %s\n%s" % (command, text), file=sys.stderr, flush=True)
     return KNOWN[command]

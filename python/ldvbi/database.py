@@ -179,7 +179,7 @@ def refuse_code(database: sqlite3.Connection, table: str) -> None:
     for name, of_table in database.execute("SELECT name, tbl_name FROM sqlite_master WHERE type = 'trigger'"):
         raise ValueError("its trigger %s of the table %s may write something else" % (name, of_table))
     text, = database.execute("SELECT sql FROM sqlite_master WHERE type = 'table' AND name = ?", (table,)).fetchone()
-    plain = _APART.sub(" ", text or "").upper()
+    plain = _APART.sub(" ", text).upper()
     found = [what for what, is_there in (
         ("is a virtual table", re.match(r"\s*CREATE\s+VIRTUAL\b", plain)),
         ("has a check", re.search(r"\bCHECK\b", plain)),

@@ -194,9 +194,10 @@ def test_first(_, number, text, first):
 
 GAP, SIDE, CLOCK = layout("Gap"), layout("Side"), layout("Clock")
 VERDICTS = {"?": NUMBERS.CANNOT_TELL, "yes": NUMBERS.WHOLE, "no": NUMBERS.NOT_WHOLE}
-REASONS = dict(zip("lost held back joined late swapped off none end begin doubtful open inserted padded blank".split(), named(
-    "is_lost", "is_held", "goes_back", "is_joined", "begins_late", "is_swapped", "is_off", "no_numbers", "end_unseen",
-    "begin_unseen", "many_doubtful", "is_open", "is_inserted", "is_padded", "is_blank")))
+REASONS = dict(zip(
+    "lost held back joined late swapped off none end begin doubtful open inserted padded blank".split(), named(
+        "is_lost", "is_held", "goes_back", "is_joined", "begins_late", "is_swapped", "is_off", "no_numbers",
+        "end_unseen", "begin_unseen", "many_doubtful", "is_open", "is_inserted", "is_padded", "is_blank")))
 NUMBERED = ("gaps lost held stood stills still_end back joined open_gaps lost_numbers undecided unread "
             "inserted first last swap padded blank").split()  # the members of LdvbiSide before its verdict
 PARTS = [Guarded(size * 4000) for size in (SEEN.size, NUMBER.size, STATE.size)]  # so many fields at most

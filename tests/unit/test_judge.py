@@ -201,7 +201,8 @@ def test_seeking():
 
 def test_seek_chapter():
     text = "Lx30 1..399 232:430/2=-/c1/c1 432:630/2=-/c3/c3 632:828/2=-/c4/c4 Ox300"
-    for more, found in (("", (31, 231, None, 431, 631, None)), ("400:433=B 634=-/c9/c9", (31, 231, None, 433, 631, None)),
+    for more, found in (("", (31, 231, None, 431, 631, None)),
+                        ("400:433=B 634=-/c9/c9", (31, 231, None, 433, 631, None)),
                         ("30:260/2=?", (None, 261, None, 431, 631, None))):
         chapters = side_of(text + " " + more)
         assert tuple(ldvbi.seek_chapter(chapters, chapter) for chapter in range(6)) == found
@@ -211,7 +212,8 @@ def test_seek_chapter():
 
 def test_next_stop():
     stops = side_of("1..9 4=S/-/- 7=-/S/- 12=-/-/S 18=S/S/-")
-    assert [ldvbi.next_stop(stops, field) for field in (0, 3, 4, 6, 7, 17, 18, 2 ** 70)] == [3, 3, 6, 6, 17, 17, None, None]
+    assert [ldvbi.next_stop(stops, field) for field in (0, 3, 4, 6, 7, 17, 18, 2 ** 70)] == [
+        3, 3, 6, 6, 17, 17, None, None]
     assert [ldvbi.next_stop(stops, 4, most) for most in (0, 2, 3, 2 ** 70)] == [None, None, 6, 6]
     assert ldvbi.next_stop(side_of("")) is None
 

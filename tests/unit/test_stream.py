@@ -84,8 +84,8 @@ def test_refused(room):
     assert reason(ldvbi.Stream, absent, "NTSC", 2, 2) == "black is not below white"
     assert reason(ldvbi.Stream, room.path, *NTSC) == room.path + " is no file that can be mapped"
     for count in (1, LINE - 1):
-        assert reason(ldvbi.Stream, b"x" * count, *NTSC) == "%d bytes are less than a line; a path is a str or a path " \
-            "object, as os.fsdecode makes of bytes" % count
+        assert reason(ldvbi.Stream, b"x" * count, *NTSC) == (
+            "%d bytes are less than a line; a path is a str or a path object, as os.fsdecode makes of bytes" % count)
 
 
 def held(path):
@@ -132,7 +132,8 @@ def test_closed_meanwhile(room, monkeypatch):
 
     works = ((lambda: next(iter(side))[1].word, 0xF00000, 0), (lambda: side[69][1].word, 0xF00069, 0),
              (lambda: side.rows(3), line_with(0xF00003, NTSC) * 3, 0),
-             (lambda: ldvbi.seek(side, 5), None, 1), (lambda: ldvbi.next_stop(side), None, 1))
+             (lambda: ldvbi.seek(side, 5), None, 1), (lambda: ldvbi.next_stop(side), None, 1),
+             (lambda: ldvbi.seek_chapter(side, 5), None, 1))
     for is_file in (True, False):
         for work, wanted, maps in works:
             side, ran = ldvbi.Stream(room.path if is_file else data, *NTSC), []
