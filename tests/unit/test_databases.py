@@ -128,7 +128,8 @@ def test_what_was_written_last_is_copied_too(room):
      FORM.replace("TABLE vbi (", "VIRTUAL TABLE vbi USING fts4("), 0, ()),
     *(("its table vbi has %s, whose code would run" % what, FORM.replace("vbi2 INTEGER NOT NULL", column), 0, more)
       for what, column, more in (
-          ("a check", "vbi2 INTEGER CHECK (length(randomblob(900000000)) > 0)", ()),
+          ("a check", "vbi2 INTEGER CHECK (length(randomblob(900000000)) > 0)",
+           ["CREATE INDEX one ON vbi (vbi1) WHERE vbi1 > 0"]),
           ("a generated column", "vbi2 INTEGER, a GENERATED ALWAYS AS (zeroblob(900000000)) STORED", ()),
           ("a generated column", "vbi2 INTEGER, a AS (length(vbi2))", ()),
           ("a default that is computed", "vbi2 INTEGER, a DEFAULT (randomblob(900000000))", ()),
