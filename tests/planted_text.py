@@ -140,9 +140,8 @@ def commands(code, text):
 
 def recipes(code, text):
     for one in re.finditer(r"^\t(?:.*\\\n)*.*\n", code, re.M):
-        if code[:one.start()].endswith("\\\n") or not one[0].strip():
-            continue
-        yield one.start(), one.end(), ""
+        if one[0].strip() and not code[:one.start()].endswith("\\\n"):
+            yield one.start(), one.end(), ""
 
 
 def words(code, text):
@@ -172,8 +171,7 @@ def members(code, text):
         for kind in re.finditer(r"\b(?:%s)\b" % "|".join(TYPES), one[0]):
             yield one.start() + kind.start(), one.start() + kind.end(), TYPES[kind[0]]
         if following and not code[one.end():following.start()].strip():
-            between = text[one.end():following.start()]
-            yield one.start(), following.end(), following[0] + between + one[0]
+            yield one.start(), following.end(), following[0] + text[one.end():following.start()] + one[0]
 
 
 def lines(code, text):
@@ -182,14 +180,12 @@ def lines(code, text):
         yield one.end(1), one.end(1), "~"
 
 
-def macros(code, text):
-    for one in re.finditer(r"^\.(?!\\|S[hs]\b|D[dt]\b|Bl\b)\w\w (.*\w.*)", code, re.M):
-        yield one.end(1), one.end(1), "~"
+def ends(pattern):
+    return lambda code, text: [(one.end(1), one.end(1), "~") for one in re.finditer(pattern, code, re.M)]
 
 
-def defaults(code, text):
-    for one in re.finditer(r"^[A-Z]\w* [?:]?= (.*[^\\\s])$", code, re.M):
-        yield one.end(1), one.end(1), "~"
+macros = ends(r"^\.(?!\\|S[hs]\b|D[dt]\b|Bl\b)\w\w (.*\w.*)")
+defaults = ends(r"^[A-Z]\w* [?:]?= (.*[^\\\s])$")
 
 
 def prose(text, spans):
@@ -242,9 +238,8 @@ def named(file, text, found, heads):
         old = " ".join(text[begin:end].split()) or "its end"
         name = "%s %s: %s: %s -> %s" % (file, part, line[:100], old[:100], " ".join(new.split())[:100] or "nothing")
         times[name] += 1
-        number = text.count("\n", 0, begin) + 1
-        plants.append(Plant(file, name + " (%d)" % times[name] * (times[name] > 1), number,
-                            text.count("\n", 0, end) + 1, (begin, end, new)))
+        span = [text.count("\n", 0, place) + 1 for place in (begin, end)]
+        plants.append(Plant(file, name + " (%d)" % times[name] * (times[name] > 1), *span, (begin, end, new)))
     return plants
 
 

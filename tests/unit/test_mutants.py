@@ -55,7 +55,7 @@ def test_a_plant_of_each_kind():
         top = pathlib.Path(folder)
         for name in ("python", "simulated", "tests/unit"):
             (top / name).mkdir(parents=True)
-        for name in ("mutants.py", "planted.py", "planted_text.py", "recorded.py", "scripted.py"):
+        for name in ("mutants.py", "planted.py", "planted_text.py", "pytested.py", "recorded.py", "scripted.py"):
             shutil.copy(os.path.join(TOP, "tests", name), top / "tests")
         (top / "tests" / "mutants.txt").write_text("# A list\n%s\n    a reason\ngone\n    why\n" % SWAPPED % "unseen")
         (top / "tests" / "unit" / "test_both.py").write_text(TESTS)
