@@ -78,7 +78,7 @@ def gaps_of(places: Places, shown: ByField, lead_out: Set[int]) -> Gaps:
                                           for is_open in (False, True))
     found["open"] += [one for one in places.breaks if is_outside(judged, one)]
     more = None
-    is_uneven = judged.on_both and _is_uneven(places)
+    is_uneven = _is_uneven(places) if judged.on_both else _is_odd(places, judged, lead_out)
     if (judged.reasons & Reason.is_off or is_uneven) and not judged.reasons & _BY_GAPS:
         explained = Between([(one.after, one.before) for one in found["open"]] + list(map(_around, away)))
         off = [one for one in _off_in(places, judged) if not explained.hold(one.after, one.before)]
@@ -186,6 +186,16 @@ def _is_uneven(places):
     begins = {(one.field - one.variant) % 2 for one in places.numbers.believed
               if one.number not in stills and one.field not in swapped}
     return len(begins) > 1 and not places.joins
+
+
+def _is_odd(places, judged, lead_out):
+    """Whether a number is shown again an odd count of fields later, of a video disc that has it on one field of its
+    picture: a player that stands still repeats both. The field after it may show it, too, and so may lead-out."""
+    numbers = places.numbers
+    return judged.pace == JudgedPace.video and any(
+        (other - one) % 2 and other - one > 1 and lead_out.isdisjoint(range(one, other))
+        for still in places.stills for fields in [numbers.fields[numbers.places_in(still.first, still.last)]]
+        for one, other in zip(fields, fields[1:]))
 
 
 def is_outside(judged: JudgedSide, one: Break) -> bool:

@@ -195,16 +195,26 @@ def _empty(answer: Answer, begin: Optional[Begin], unseen: Sequence[Tuple[int, i
 
 
 def _apart(answer: Answer) -> Found:
-    """Two pictures in a row before all that are believed, or after them, each on both lines in pass 1. They weigh too
-    little to be believed so far from the others, and are hardly misread: fields may be lost between."""
-    lines = Counter((one.field, one.number) for one in answer.doubtful
-                    if one.kind == Kind.picture and one.pass_ == 1 and not (one.before and one.after))
-    both = sorted(place for place, count in lines.items() if count > 1)
-    for (field, number), (other, last) in zip(both, both[1:]):
-        if last == number + 1 and other - field <= 3:
-            yield "ends", "pictures %d and %d are in fields %d and %d, and don't go on with the others" % (
-                number, last, field, other)
-            return
+    """Two pictures in a row before all that are believed, or after them, each on both lines in pass 1, or two times in
+    a row, each with its second. They weigh too little to be believed so far from the others, and are hardly misread:
+    fields may be lost between."""
+    aside = [one for one in answer.doubtful if one.pass_ == 1 and not (one.before and one.after)]
+    lines = Counter((one.field, one.number) for one in aside if one.kind == Kind.picture)
+    pictures = sorted((field, number, number) for (field, number), count in lines.items() if count > 1)
+    times = sorted((one.field, _count_of(one.number, RATES[answer.system]), one.number)
+                   for one in aside if one.kind == Kind.clv_picture and answer.unit == "time" and one.number)
+    for name, found in ("pictures", pictures), ("times", times):
+        for (field, count, number), (other, following, last) in zip(found, found[1:]):
+            if following == count + 1 and other - field <= 3:
+                yield "ends", "%s %s and %s are in fields %d and %d, and don't go on with the others" % (
+                    name, number, last, field, other)
+                return
+
+
+def _count_of(part, rate):
+    """The pictures from the start of a minute to this second and picture."""
+    second, picture = part.split(".")
+    return rate * int(second) + int(picture)
 
 
 def _beyond(answer: Answer, last: Optional[Last]) -> Found:

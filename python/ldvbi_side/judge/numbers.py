@@ -122,9 +122,10 @@ def _believed(times, readings):
     believed = anchored(known, pace, judged)
     numbers = Numbers(Unit("time", times.rate), pace, believed, others, judged=judged)
     more = _completions(times, numbers, known)
+    with_more = sorted(known + more, key=lambda one: one.field)
     if more:
-        numbers = numbers._replace(believed=anchored(sorted(known + more, key=lambda one: one.field), pace, judged))
-    numbers = with_swaps(with_speeds(numbers, known, times.of_line), known, times.parts)
+        numbers = numbers._replace(believed=anchored(with_more, pace, judged))
+    numbers = with_swaps(with_speeds(numbers, known, times.of_line), with_more, times.parts)
     completed = frozenset(reading.field for reading in numbers.believed if reading.lines == SECOND)
     return Found(numbers._replace(completed=completed), readings, times)
 

@@ -164,11 +164,21 @@ def _due(numbers, steps, codes):
     for number, field in found:
         # none is due if both lines show another number surely, or the field a code in the place of a number
         said, is_other = codes.sure_picture(field), field in numbers.others
-        if said is None and not is_other:
+        if _is_beside(numbers, codes, number, field):
+            unseen.add(number)
+        elif said is None and not is_other:
             due.append((number, field))
         else:
             (unseen if not is_other and _is_played(codes, field, said) else without_field).add(number)
     return due, without_field, unshown, unseen
+
+
+def _is_beside(numbers, codes, number, field):
+    """Whether a field beside its own shows the second and the picture of a time, as swapped fields do. If they are read
+    in pass 2, the time isn't believed there."""
+    rate, parts = numbers.unit.rate, codes.kinds[Kind.clv_picture]
+    part = divmod(number % (60 * rate), rate)
+    return numbers.unit.name == "time" and any(part in parts.get(near, ()) for near in (field - 1, field + 1))
 
 
 def _is_played(codes, field, said):
