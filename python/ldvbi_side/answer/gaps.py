@@ -193,7 +193,7 @@ def _is_odd(places, judged, lead_out):
     picture: a player that stands still repeats both. The field after it may show it, too, and so may lead-out."""
     numbers = places.numbers
     return judged.pace == JudgedPace.video and any(
-        (other - one) % 2 and other - one > 1 and lead_out.isdisjoint(range(one, other))
+        (other - one) % 2 and other != one + 1 and lead_out.isdisjoint(range(one, other))
         for still in places.stills for fields in [numbers.fields[numbers.places_in(still.first, still.last)]]
         for one, other in zip(fields, fields[1:]))
 

@@ -202,7 +202,7 @@ def _apart(answer: Answer) -> Found:
     lines = Counter((one.field, one.number) for one in aside if one.kind == Kind.picture)
     pictures = sorted((field, number, number) for (field, number), count in lines.items() if count > 1)
     times = sorted((one.field, _count_of(one.number, RATES[answer.system]), one.number)
-                   for one in aside if one.kind == Kind.clv_picture and answer.unit == "time" and one.number)
+                   for one in aside if one.kind == Kind.clv_picture and one.number)
     for name, found in ("pictures", pictures), ("times", times):
         for (field, count, number), (other, following, last) in zip(found, found[1:]):
             if following == count + 1 and other - field <= 3:

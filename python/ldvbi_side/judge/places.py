@@ -175,10 +175,10 @@ def _due(numbers, steps, codes):
 
 def _is_beside(numbers, codes, number, field):
     """Whether a field beside its own shows the second and the picture of a time, as swapped fields do. If they are read
-    in pass 2, the time isn't believed there."""
+    in pass 2, the time isn't believed there. A side of pictures has no such codes."""
     rate, parts = numbers.unit.rate, codes.kinds[Kind.clv_picture]
     part = divmod(number % (60 * rate), rate)
-    return numbers.unit.name == "time" and any(part in parts.get(near, ()) for near in (field - 1, field + 1))
+    return any(part in parts.get(near, ()) for near in (field - 1, field + 1))
 
 
 def _is_played(codes, field, said):
