@@ -106,7 +106,7 @@ docs/ANSWER.md s/^- `cause`: as/- `why`: as/; s/, `confirmed`//
 docs/DECISIONS.md s/`outcome_of`/`outcome_for`/
 docs/FORMATS.md s/^- line 17: CLV mark$/- line 18: CLV mark/; s/`field width differs`/`field width differ`/
 docs/FORMATS.md s/else `hold` and that/else `held` and that/; s/#####[.]*######/#####....#####/; s/low byte/high byte/
-docs/MEASURED.md s/judged 883 right/judged 898 right/
+docs/MEASURED.md s/judged 1,795 right/judged 1,798 right/
 docs/PROMISES.md s/(#not-promised)/(#not-proved)/; s/`fetched`, `written`/`fetched`, `rewritten`/; s/`Said.antt`/`Saids.antt`/
 END
 while read -r count said; do
