@@ -27,7 +27,7 @@ PROGRAM ?= ./$(BUILT)ldvbi
 # The one place of the version; header, library, program and change log are tested against it
 VERSION := 0.2.0
 # The interface of the library, as include/ldvbi.h has it
-ABI := 2
+ABI := 3
 ROOT := $(DESTDIR)$(PREFIX)
 LIBRARIES := $(DESTDIR)$(LIBDIR)
 # The commands, each with its manual page and completions
@@ -55,7 +55,8 @@ BUILT := $(if $(filter rust,$(FROM)),rust/)
 WHEELS ?= dist
 DEBS ?= dist
 SOURCES := $(shell find crates -name out -prune -o \( -name '*.rt' -o -name '*.antt' \) -print)
-LIBRARY_CRATES := $(addprefix crates/,vbi_words/% vbi_line/% vbi_near/% vbi_field/% vbi_side/% vbi_c/%)
+LIBRARY_CRATES := $(addprefix crates/,vbi_words/% vbi_line/% vbi_near/% vbi_field/% vbi_side/% vbi_whole/% vbi_plan/% \
+	vbi_seek/% vbi_c/%)
 LIBRARY_SOURCES := $(filter $(LIBRARY_CRATES),$(SOURCES))
 
 # $(call proved,CRATE,COMMAND): proves and builds a crate by a command of the toolchain, and prints a line with the time
@@ -102,6 +103,9 @@ libldvbi.a: crates.txt $(LIBRARY_SOURCES)
 	$(call proved,vbi_near,rt lib $(LARGE))
 	$(call proved,vbi_field,rt lib $(LARGE))
 	$(call proved,vbi_side,rt lib $(LARGE))
+	$(call proved,vbi_whole,rt lib $(LARGE))
+	$(call proved,vbi_plan,rt lib $(SMALL))
+	$(call proved,vbi_seek,rt lib $(LARGE))
 	$(call proved,vbi_c,rt lib $(SMALL))
 	cp crates/vbi_c/out/libvbi_c.a libldvbi.a
 
@@ -120,10 +124,6 @@ test: toolchain
 # The same source as plain Rust, for any machine: rust/ldvbi and rust/libldvbi.*, or rust/TARGET/..
 rust:
 	sh rust/build.sh $(TARGET)
-
-# What the last run says is gone or new becomes the list of what is run.
-ran:
-	mv .ci/ran.new .ci/ran.txt
 
 # N times the runs of the gate; RUNNER runs the program of another machine, SEED is where the random runs begin
 N := 10
@@ -286,7 +286,7 @@ mutants:
 	/usr/bin/python3 tests/mutants.py --jobs $(PROCESSORS) $(PART:%=--part %) $(FOLDER:%=--folder %) $(AGAIN:%=--again %)
 
 clean:
-	rm -rf ldvbi libldvbi.a libldvbi.so libldvbi.so.$(ABI) dist .venv .ci/ran.new
+	rm -rf ldvbi libldvbi.a libldvbi.so libldvbi.so.$(ABI) dist .venv
 	rm -rf crates/*/out rust/out rust/crate rust/ldvbi rust/libldvbi.* rust/*-*-*
 
 toolchain:
@@ -294,5 +294,5 @@ toolchain:
 	    echo "make: the proved build needs the toolchain of Rattle, whose command rt is not on the PATH" >&2; \
 	    echo "make: without it: make rust && make install FROM=rust" >&2; exit 1; }
 
-.PHONY: lib test ran rust rust-compare setup places said-from install install-lib uninstall check wheel venv deb dist
+.PHONY: lib test rust rust-compare setup places said-from install install-lib uninstall check wheel venv deb dist
 .PHONY: bench peers channel mutants clean toolchain

@@ -19,5 +19,5 @@ done
 "$work/mapped" draw "$work/side.tbc" "${1:-2240}"
 "$work/mapped" stream "$work/side.tbc" cold 9
 "$work/mapped" stream "$work/side.tbc" warm 25
-LDVBI_LIBRARY=$top/libldvbi.so.2 PYTHONPATH=$top/python PYTHONDONTWRITEBYTECODE=1 \
+LDVBI_LIBRARY=$top/libldvbi.so.3 PYTHONPATH=$top/python PYTHONDONTWRITEBYTECODE=1 \
     python3 "$top/bench/library.py" "$work/side.tbc"

@@ -101,7 +101,8 @@ static void recover(void)
     LdvbiFieldReadings readings;
 
     for (size_t i = 0; i < FIELDS; i++) {
-        done(ldvbi_recover_rows(fields.system, BLACK, WHITE, fields.rows[i], 3 * fields.line_bytes, &readings));
+        done(ldvbi_recover_rows(fields.system, BLACK, WHITE, fields.rows[i], 3 * fields.line_bytes, NULL, 0,
+                                &readings));
         add_words(&readings);
     }
 }
@@ -111,7 +112,8 @@ static void read_alone(void)
     LdvbiFieldReadings readings;
 
     for (size_t i = 0; i < FIELDS; i++) {
-        done(ldvbi_read_rows(fields.system, BLACK, WHITE, fields.rows[i], 3 * fields.line_bytes, &readings));
+        done(ldvbi_read_rows(fields.system, BLACK, WHITE, fields.rows[i], 3 * fields.line_bytes, NULL, 0,
+                                &readings));
         add_words(&readings);
     }
 }

@@ -35,7 +35,7 @@ def compare(name, unit, scale, proved, rust):
 
 def reader(folder, stream):
     """What reads all fields of a stream in one call of the library in this folder."""
-    library = ctypes.CDLL(str(folder / "libldvbi.so.2"))
+    library = ctypes.CDLL(str(folder / "libldvbi.so.3"))
     count = len(stream) // SIZE
     readings = ctypes.create_string_buffer(24 * count)
     size = ctypes.c_size_t

@@ -125,7 +125,8 @@ static int play(const Recorded *side, const SideWear *worn, Score *read, Score *
             draw_worn(tv, below(worn->one_in) == 0 ? &worn->wear : &none, words[row], rows + row * line);
         }
         CHECK(ldvbi_read_rows(tv->system, tv->black, tv->white, rows, 3 * line, &own[field]) == LDVBI_DONE);
-        CHECK(ldvbi_recover_rows(tv->system, tv->black, tv->white, rows, 3 * line, &near[field]) == LDVBI_DONE);
+        CHECK(ldvbi_recover_rows(tv->system, tv->black, tv->white, rows, 3 * line, NULL, 0, &near[field])
+              == LDVBI_DONE);
     }
     add_score(side, own, read);
     add_score(side, near, recovered);

@@ -64,7 +64,7 @@ static int print_fields(uint32_t system, uint32_t black, uint32_t white) {
         LdvbiFieldReadings field;
         uint32_t stop;
         for (size_t i = 0; i < 3; i++) resample(system, black, pixels + i * PIXELS, lines + i * line);
-        check(ldvbi_recover_rows(system, black, white, lines, whole, &field));
+        check(ldvbi_recover_rows(system, black, white, lines, whole, NULL, 0, &field));
         check(ldvbi_judge_stops(&field, 1, &stop, 1));
         print_field(&field, stop);
     }
@@ -88,6 +88,6 @@ int main(int count, char **words) {
     uint32_t system = strcmp(words[1], "NTSC") == 0 ? LDVBI_NTSC : strcmp(words[1], "PAL") == 0 ? LDVBI_PAL : 0;
     if (!parse_level(words[2], &black)) return refuse("black is not a whole number from 0 to 255");
     if (!parse_level(words[3], &white)) return refuse("white is not a whole number from 0 to 255");
-    check(ldvbi_recover_fields(system, black, white, NULL, 0, NULL, 0)); /* tests the numbers */
+    check(ldvbi_recover_fields(system, black, white, NULL, 0, NULL, 0, NULL, 0)); /* tests the numbers */
     return print_fields(system, black, white);
 }

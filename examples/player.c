@@ -24,7 +24,7 @@ static Side open_side(const char *path, const char *map) {
     FILE *file = fopen(map, "r");
     require(file && fscanf(file, rows, name, &side.black, &side.white) == 3, "no system and levels in the map");
     side.system = strcmp(name, "NTSC") == 0 ? LDVBI_NTSC : strcmp(name, "PAL") == 0 ? LDVBI_PAL : 0;
-    check(ldvbi_recover_fields(side.system, side.black, side.white, NULL, 0, NULL, 0)); /* tests the numbers */
+    check(ldvbi_recover_fields(side.system, side.black, side.white, NULL, 0, NULL, 0, NULL, 0)); /* tests the numbers */
     int samples = open(path, O_RDONLY);
     side.fields = (size_t)lseek(samples, 0, SEEK_END) / ldvbi_field_bytes(side.system);
     side.length = side.fields * ldvbi_field_bytes(side.system);
@@ -39,7 +39,7 @@ static Part read_around(const Side *side, size_t field, size_t reach) { /* and a
     Part p;
     p.from = from, p.count = (to < side->fields ? to : side->fields) - from;
     check(ldvbi_recover_fields(side->system, side->black, side->white, side->bytes + from * bytes, p.count * bytes,
-                               p.read, p.count));
+                               NULL, 0, p.read, p.count));
     return p;
 }
 static int has_picture(const Side *side, size_t field, uint32_t *number) {

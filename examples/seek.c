@@ -37,7 +37,7 @@ int main(int count, char **words) {
     int is_time = !is_chapter && strchr(words[5], ':') != NULL;
     uint32_t wanted = is_time ? parse_time(words[5], system == LDVBI_NTSC ? 30 : 25)
                               : parse_number(words[count - 1], is_chapter ? 79 : 79999);
-    check(ldvbi_recover_fields(system, black, white, NULL, 0, NULL, 0)); /* tests the numbers */
+    check(ldvbi_recover_fields(system, black, white, NULL, 0, NULL, 0, NULL, 0)); /* tests the numbers */
     int file = open(words[1], O_RDONLY);
     size_t fields = (size_t)lseek(file, 0, SEEK_END) / ldvbi_field_bytes(system);
     size_t length = fields * ldvbi_field_bytes(system);

@@ -44,7 +44,8 @@ static ssize_t read_field(uint32_t system, off_t at, uint8_t *field) {
 /* Whether a player stops at the field with these bytes. */
 static uint32_t judge_field(uint32_t system, uint32_t black, uint32_t white, const uint8_t *field, int *is_stop) {
     LdvbiFieldReadings readings;
-    uint32_t stop, status = ldvbi_recover_fields(system, black, white, field, ldvbi_field_bytes(system), &readings, 1);
+    uint32_t stop, status = ldvbi_recover_fields(system, black, white, field, ldvbi_field_bytes(system), NULL, 0,
+                                                 &readings, 1);
     if (status == LDVBI_DONE) status = ldvbi_judge_stops(&readings, 1, &stop, 1);
     *is_stop = status == LDVBI_DONE && stop == LDVBI_BELIEVED;
     return status;
@@ -81,7 +82,7 @@ int main(int count, char **words) {
     if (!parse_number(words[2], &black)) return refuse("black is not a whole number");
     if (!parse_number(words[3], &white)) return refuse("white is not a whole number");
     /* With no field, the library tests only the numbers. */
-    uint32_t status = ldvbi_recover_fields(system, black, white, NULL, 0, NULL, 0);
+    uint32_t status = ldvbi_recover_fields(system, black, white, NULL, 0, NULL, 0, NULL, 0);
     if (status != LDVBI_DONE) return refuse(ldvbi_status_text(status));
     uint8_t *field = malloc(ldvbi_field_bytes(system));
     if (field == NULL) return refuse(strerror(ENOMEM));

@@ -46,7 +46,8 @@ public:
     Reader(std::uint32_t system, std::uint32_t black, std::uint32_t white)
         : system_(system), black_(black), white_(white) {
         if (ldvbi_abi() != LDVBI_ABI) throw std::runtime_error("the library has another interface");
-        check(ldvbi_recover_fields(system, black, white, nullptr, 0, nullptr, 0)); // no fields: tests the numbers
+        // of no fields it tests the numbers
+        check(ldvbi_recover_fields(system, black, white, nullptr, 0, nullptr, 0, nullptr, 0));
     }
 
     std::size_t field_bytes() const { return ldvbi_field_bytes(system_); }
@@ -71,7 +72,8 @@ public:
 
     LdvbiFieldReadings read(const std::vector<std::uint8_t> &field) const {
         LdvbiFieldReadings readings;
-        check(ldvbi_recover_fields(system_, black_, white_, field.data(), field.size(), &readings, 1));
+        check(ldvbi_recover_fields(system_, black_, white_, field.data(), field.size(), nullptr, 0, &readings,
+                                   1));
         return readings;
     }
 

@@ -55,8 +55,8 @@ static void read_side(uint32_t system, uint32_t black, uint32_t white, uint8_t *
         next = fields - to < BLOCK ? fields : to + BLOCK;
         if (from == 0) fetch(system, side, 0, to);
         fetch(system, side, to, next);
-        check(ldvbi_recover_fields(system, black, white, side + from * bytes, (to - from) * bytes, read + from,
-                                   to - from));
+        check(ldvbi_recover_fields(system, black, white, side + from * bytes, (to - from) * bytes, NULL, 0,
+                                   read + from, to - from));
     }
 }
 
@@ -86,7 +86,7 @@ int main(int count, char **words) {
     require(count == 5 || may_end, "usage: whole FILE NTSC|PAL BLACK WHITE [cut]");
     uint32_t system = strcmp(words[2], "NTSC") == 0 ? LDVBI_NTSC : strcmp(words[2], "PAL") == 0 ? LDVBI_PAL : 0;
     uint32_t black = parse_number(words[3]), white = parse_number(words[4]), pace;
-    check(ldvbi_recover_fields(system, black, white, NULL, 0, NULL, 0)); /* no fields: tests the numbers */
+    check(ldvbi_recover_fields(system, black, white, NULL, 0, NULL, 0, NULL, 0)); /* no fields: tests the numbers */
     int file = open(words[1], O_RDONLY);
     size_t bytes = ldvbi_field_bytes(system), fields = (size_t)lseek(file, 0, SEEK_END) / bytes, aside;
     void *side = mmap(NULL, fields * bytes, PROT_READ, MAP_SHARED, file, 0);
@@ -101,21 +101,22 @@ int main(int count, char **words) {
     madvise(side, fields * bytes, MADV_RANDOM); /* few pages of a field are read: read none ahead */
     read_side(system, black, white, (uint8_t *)side, fields, read);
     check(ldvbi_judge_ends(read, fields, ends, fields));
-    LdvbiClock clock;
     LdvbiSide found, dropped;
     found.reasons = LDVBI_NO_NUMBERS;
     for (uint32_t counted = LDVBI_PICTURES; counted <= LDVBI_TIMES && found.reasons == LDVBI_NO_NUMBERS; counted++) {
         check(ldvbi_find_pace(system, counted, read, fields, seen, fields, &pace));
         check(ldvbi_judge(system, counted, pace, read, fields, seen, fields, numbers, fields));
-        check(ldvbi_find_clock(system, counted, pace, LDVBI_FIND_BOTH, numbers, fields, &clock));
-        check(ldvbi_judge_side_by_clock(system, counted, pace, LDVBI_FIND_BOTH, (uint32_t)may_end, &clock, seen,
-                                        fields, numbers, fields, ends, fields, gaps, fields, &found));
-        check(ldvbi_set_aside(system, counted, pace, LDVBI_FIND_BOTH, &clock, gaps, found.tally.gaps, numbers, fields,
-                              left, fields, &aside));
+        LdvbiSideRule rule = {system, counted, pace, LDVBI_FIND_BOTH, {LDVBI_PLAIN, 0, 0}};
+        LdvbiClock clock;
+        check(ldvbi_find_clock(&rule, numbers, fields, &clock));
+        rule.clock = clock;
+        check(ldvbi_judge_side(&rule, (uint32_t)may_end, seen, fields, numbers, fields, ends, fields, gaps, fields,
+                               &found));
+        check(ldvbi_set_aside(&rule, gaps, found.tally.gaps, numbers, fields, left, fields, &aside));
         /* a few minutes of an NTSC CLV disc don't show enough of drop-frame: what is whole by that is whole */
-        clock.kind = LDVBI_DROP_FRAME;
-        check(ldvbi_judge_side_by_clock(system, counted, pace, LDVBI_FIND_BOTH, (uint32_t)may_end, &clock, seen,
-                                        fields, numbers, fields, ends, fields, NULL, 0, &dropped));
+        rule.clock.kind = LDVBI_DROP_FRAME;
+        check(ldvbi_judge_side(&rule, (uint32_t)may_end, seen, fields, numbers, fields, ends, fields, NULL, 0,
+                               &dropped));
         if (dropped.verdict == LDVBI_WHOLE && system == LDVBI_NTSC && counted == LDVBI_TIMES) found = dropped;
     }
     int status = print(&found, gaps);

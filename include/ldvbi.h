@@ -16,8 +16,8 @@
  * If it isn't found, `at.field` is `count`. Seeking fetches about 2 MB of 50 GB. Without the call of madvise the system
  * reads ahead, ten pages or more for each one that is wanted. The programs in examples/ also test what the system
  * answers; player.c goes to chapters, too, and beside pictures that a capture lacks. In docs/, LIBRARY.md says how to
- * link, which line has which code, and how to read frames, lines of other sample rates and mapped files; PROMISES.md
- * says what is proved. Both folders are installed in share/doc/ldvbi.
+ * link, which line has which code, and how to read frames, lines of other sample rates and mapped files. Both folders
+ * are installed in share/doc/ldvbi. What is proved of each call, and what isn't, is in docs/PROMISES.md.
  *
  * Samples have 16 bits, the low byte first, as in ld-decode's TBC files: line after line, field after field. Black and
  * white are samples too: black16bIre and white16bIre of the .tbc.json. A sample above the middle of the two is high.
@@ -73,11 +73,11 @@ size_t ldvbi_field_bytes(uint32_t system);
 #define LDVBI_VERSION_TEXT "0.2.0"
 
 /* The interface that this header declares. If something is added, such as a call, a status or a kind, this number and
- * the library's name libldvbi.so.2 stay. If something is changed or removed, both are raised. So a program that was
+ * the library's name libldvbi.so.3 stay. If something is changed or removed, both are raised. So a program that was
  * built with this header runs with each library that has this interface and the same version or a later one. It has to
  * expect statuses, causes, kinds and formats that it doesn't know. To check the library that is linked: if (ldvbi_abi()
  * != LDVBI_ABI || ldvbi_version() < LDVBI_VERSION) .. */
-#define LDVBI_ABI 2
+#define LDVBI_ABI 3
 
 uint32_t ldvbi_abi(void);     /* the interface of the library that is linked */
 uint32_t ldvbi_version(void); /* its version, as a number */
@@ -145,9 +145,7 @@ LDVBI_RESULT uint32_t ldvbi_read_fields(uint32_t system, uint32_t black, uint32_
  * their samples: how far each is from the row's, but at most seven tenths of (white - black), rounded up. That is what
  * one column with the other level counts in one line. The nearest of all rows has the least distance.
  *
- * This is proved: no row, of any word or of none, is nearer to the lines than the one that is answered, and no row of
- * another word, or of none, is nearer than `rival`. So if another word was recorded, the samples are off by `rival` or
- * more in sum. If two words are equally near, `rival` is `distance`, and either may be answered.
+ * If two words are equally near, `rival` is `distance`, and either may be answered.
  *
  * Nothing is promised of real samples: if a dropout turns a cell over, another word is nearest. Video, captions and
  * sines have a nearest word too, but for most of them the margin (rival - distance) is small. A sine of 0.5 MHz looks
@@ -165,6 +163,14 @@ typedef struct LdvbiNear {
  * lie one after the other: `length` has to be 1 to 28 times ldvbi_line_bytes(system). */
 LDVBI_RESULT LDVBI_POINTER(6) uint32_t ldvbi_nearest(uint32_t system, uint32_t black, uint32_t white,
     const void *samples, size_t length, LdvbiNear *near);
+
+/* Columns of a line that are erased, such as those of a dropout. They count for no nearest word. */
+typedef struct LdvbiErased {
+    uint32_t field; /* of the fields in the call's bytes, counted from 0 */
+    uint32_t line;  /* 16, 17 or 18 */
+    uint32_t first; /* the first erased column, counted from 0 */
+    uint32_t last;  /* the last one, not before the first; columns beyond the line count for nothing */
+} LdvbiErased;
 
 /* Reads lines 16, 17 and 18 as ldvbi_read_rows does, and recovers the words of worn lines, as pass 3. A line that shows
  * no word and isn't blank gets the nearest code that may stand on it if no word is nearer by more than 3 columns, of
@@ -206,34 +212,18 @@ LDVBI_RESULT LDVBI_POINTER(6) uint32_t ldvbi_nearest(uint32_t system, uint32_t b
  * after. This is done if the rest swings by 3 to 16 tenths of (white - black), and if of two lines neither swings more
  * than twice as much as the other. A word of pass 2 stays only if its line by itself says it in this way, or if a row
  * of it whose cells have 98 to 102 hundredths of their length is nearer than that of any other word by 8 columns. A
- * picture number of 80,000 or more stays, too, if its line says it as a word that is no code.
+ * picture number of 80,000 or more stays, too, if its line says it as a word that is no code. A word of pass 1 stays as
+ * it is, and a blank line stays blank.
  *
- * This is proved: the answer is that of this rule, a word of pass 1 stays as it is, a blank line stays blank, and no
- * word of pass 3 is a picture number of 80,000 or more. It isn't proved that a recovered word is the recorded one: this
- * is measured on simulated lines. */
-LDVBI_RESULT LDVBI_POINTER(6) uint32_t ldvbi_recover_rows(uint32_t system, uint32_t black, uint32_t white,
-    const void *samples, size_t length, LdvbiFieldReadings *readings);
-
-/* The same for `count` fields, as ldvbi_read_fields takes them. */
-LDVBI_RESULT uint32_t ldvbi_recover_fields(uint32_t system, uint32_t black, uint32_t white, const void *samples,
-    size_t length, LdvbiFieldReadings *readings, size_t count);
-
-/* Columns of a line that are erased, such as those of a dropout. They count for no nearest word. */
-typedef struct LdvbiErased {
-    uint32_t field; /* of the fields in the call's bytes, counted from 0 */
-    uint32_t line;  /* 16, 17 or 18 */
-    uint32_t first; /* the first erased column, counted from 0 */
-    uint32_t last;  /* the last one, not before the first; columns beyond the line count for nothing */
-} LdvbiErased;
-
-/* The same as the two calls above, without the columns that are erased. The list is sorted by field, then line, then
- * first column. Its entries may overlap. An empty list erases nothing. LDVBI_BAD_ERASED is returned only if all else is
- * right. This is proved: just the columns of a line that an entry names count for no nearest word of this line. */
-LDVBI_RESULT LDVBI_POINTER(8) uint32_t ldvbi_recover_rows_without(uint32_t system, uint32_t black, uint32_t white,
+ * Columns of `erased`, a list of field 0, are left out. The list is sorted by field, then line, then first column. Its
+ * entries may overlap. An empty list erases nothing, and may be null. LDVBI_BAD_ERASED is returned only if all else is
+ * right. */
+LDVBI_RESULT LDVBI_POINTER(8) uint32_t ldvbi_recover_rows(uint32_t system, uint32_t black, uint32_t white,
     const void *samples, size_t length, const LdvbiErased *erased, size_t erased_count, LdvbiFieldReadings *readings);
-LDVBI_RESULT uint32_t ldvbi_recover_fields_without(uint32_t system, uint32_t black, uint32_t white,
-    const void *samples, size_t length, const LdvbiErased *erased, size_t erased_count, LdvbiFieldReadings *readings,
-    size_t count);
+
+/* The same for `count` fields, as ldvbi_read_fields takes them, with a list of these fields. */
+LDVBI_RESULT uint32_t ldvbi_recover_fields(uint32_t system, uint32_t black, uint32_t white, const void *samples,
+    size_t length, const LdvbiErased *erased, size_t erased_count, LdvbiFieldReadings *readings, size_t count);
 
 /* The record of a field in the document with recovered words, version 3, which docs/FORMATS.md describes: a line of
  * JSON without a newline. In the document a comma and a newline stand between two records. */
@@ -242,11 +232,9 @@ typedef struct LdvbiRecord {
     uint8_t text[448]; /* the record in ASCII, then zeros */
 } LdvbiRecord;
 
-/* Writes the record of a field from its lines 16, 17 and 18, as ldvbi_recover_rows_without takes them. `number` is the
+/* Writes the record of a field from its lines 16, 17 and 18, as ldvbi_recover_rows takes them. `number` is the
  * number of the field, which in the document is counted from 1; any number is taken. The distances of nearest words in
- * the record leave out erased columns. This is proved: without erased columns the text is the one that `ldvbi extract
- * --recover` writes for the field; with them it has the words and passes of ldvbi_recover_rows_without, and its causes,
- * but for a word of pass 3 the cause as ldvbi_read_rows answers it. */
+ * the record leave out erased columns. A word of pass 3 has the cause that ldvbi_read_rows answers. */
 LDVBI_RESULT LDVBI_POINTER(9) uint32_t ldvbi_recovered_record(uint32_t system, uint32_t black, uint32_t white,
     uint32_t number, const void *samples, size_t length, const LdvbiErased *erased, size_t erased_count,
     LdvbiRecord *record);
@@ -260,10 +248,7 @@ LDVBI_RESULT LDVBI_POINTER(9) uint32_t ldvbi_recovered_record(uint32_t system, u
  * as they are. A code that may stand on the line has to be ahead by 4 columns if dropouts are known (`known` is 1),
  * else (`known` is 0) by 8, and by a share of 4/288. Any other word has to be ahead by 8 columns, and by 3/288. The row
  * with one more cell, or with one or two cells fewer, may be nearer by 4 columns in each line. The levelled lines are
- * asked first if each of them swings as much as said there, and none more than twice as much as another.
- *
- * This is proved: the answer is that of this rule, no picture number of 80,000 or more, and just the columns that an
- * entry names count for nothing. */
+ * asked first if each of them swings as much as said there, and none more than twice as much as another. */
 LDVBI_RESULT LDVBI_POINTER(10) uint32_t ldvbi_recover_pile(uint32_t system, uint32_t black, uint32_t white,
     uint32_t line, uint32_t known, const void *samples, size_t length, const LdvbiErased *erased, size_t erased_count,
     uint32_t *word);
@@ -312,23 +297,12 @@ LDVBI_RESULT LDVBI_POINTER(4) uint32_t ldvbi_format(uint32_t first, uint32_t sec
  * itself and in the LDVBI_REACH fields before and after it, weigh 10 or more, and more than those for any other number
  * of the field.
  *
- * This is proved: if the disc ran on at the pace that is judged by, from LDVBI_REACH fields before a field to as many
- * after it, and the misread words of lines 17 and 18 there weigh less than 10, a believed number is the one that was
- * recorded. For times, line 16 counts too, and twice, since both lines' numbers rest on it. If the field has no number
- * on the disc, a believed one fits one that was recorded and read near it. If the player stood still at a picture of
- * video, the same holds as long as those words weigh less than 6 and the pace is that of video.
- *
  * If no number of a field is believed, one may be due in it: the number that two believed fields, one before it and one
  * after it, count to. Both lie a whole number of pictures away, and at most LDVBI_REACH fields. Each believed number
  * between the two has to fit it; on video it may be a field off if the two are at most 8 fields apart. None is due if
- * the field shows a code that stands in place of a number, or one number on both lines in pass 1. This is proved too:
- * if the believed numbers within LDVBI_REACH fields are right, and the disc is regular, the field has the number that
- * is due. The disc is regular here if this holds: when numbers of the disc before and after the field, both within
- * LDVBI_REACH fields, count to one number in it, it has that number.
+ * the field shows a code that stands in place of a number, or one number on both lines in pass 1.
  *
- * Nothing is promised if, within LDVBI_REACH fields, the player jumped, the capture lost a field, or the clock of an
- * NTSC CLV disc leaves out a number. The same is true if film stands still, or if the pace isn't the disc's. Errors are
- * rare there too. ldvbi_judge_side judges lost fields; minutes without seconds are judged by `ldvbi-side` alone. */
+ * ldvbi_judge_side judges lost fields; minutes without seconds are judged by `ldvbi-side` alone. */
 
 enum { LDVBI_REACH = 24 }; /* how many fields before a field, and how many after it, are looked at */
 
@@ -380,12 +354,7 @@ LDVBI_RESULT uint32_t ldvbi_judge(uint32_t system, uint32_t counted, uint32_t pa
  * `completed` gets the readings, and on line 17 of such a field the hours and minutes of that number, in the pass of
  * line 16; lines 16 and 18 stay. `seen` gets what the readings show, as from ldvbi_judge with LDVBI_TIMES. All arrays
  * have `count` values. To judge times, give `completed` in place of `readings`. Judge chapters and ends by the readings
- * themselves, since line 17 may have shown one.
- *
- * This is proved: if the disc ran on within these fields, and the votes that were read wrongly weigh less than those
- * that were read rightly, or less than 4, a field gets no other time than the one on the disc. It gets that one if the
- * wrong ones weigh less than the right ones, the right ones weigh at least 4, line 16 has the disc's second and
- * picture, and the hour has one digit. */
+ * themselves, since line 17 may have shown one. */
 enum { LDVBI_VOTE_REACH = 240 };
 LDVBI_RESULT uint32_t ldvbi_complete_times(uint32_t system, const LdvbiFieldReadings *readings, size_t count,
     LdvbiSightings *seen, size_t seen_count, LdvbiFieldReadings *completed, size_t completed_count);
@@ -398,11 +367,10 @@ LDVBI_RESULT LDVBI_POINTER(7) uint32_t ldvbi_find_pace(uint32_t system, uint32_t
 enum { LDVBI_PART = 97 }; /* the answer for a field depends on it and on 2 * LDVBI_REACH fields on either side */
 
 /* Judges the field `field`, counted from 0, of at most LDVBI_PART fields that follow each other. It is for a player
- * that jumps about and has no buffer for a whole side. This is proved: if the readings have 2 * LDVBI_REACH fields
- * before it, or begin with the side, and have as many after it, or end with the side, `number` is what ldvbi_judge
- * answers for it in the whole side at the same pace. `pace` is LDVBI_VIDEO or LDVBI_FILM, as ldvbi_find_pace answers
- * for the side: a few fields have no pace of their own. LDVBI_BAD_LENGTH is returned also if `field` isn't below
- * `count`. */
+ * that jumps about and has no buffer for a whole side. If the readings have 2 * LDVBI_REACH fields before it, or begin
+ * with the side, and have as many after it, or end with the side, `number` is what ldvbi_judge answers for it in the
+ * whole side at the same pace. `pace` is LDVBI_VIDEO or LDVBI_FILM, as ldvbi_find_pace answers for the side: a few
+ * fields have no pace of their own. LDVBI_BAD_LENGTH is returned also if `field` isn't below `count`. */
 LDVBI_RESULT LDVBI_POINTER(7) uint32_t ldvbi_judge_field(uint32_t system, uint32_t counted, uint32_t pace,
     const LdvbiFieldReadings *readings, size_t count, size_t field, LdvbiNumber *number);
 
@@ -425,21 +393,9 @@ enum { LDVBI_LOOKED = 1000 };
  * `pace` is as for ldvbi_judge. With LDVBI_FIND_PACE the call finds a pace by the few fields that it judges, and names
  * it in `sought`. It needn't be the one that ldvbi_find_pace answers for the side. A cut last field is left out.
  *
- * This is proved: the field that is answered has the number, and the field before it hasn't, as ldvbi_judge answers at
- * this pace by what ldvbi_recover_fields reads of all fields. The first field with a number is found if the side has at
- * most a million fields, its numbers lead there, and with LDVBI_FIND_PACE also one pace is found by whichever fields
- * around it are judged. Numbers lead there if three things hold: along a sixteenth of the side or more, any 12 fields
- * in a row tell a number together; elsewhere none do; lower numbers are told before the field, higher ones after it. A
- * run of a disc of video is like this if it has three fields more than a sixteenth of the side, and each number was
- * read on both lines in pass 1: that is proved, too. Of other sides it isn't. Those that were tried are like this if
- * the player runs on, with any lead-in and lead-out, and each line is read. Otherwise a number may be missed: to be
- * sure that it isn't there, judge the whole side.
- *
- * This is proved of `before` and `after`, found or not: ldvbi_judge believes each, as above, and none of the fields
- * looked at is believed to have a nearer number on its side. These are at least 24 fields in a row, or all; if the side
- * has at most a million, and numbers lead to a field, all from 24 before it to 24 after it. The two are the nearest of
- * the whole side if its believed numbers never fall, and either both are told, or numbers lead so to a field with the
- * lower ones up to it and the higher ones from it on, one of each within 24 fields, if there are any. */
+ * The field that is answered has the number, and the field before it hasn't, as ldvbi_judge answers at this pace by
+ * what ldvbi_recover_fields reads of all fields. On a side that jumps, or of which much isn't read, a number may be
+ * missed: to be sure that it isn't there, judge the whole side. */
 LDVBI_RESULT LDVBI_POINTER(9) uint32_t ldvbi_seek(uint32_t system, uint32_t black, uint32_t white, uint32_t counted,
     uint32_t pace, const void *bytes, size_t length, uint32_t number, LdvbiSought *sought);
 
@@ -450,13 +406,8 @@ LDVBI_RESULT LDVBI_POINTER(9) uint32_t ldvbi_seek(uint32_t system, uint32_t blac
  * it have to weigh less than 10: those of later chapters before the field or in it, and those of earlier chapters after
  * it or in it.
  *
- * This is proved, whatever the disc and the player do: if the chapter codes within LDVBI_REACH fields of a field that
- * aren't what the disc has there weigh less than 10, a believed chapter is one that the disc has within these fields.
- * And if the codes of one chapter weigh 10 or more within LDVBI_REACH fields before a field, and 10 or more within as
- * many after it, no other chapter is believed for that field.
- *
- * So a chapter can seem longer by a few fields if codes near its ends are misread as its own. If a player goes back to
- * an earlier chapter, there may be no believed chapter for LDVBI_REACH fields before and after. */
+ * A chapter can seem longer by a few fields if codes near its ends are misread as its own. If a player goes back to an
+ * earlier chapter, there may be no believed chapter for LDVBI_REACH fields before and after. */
 
 /* Judges the chapters of fields as ldvbi_judge does their numbers. `chapters` gets the answers: the number is the
  * chapter, and the state is never LDVBI_DUE. Most fields have no chapter code. They have LDVBI_NOTHING, and belong to
@@ -471,16 +422,9 @@ typedef struct LdvbiPlace {
 } LdvbiPlace;
 
 /* Finds the field in which a chapter begins in the `length` bytes of a side, by halving: at most LDVBI_LOOKED fields
- * are read. A cut last field is left out.
- *
- * This is proved: ldvbi_judge_chapters believes the chapter of the field that is answered, and of none of the 72 fields
- * before it, by what ldvbi_recover_fields reads of all fields. If none is answered, no field is like this where halving
- * led: 24 fields in a row or more, or all. The first field with a chapter is found if the side has at most a million
- * fields, and its chapters lead there: from each field along a sixteenth of the side or more, at most 24 in a row tell
- * a chapter together; from the others none do; lower chapters are told from no later field than this, others from none
- * 24 fields before it or more. They do if each other field of three more than a sixteenth of the side shows one on both
- * lines in pass 1, no other field shows any, none falls, and each lasts three pictures or more: that is proved, too.
- * Otherwise one may be missed, as on a worn side, or if the player went back. */
+ * are read. A cut last field is left out. ldvbi_judge_chapters believes the chapter of the field that is answered, and
+ * of none of the 72 fields before it, by what ldvbi_recover_fields reads of all fields. One may be missed on a worn
+ * side, or if the player went back. */
 LDVBI_RESULT LDVBI_POINTER(7) uint32_t ldvbi_seek_chapter(uint32_t system, uint32_t black, uint32_t white,
     const void *bytes, size_t length, uint32_t chapter, LdvbiPlace *place);
 
@@ -490,11 +434,7 @@ size_t ldvbi_first_of(const LdvbiNumber *numbers, size_t count, uint32_t number)
 /* ---- Judging stops
  *
  * A disc has a stop on lines 16 and 17. It is believed if one of the two shows it in pass 1, or if both do, in whatever
- * pass. Other fields have no say, since a stop may stand anywhere on a side.
- *
- * This is proved: if the disc has no stop in a field, and one is believed there, a word of pass 1 was misread on its
- * lines 16 and 17, or both words were. A stop that the disc has is believed if one line was read right in pass 1, or if
- * both were read right. */
+ * pass. Other fields have no say, since a stop may stand anywhere on a side. */
 
 /* Judges the stops of `count` fields. Each is judged by itself, so it may be one field alone. For each field `stops`
  * gets LDVBI_BELIEVED; LDVBI_DOUBTFUL if line 16 or 17 shows a stop that isn't believed; else LDVBI_NOTHING. A player
@@ -503,9 +443,9 @@ LDVBI_RESULT uint32_t ldvbi_judge_stops(const LdvbiFieldReadings *readings, size
     size_t stop_count);
 
 /* Finds the next stop in the `length` bytes of a side: the first field from `field` on for which ldvbi_judge_stops
- * believes one, by what ldvbi_recover_fields reads of it. This is proved. Fields are read one after the other up to
- * that one, at most `most` of them: none if that is 0, or if `field` isn't below the count. If none has a stop, the
- * next call goes on at `field` + `looked`. A cut last field is left out. */
+ * believes one, by what ldvbi_recover_fields reads of it. Fields are read one after the other up to that one, at most
+ * `most` of them: none if that is 0, or if `field` isn't below the count. If none has a stop, the next call goes on at
+ * `field` + `looked`. A cut last field is left out. */
 LDVBI_RESULT LDVBI_POINTER(8) uint32_t ldvbi_next_stop(uint32_t system, uint32_t black, uint32_t white,
     const void *bytes, size_t length, size_t field, size_t most, LdvbiPlace *stop);
 
@@ -524,30 +464,6 @@ LDVBI_RESULT LDVBI_POINTER(8) uint32_t ldvbi_next_stop(uint32_t system, uint32_t
  * one of the gaps, and the two count to no more fields than lie outside of the run: the player left the fields around,
  * and came back. Detours are taken from the first gap on, and no gap is part of two. Of the numbers between the two
  * none is lost, undecided or unread by these gaps.
- *
- * This is proved: `gaps` gets each gap, once and in order, as far as it has room, and `side->tally` counts all of them.
- * What follows holds if the numbers are those of ldvbi_judge at this pace, and the disc counts on: any two of its
- * numbers go on.
- *
- * If each field of the capture stands later on the disc than the one before it, the capture is LDVBI_WHOLE, `last` is 2
- * * LDVBI_REACH fields or more after `first`, and the words misread within LDVBI_REACH fields of each of the two weigh
- * less than 10, then no field of video is lost from LDVBI_REACH fields after `first` to as many before `last`, whatever
- * was misread between. If numbers are on both fields of a picture, at most two fields are lost between a field that
- * near to `first` and one that near to `last`; on film at most four.
- *
- * The other way round, a side of video with a number on one field of each picture is LDVBI_WHOLE, with no gap and no
- * reason, if the capture is one run of the disc from its first number, which is 1 or 0, to lead-out, has three pictures
- * or more, and each number was read on both lines in pass 1. So is one that begins later, if fields enough for the
- * numbers before it stand there, 100 at most. `both` is LDVBI_ON_ONE or LDVBI_FIND_BOTH.
- *
- * With a number on one field of each picture: if each field stands later on the disc than the one before it, and the
- * numbers at both ends of each LDVBI_LOST gap are right, the capture lacks at least `tally.lost` fields of the disc
- * between `first` and `last`. If those of a LDVBI_HELD gap are right, at least `fields` fields more stand between them
- * than the disc has there. If the numbers around gaps of LDVBI_REPLACED are right, on video, as many fields are skipped
- * between as are repeated. If also each field stands later on the disc than the one before it, none is, and the run's
- * numbers at the two gaps are wrong. And in whatever order the fields stand, if the words misread within LDVBI_REACH
- * fields of each end of a gap of video weigh less than 10, the capture isn't one run of the disc from LDVBI_REACH
- * fields before the gap to as many after it.
  *
  * Some faults go unseen. Up to 100 lost fields and as many doubled ones leave no gap if no number between is believed.
  * Swapped fields go unseen if their numbers weren't read, on film, and with numbers on both fields. And a disc whose
@@ -642,49 +558,25 @@ enum LdvbiEnd { /* whether a field belongs to an end of the side */
 
 /* Judges which fields show lead-in or lead-out, each by its own lines 17 and 18. For each field `ends` gets
  * LDVBI_IS_LEAD_OUT if one of the two lines shows lead-out in pass 1, or if both lines do, in whatever pass; else
- * LDVBI_IS_LEAD_IN if they show lead-in so; LDVBI_DOUBTFUL_END if a line shows either; else LDVBI_NO_END. This is
- * proved: if the disc has no lead-out in a field with LDVBI_IS_LEAD_OUT, a word of pass 1 was misread there, or both
- * words were; and so it is with lead-in. */
+ * LDVBI_IS_LEAD_IN if they show lead-in so; LDVBI_DOUBTFUL_END if a line shows either; else LDVBI_NO_END. */
 LDVBI_RESULT uint32_t ldvbi_judge_ends(const LdvbiFieldReadings *readings, size_t count, uint32_t *ends,
     size_t end_count);
 
 /* Returns 1 if LDVBI_FIND_BOTH finds that the disc has its numbers on both fields of a picture, else 0. */
 uint32_t ldvbi_find_both(const LdvbiNumber *numbers, size_t count);
 
-/* Judges a whole side by what ldvbi_judge saw in its fields and answered for them, and by what ldvbi_judge_ends
- * answered. The three arrays have to be equally long. `pace` is the one at which ldvbi_judge judged, LDVBI_VIDEO or
- * LDVBI_FILM, as ldvbi_find_pace answers it; LDVBI_FIND_PACE is LDVBI_BAD_PACE here. `both` is of enum LdvbiBoth; any
- * other number counts as LDVBI_ON_BOTH. `may_end` is not 0 if the capture may end before the disc does. `gaps` gets the
- * first gaps, as many as it has room for; the rest of it stays as it was. */
-LDVBI_RESULT LDVBI_POINTER(14) uint32_t ldvbi_judge_side(uint32_t system, uint32_t counted, uint32_t pace,
-    uint32_t both, uint32_t may_end, const LdvbiSightings *seen, size_t seen_count, const LdvbiNumber *numbers,
-    size_t number_count, const uint32_t *ends, size_t end_count, LdvbiGap *gaps, size_t gap_room, LdvbiSide *side);
-
 /* ---- The clock of an NTSC CLV disc
  *
  * NTSC counts 30 pictures to a second, which has 29.97. To keep to the clock, CLV discs leave out numbers: there no
- * field is missing, only a number. ldvbi_judge_side knows nothing of this. It takes each of these places for a gap,
- * which is LDVBI_OPEN, so it can't tell whether the side is whole. With numbers on both fields of a picture it may take
- * it for LDVBI_LOST. ldvbi_judge_side_by_clock is given the clock: it counts all numbers without those that are left
- * out, and finds no gap there. By LDVBI_PLAIN both calls answer the same.
+ * field is missing, only a number. By the disc's clock ldvbi_judge_side counts all numbers without those that are left
+ * out, and finds no gap there. By LDVBI_PLAIN it takes each of these places for a gap, which is LDVBI_OPEN, so it can't
+ * tell whether the side is whole. With numbers on both fields of a picture it may take it for LDVBI_LOST.
  *
  * A disc counts on by a clock if any two of its numbers lie as many fields apart as the numbers between that the clock
  * doesn't leave out count to. By a clock no gap of video is LDVBI_OPEN, and LDVBI_BEGINS_LATE and LDVBI_IS_OFF count by
  * it, too.
  *
- * This is proved: what the clock leaves out is never counted as lost, undecided or unread. If each field of the capture
- * stands later on the disc than the one before it, the disc counts on by the clock, and has a number on one field of
- * each picture, the capture is LDVBI_WHOLE, `last` is 2 * LDVBI_REACH fields or more after `first`, and the words
- * misread within LDVBI_REACH fields of each of the two weigh less than 10, then no field of video is lost from
- * LDVBI_REACH fields after `first` to as many before `last`, provided the clock leaves out none of the 12 numbers
- * before the number of either field, nor of the 12 from it on. If it leaves out some of these, at most two fields for
- * each of them are lost between a field that near to `first` and one that near to `last`: at most eight by drop-frame,
- * and four by one in 1,000 or 1,001. What is said above of numbers on both fields, of film, and of gaps holds with the
- * same two conditions on numbers near their ends and on the order of fields; what is said of `tally.lost` holds as it
- * stands.
- *
- * Of a disc that keeps to another clock, or to none, this says nothing. By a wrong clock sound places are gaps, and
- * lost fields go unseen where it leaves out a number. */
+ * By a wrong clock sound places are gaps, and lost fields go unseen where it leaves out a number. */
 enum LdvbiClockKind {
     LDVBI_PLAIN = 0,      /* the disc leaves out no number, or it isn't known which */
     LDVBI_DROP_FRAME = 1, /* the first two of each minute but each tenth: 0:00:59.29 is followed by 0:01:00.02 */
@@ -697,46 +589,48 @@ typedef struct LdvbiClock {
     uint32_t phase;  /* below `period`, of LDVBI_ONE_IN; else the same */
 } LdvbiClock;
 
-/* Finds the clock that the believed numbers of a side tell. `pace` and `both` are as for ldvbi_judge_side. Three clocks
- * are tried: LDVBI_DROP_FRAME, and LDVBI_ONE_IN with the periods 1,000 and 1,001. Of these two the phase is that of
- * more than half of the places at which just one number is missing; if none has so many, any of theirs. Two
- * neighbouring numbers speak for a clock if they go on by it and not without, and against it if they go on without it
- * and not by it. A clock needs three such pairs or more for it, and at least twice as many as against it. The one that
- * most speak for is answered: LDVBI_DROP_FRAME if as many speak for another one, but LDVBI_PLAIN if as many speak for
- * 1,000 as for 1,001.
- *
- * This is proved: the clock is LDVBI_PLAIN, or one for which, and against which, as many speak as it needs. It is
- * LDVBI_PLAIN if the system isn't LDVBI_NTSC or pictures are counted. It is LDVBI_DROP_FRAME if that has what it needs,
- * and no other clock that has has more.
- *
- * It isn't proved that the clock is the disc's: a device that loses a picture each 1,000 looks like one. And a side has
- * to show three of the places: the first three minutes of a disc don't tell drop-frame, nor its first 2,000 to 3,000
- * pictures one in 1,000 or 1,001. */
-LDVBI_RESULT LDVBI_POINTER(7) uint32_t ldvbi_find_clock(uint32_t system, uint32_t counted, uint32_t pace,
-    uint32_t both, const LdvbiNumber *numbers, size_t number_count, LdvbiClock *clock);
+/* The rule by which a whole side is judged */
+typedef struct LdvbiSideRule {
+    uint32_t system;  /* of enum LdvbiSystem */
+    uint32_t counted; /* of enum LdvbiCounted */
+    uint32_t pace;    /* the one at which ldvbi_judge judged, LDVBI_VIDEO or LDVBI_FILM, as ldvbi_find_pace answers it;
+                         LDVBI_FIND_PACE is LDVBI_BAD_PACE here */
+    uint32_t both;    /* of enum LdvbiBoth; any other number counts as LDVBI_ON_BOTH */
+    LdvbiClock clock; /* the clock to which the disc keeps */
+} LdvbiSideRule;
 
-/* Judges a whole side as ldvbi_judge_side does, of a disc that keeps to this clock. */
-LDVBI_RESULT LDVBI_POINTER(6) LDVBI_POINTER(15) uint32_t ldvbi_judge_side_by_clock(uint32_t system, uint32_t counted,
-    uint32_t pace, uint32_t both, uint32_t may_end, const LdvbiClock *clock, const LdvbiSightings *seen,
-    size_t seen_count, const LdvbiNumber *numbers, size_t number_count, const uint32_t *ends, size_t end_count,
-    LdvbiGap *gaps, size_t gap_room, LdvbiSide *side);
+/* Finds the clock that the believed numbers of a side tell. That of the rule isn't read. Three clocks are tried:
+ * LDVBI_DROP_FRAME, and LDVBI_ONE_IN with the periods 1,000 and 1,001. Of these two the phase is that of more than half
+ * of the places at which just one number is missing; if none has so many, any of theirs. Two neighbouring numbers speak
+ * for a clock if they go on by it and not without, and against it if they go on without it and not by it. A clock needs
+ * three such pairs or more for it, and at least twice as many as against it. The one that most speak for is answered:
+ * LDVBI_DROP_FRAME if as many speak for another one, but LDVBI_PLAIN if as many speak for 1,000 as for 1,001. It is
+ * LDVBI_PLAIN if the system isn't LDVBI_NTSC or pictures are counted.
+ *
+ * A device that loses a picture each 1,000 looks like a clock. And a side has to show three of the places: the first
+ * three minutes of a disc don't tell drop-frame, nor its first 2,000 to 3,000 pictures one in 1,000 or 1,001. */
+LDVBI_RESULT LDVBI_POINTER(1) LDVBI_POINTER(4) uint32_t ldvbi_find_clock(const LdvbiSideRule *rule,
+    const LdvbiNumber *numbers, size_t number_count, LdvbiClock *clock);
+
+/* Judges a whole side by what ldvbi_judge saw in its fields and answered for them, and by what ldvbi_judge_ends
+ * answered. The three arrays have to be equally long. `may_end` is not 0 if the capture may end before the disc does.
+ * `gaps` gets the first gaps, as many as it has room for; the rest of it stays as it was. */
+LDVBI_RESULT LDVBI_POINTER(1) LDVBI_POINTER(11) uint32_t ldvbi_judge_side(const LdvbiSideRule *rule, uint32_t may_end,
+    const LdvbiSightings *seen, size_t seen_count, const LdvbiNumber *numbers, size_t number_count,
+    const uint32_t *ends, size_t end_count, LdvbiGap *gaps, size_t gap_room, LdvbiSide *side);
 
 /* Sets aside numbers that stand in the place of others: words of which the same bits are misread, by a scratch that
  * stands still while the disc turns, show numbers that go on with each other, and are believed. `gaps` are those that
- * ldvbi_judge_side_by_clock told of these numbers, asked with the same system, counted, pace, both and clock
- * (ldvbi_judge_side judges by LDVBI_PLAIN), or the first of them. `left` gets the numbers, in another array as long: as
- * they are, but LDVBI_DOUBTFUL where one is LDVBI_BELIEVED in a run between two neighbouring gaps of
+ * ldvbi_judge_side told of these numbers by the same rule, or the first of them. `left` gets the numbers, in another
+ * array as long: as they are, but LDVBI_DOUBTFUL where one is LDVBI_BELIEVED in a run between two neighbouring gaps of
  * LDVBI_REPLACED, and three things hold. More believed numbers of the side are in a row with the number before the run
  * than with its first one, and more with the number after it than with its last one: two are in a row if they go on, on
  * film to within two fields. The run has none of the numbers that are due in its fields: a player that skips a few
  * pictures, and goes back by as many, shows most. And at neither gap the number stays. `*count` is how many were set
- * aside. What was said of the side stands.
- *
- * This is proved: just these are set aside, and a number that is left believed was believed. Each run takes four passes
- * over the numbers. */
-LDVBI_RESULT LDVBI_POINTER(5) LDVBI_POINTER(12) uint32_t ldvbi_set_aside(uint32_t system, uint32_t counted,
-    uint32_t pace, uint32_t both, const LdvbiClock *clock, const LdvbiGap *gaps, size_t gap_count,
-    const LdvbiNumber *numbers, size_t number_count, LdvbiNumber *left, size_t left_count, size_t *count);
+ * aside. What was said of the side stands. Each run takes four passes over the numbers. */
+LDVBI_RESULT LDVBI_POINTER(1) LDVBI_POINTER(8) uint32_t ldvbi_set_aside(const LdvbiSideRule *rule, const LdvbiGap *gaps,
+    size_t gap_count, const LdvbiNumber *numbers, size_t number_count, LdvbiNumber *left, size_t left_count,
+    size_t *count);
 
 /* ---- The plan of a file that is made from several captures of a disc
  *
@@ -756,11 +650,8 @@ LDVBI_RESULT LDVBI_POINTER(5) LDVBI_POINTER(12) uint32_t ldvbi_set_aside(uint32_
  *   - If it is padding, it stands for no number that is believed of any field.
  * Else `stretch` is the first one of which that isn't so, and `rule` says which rule it breaks.
  *
- * This is proved, too, of a plan that is done: each rank from the first number's to before that of `end` stands in just
- * one stretch; no field stands twice in the file; and by LDVBI_SPACING_VIDEO, if the disc counts on by the clock and
- * the believed numbers are right, each field of the file that shows a number is the disc's field in its place, and so
- * is each field between two such of a stretch, provided that its capture's fields stand in the disc's order. Of a field
- * before the first number of its stretch or after the last one nothing is known: a player may have jumped there.
+ * Of a field before the first number of its stretch or after the last one nothing is known: a player may have jumped
+ * there.
  *
  * The time grows with the fields of the plan and of the captures, with the square of the count of stretches, and, for
  * each stretch of padding that stands for a number, with the fields of the captures once more. */

@@ -2,7 +2,7 @@
 """Makes a wheel of the Python module, with the library inside: `pip install` of it needs
 neither a compiler nor the net. The wheel of the same files is the same byte for byte.
 
-    python3 packaging/make_wheel.py libldvbi.so.2 dist        (`make wheel` does so)
+    python3 packaging/make_wheel.py libldvbi.so.3 dist        (`make wheel` does so)
 
 The library is of this machine. Its wheel has the tag `manylinux`, for all distributions of Linux with a C library of a
 certain age, where the rule of auditwheel holds, by what readelf says of the library: it needs no library but those that

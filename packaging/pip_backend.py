@@ -5,7 +5,7 @@ import sys
 from make_wheel import TOP, make_wheel
 
 # The library as `make rust` leaves it, else as it is proved
-LIBRARIES = ("rust/libldvbi.so.2", "libldvbi.so.2")
+LIBRARIES = ("rust/libldvbi.so.3", "libldvbi.so.3")
 
 
 def build_wheel(folder, settings=None, metadata=None):

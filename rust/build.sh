@@ -1,6 +1,6 @@
 #!/bin/sh
 # Writes the crate rust/crate from crates/ and from what is written by hand, and builds program and library by cargo:
-# rust/ldvbi, rust/libldvbi.a, rust/libldvbi.so.2 and rust/libldvbi.so; for another machine, as
+# rust/ldvbi, rust/libldvbi.a, rust/libldvbi.so.3 and rust/libldvbi.so; for another machine, as
 # x86_64-pc-windows-gnu or aarch64-unknown-linux-gnu, they go to rust/TARGET. Needs python3 and cargo, from 1.64 on. The
 # crates that it depends on come from Debian's packages where these are installed (tests/tools.sh names them), and else
 # from the registry that cargo asks. CARGO and RUSTC name other commands, DEBIAN_BIN the folder of Debian's.
@@ -63,7 +63,7 @@ fi
 # The name by which Linux' loader knows the shared library, as that of the proved one
 soname=
 case ${target:-$(uname -s)} in
-    *inux*) soname='-C link-arg=-Wl,-soname,libldvbi.so.2' ;;
+    *inux*) soname='-C link-arg=-Wl,-soname,libldvbi.so.3' ;;
 esac
 # The program; then the libraries for C, each on its own, so that it holds no more than it needs. Who depends on the
 # crate builds neither of these.
@@ -83,6 +83,6 @@ done
 # Rust strips what it links, and an archive isn't linked.
 [ "$target" ] || strip -g "$to/libldvbi.a" 2> /dev/null || :
 if [ -e "$built/libldvbi.so" ]; then
-    cp -f "$built/libldvbi.so" "$to/libldvbi.so.2"
-    ln -sf libldvbi.so.2 "$to/libldvbi.so"
+    cp -f "$built/libldvbi.so" "$to/libldvbi.so.3"
+    ln -sf libldvbi.so.3 "$to/libldvbi.so"
 fi

@@ -14,12 +14,13 @@ import shutil
 import sys
 
 MODULES = {"vbi_words": "words", "vbi_line": "line", "vbi_field": "field", "vbi_meta": "meta", "vbi_cli": "cli",
-           "vbi_near": "near", "vbi_side": "side", "vbi_c": "c"}
+           "vbi_near": "near", "vbi_side": "side", "vbi_whole": "whole_side", "vbi_plan": "plan", "vbi_seek": "seek",
+           "vbi_c": "c"}
 # Those that need a feature of the crate
 ATTRIBUTES_OF = {"meta": '#[cfg(feature = "metadata")]\n', "cli": '#[cfg(feature = "cli")]\n'}
 # A comment, a text or a character, in which nothing is code
 APART = re.compile(r"""//[^\n]*|b?"(?:\\.|[^"\\])*"|b?'(?:\\[^'\n]+|[^'\\\n])'""", re.S)
-GHOST = re.compile(r"^[ \t]*(?:pub )?ghost ", re.M)
+GHOST = re.compile(r"^[ \t]*(?:pub(?:\(crate\))? )?ghost ", re.M)
 CLAUSE = re.compile(r"^[ \t]*(?:requires|ensures)\b\*?\s*\w*\s*(?=\{)", re.M)
 MODEL = re.compile(r"^impl(?:<[^>]*>)? Model for [^{]*(?=\{)", re.M)
 TACTIC = re.compile(r"^[ \t]*#!?(?=\[tactic\()", re.M)

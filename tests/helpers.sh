@@ -18,7 +18,7 @@ program=$(cd "$(dirname "$1")" && pwd)/$(basename "$1")
 script=$(basename "$0" .sh)
 # The folder of the library: beside the program, where it is there, else the top
 built=$(dirname "$program")
-[ -e "$built/libldvbi.so.2" ] || built=$top
+[ -e "$built/libldvbi.so.3" ] || built=$top
 seconds=${RUN_SECONDS:-300}
 judged=0
 failed=
@@ -127,10 +127,10 @@ stop() {
     exit 1
 }
 
-# leave_out COUNT: says that checks can't be made here, as those of a library that isn't built
+# leave_out COUNT: says that checks can't be made here, as those of a library that isn't built; they aren't missed
 leave_out() {
     echo "$script: $1 checks are left out" >&2
-    [ -z "${RAN:-}" ] || echo "left out $script" >> "$RAN"
+    [ -z "${RAN:-}" ] || yes "check $script: left out" | head -n "$1" >> "$RAN"
 }
 
 # ended STATUS OUT ERR: whether the last run ended with this status and wrote these two files, byte for byte

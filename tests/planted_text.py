@@ -2,8 +2,7 @@
 
 A comparison is turned or shifted by one, a number off by one or doubled; `&&` is `||`; a condition is true or false; a
 statement, a line of a recipe or of a text is left out; an argument or a member of a struct is swapped with its
-neighbour; a default or a text is changed. In documents and in the header's comments a number is off by one that
-nothing writes (texts/numbers_of.py, texts/write.py)."""
+neighbour; a default or a text is changed."""
 
 import collections
 import re
@@ -17,7 +16,6 @@ TESTS = r"^#\[cfg\(test\)\]\nmod .*"
 SHELL_STRING = STRING + r"|'[^']*'|\$\(\(.*?\)\)"
 NUMBER = re.compile(r"(?<![\w$])(?<!(?<!\.)\.)(?<!\$[{(])(?:0x[0-9A-Fa-f]+|\d+)"
                     r"(?=(?:[iu](?:8|16|32|64|size))?(?!\w|\.\d|[<>]))")
-PROSE = re.compile(r"(?<![\w.,#&-])(\d[\d,]*\d|\d)(?![\w]|[.,]\d)")
 TURNED = {"<": ("<=", ">="), "<=": ("<", ">"), ">": (">=", "<"), ">=": (">", "<"), "==": ("!=",), "!=": ("==",),
           "&&": ("||",), "||": ("&&",), "true": ("false",), "false": ("true",), "..": ("..=",), "..=": ("..",)}
 IN_SHELL = {"=": ("!=",), "!=": ("=",), "-eq": ("-ne",), "-ne": ("-eq",), "-lt": ("-le", "-ge"), "-le": ("-lt", "-gt"),
@@ -28,9 +26,6 @@ NO_COMMAND = re.compile(r"\s*(?:(?:if|then|else|elif|fi|do|done|case|esac|for|wh
 MEMBER = re.compile(r"^( +)(?:u?int(?:\d+_t)?|size_t|Ldvbi\w+) [\w, \[\]]+;", re.M)
 TYPES = {"uint8_t": "uint16_t", "uint16_t": "uint32_t", "uint32_t": "uint64_t", "uint64_t": "uint32_t",
          "size_t": "uint32_t"}
-WRITTEN = re.compile(r"^[^\w\n]+ from [\w./-]+: \w+\b.*?^[^\w\n]+ to here\b|<!--.*?-->(?:`?[\d,]+)?|\]\([^)]*\)",
-                     re.M | re.S)
-TOLD = re.compile(r'"(?:description|title|\$comment)": ("(?:\\.|[^"])*")')
 WORD = r" ([\w./$(){}%\"'-]+)"
 PLACED = re.compile(r"^[\t ]+@?(?:cd|cp|git|install|ln|mv|python3|rm|sed|sh|tar)\b.*" + 2 * WORD + "$", re.M)
 IN_ANY_ORDER = re.compile(r"\b(?:strcmp|calloc|(?:max|min)(?:<\w+>)?)$")  # arguments that are swapped without effect
@@ -51,7 +46,7 @@ LANGUAGES = {
     ".rs": Language("|".join((TESTS, BLOCK, LINE, STRING, LITERAL)),
                     r"\b(?:fn|struct|enum|const|static|macro_rules!) (\w+)|\bimpl(?:<.*?>)? (.*?) \{", IN_C.kinds),
     ".c": IN_C, ".cpp": IN_C, ".h": Language(IN_C.apart, r"\b(ldvbi_\w+)\(|(?:struct|enum) (\w+)|#define (\w+)",
-                                             IN_C.kinds + " members prose"),
+                                             IN_C.kinds + " members"),
     ".sh": IN_SH, ".bash": IN_SH, "_ldvbi": IN_SH, "_ldvbi-side": IN_SH,
     "Makefile": Language(STRING + r"|'[^'\n]*'|" + HASH,
                          r"^([\w.$()/%-]+)[^=\n]*:(?!=)|^([A-Z_]+) [?:]?=|^define (\w+)",
@@ -61,7 +56,7 @@ LANGUAGES = {
     ".in": Language(HASH, r"^(\w+)", "numbers lines"),
     ".words": Language("^$", "^$", "lines"), "copyright": Language("^$", r"^(\S+):", "lines"),
     "lintian-overrides": Language(HASH, "^$", "lines"),
-    ".1": Language(r'^\.\\"[^\n]*', r"^\.S[hs] (.*)", "macros prose"), ".md": Language("^$", r"^#+ (.*)", "prose"),
+    ".1": Language(r'^\.\\"[^\n]*', r"^\.S[hs] (.*)", "macros"),
 }
 
 
@@ -188,15 +183,6 @@ macros = ends(r"^\.(?!\\|S[hs]\b|D[dt]\b|Bl\b)\w\w (.*\w.*)")
 defaults = ends(r"^[A-Z]\w* [?:]?= (.*[^\\\s])$")
 
 
-def prose(text, spans):
-    written = [one.span() for one in WRITTEN.finditer(text)]
-    for begin, end in spans:
-        for one in PROSE.finditer(text, begin, end):
-            if not any(first <= one.start() < last for first, last in written):
-                number = int(one[1].replace(",", "")) + 1
-                yield one.start(), one.end(), format(number, ",") if "," in one[1] else str(number)
-
-
 def strings(text, spans):
     for begin, end in spans:
         if re.search(r"\w", text[begin:end]) and not re.search(r"#include $|\"(?:description|title|\$comment)\": $",
@@ -217,13 +203,8 @@ def plants_of(file):
     for kind in language.kinds.split():
         if kind == "strings":
             found += strings(text, [one for one in texts if "shell" in language.kinds or text[one[1] - 1] == '"'])
-        elif kind == "prose":
-            is_code = file.endswith(".h")
-            found += prose(text, [one for one in apart if one not in texts] if is_code else [(0, len(text))])
         else:
             found += globals()[kind](code, text)
-    if file.endswith(".json"):
-        found += prose(text, [one.span(1) for one in TOLD.finditer(text)])
     heads = [(one.start(), next(filter(None, one.groups()), "")) for one in re.finditer(language.part, code, re.M)]
     return named(file, text, sorted(set(found)), heads)
 

@@ -17,7 +17,7 @@ NO_PLANT = "no plant"
 NOBODY = 65534  # who runs all where root would: a plant may end processes, or remove files
 MOST_SAID = 4000  # bytes of what a command says that fails where nothing is planted
 LONGEST = 600  # seconds of a command, which is seen to hang then
-PATTERNS = ("Makefile", "README.md", "docs/*.md", "examples/*.*", "examples/rust/**/*.*", "include/*", "packaging/*",
+PATTERNS = ("Makefile", "examples/*.*", "examples/rust/**/*.*", "include/*", "packaging/*",
             "rust/hand/Cargo.toml", "rust/hand/build.rs", "rust/hand/src/*.rs", "share/*/*")
 
 # The crate is written once, and holds the library for C, too, so that it is built in one go.
@@ -25,12 +25,12 @@ CRATE = "{ [ -e rust/crate ] || CARGO=true sh rust/build.sh; } && "
 HAND = CRATE + r"""cp -r rust/hand/. rust/crate && mkdir -p built &&
 printf '\n[lib]\ncrate-type = ["lib", "cdylib"]\n' >> rust/crate/Cargo.toml &&
 (cd rust/crate && cargo test --quiet --no-run --features cli) &&
-cp rust/out/debug/ldvbi built && cp rust/out/debug/deps/libldvbi.so built/libldvbi.so.2"""
+cp rust/out/debug/ldvbi built && cp rust/out/debug/deps/libldvbi.so built/libldvbi.so.3"""
 PROJECT = CRATE + """rm -rf built && mkdir built && cp -r examples/rust built/project &&
 { [ ! -e rust/crate/.cargo ] || cp -r rust/crate/.cargo built/project; } && cd built/project && cargo check --quiet"""
 TESTS = "cd rust/crate && cargo test --quiet --features cli --tests"
 LIBRARY = """for part in refusals judged plans lines worn; do
-LDVBI_LIBRARY=built/libldvbi.so.2 PYTHONPATH=python:tests/unit python3 tests/library/$part.py || exit; done"""
+LDVBI_LIBRARY=built/libldvbi.so.3 PYTHONPATH=python:tests/unit python3 tests/library/$part.py || exit; done"""
 BITS = "mkdir -p built && sh tests/cli/bits_above.sh built"
 WRITTEN, NAMED = "python3 texts/write.py --check", "python3 tests/documents.py"
 PYTEST = "cd tests/unit && /usr/bin/python3 -m pytest -q -x "
@@ -63,8 +63,6 @@ ROWS = (
     ("examples/seek.", "", (script("library/fetched"), script("library/examples"), script("cli/docs"))),
     ("examples/", "case $FILE in *.c) cc -fsyntax-only -Iinclude $FILE ;; *.sh) sh -n $FILE ;; esac",
      (script("library/examples"), script("cli/docs"))),
-    ("docs/", "", (WRITTEN, NAMED, script("cli/measured"), script("cli/docs"))),
-    ("README.md", "", (WRITTEN, NAMED, script("cli/docs"))),
 )
 
 

@@ -2,7 +2,7 @@
 # Runs the scripts of this folder on the built program by `prove`, as many at a time as there are processors, and then
 # compares their checks with the list in git (ran.sh), or adds them to the file RAN where that is set. A script has
 # failed where a check did, where it didn't come to its end, or where it took SCRIPT_SECONDS (3600 where the environment
-# doesn't say). The status is 1 where one has, and 3 where checks are gone or new.
+# doesn't say). The status is 1 where one has, or where scripts or checks are gone.
 #
 # A script says in its line `# runs:` where it is run: everywhere, where a library is built (library) or the proved one
 # (proved), or by the whole gate alone (whole); with `rust` on the Rust program, too, or on that alone. `# fails where:`
@@ -45,8 +45,8 @@ shift
 library=
 proved=
 on=
-[ ! -e "$(dirname "$program")/libldvbi.so.2" ] || library=library
-[ ! -e "$top/libldvbi.so.2" ] || library=library proved=proved
+[ ! -e "$(dirname "$program")/libldvbi.so.3" ] || library=library
+[ ! -e "$top/libldvbi.so.3" ] || library=library proved=proved
 if [ "$(dirname "$program")" = "$top/rust" ] || [ "${1:-}" = --rust ]; then
     DIFFERENCES=$top/rust/differences.txt
     export DIFFERENCES
@@ -66,7 +66,7 @@ case ${1:-} in
     *) scripts=$(named "$@") ;;
 esac
 # What the list has of the scripts, where all are run
-whole="|^script [a-z_]*$on\$"
+whole="|script [a-z_]*$on"
 case ${1:-} in ?*) [ "$1" = --rust ] || whole= ;; esac
 
 work=$(mktemp -d)
@@ -82,14 +82,5 @@ done
     < /dev/null || exit 1
 [ -z "$outer" ] || exit 0
 
-# compared: the names of the scripts whose checks are compared: those that ran, and, where all on the proved program
-# did, those that the list alone has
-compared() {
-    sed -n 's/^script \([a-z_]*\).*/\1/p' "$RAN"
-    [ "$whole" ] && [ -z "$on" ] || return 0
-    alone=$(grep -rlx --include='*.sh' '# runs: rust' "$here" | xargs -n 1 basename -s .sh)
-    sed -n 's/^checks \([a-z_]*\): .*/\1/p' "$top/.ci/ran.txt" | grep -vxF "$alone"
-}
-sed -n 's/^left out //p' "$RAN" > "$work/left"
-names=$(compared | sort -u | grep -vxFf "$work/left" | paste -s -d '|')
-sh "$here/ran.sh" "^checks ($names): $whole" < "$RAN"
+names=$(sed -n 's/^script \([a-z_]*\).*/\1/p' "$RAN" | paste -s -d '|')
+sh "$here/ran.sh" "^(checks ($names)$whole)\$" < "$RAN"

@@ -16,7 +16,7 @@ for word; do
     [ "$word" != install ] || install=yes rust=yes
     [ "$word" != test ] || gate=yes rust=yes
 done
-[ ! -e "${0%/*}/../libldvbi.so.2" ] || gate=yes
+[ ! -e "${0%/*}/../libldvbi.so.3" ] || gate=yes
 
 missing=
 # A command, and after a colon the packages that have it, where these have another name

@@ -53,7 +53,7 @@ check 'each script fails where it says' [ ! -s err ]
 mkdir -p gate/tests gate/crates/words/must-fail gate/.ci stubs
 cp "$tests/gate.sh" "$tests/ran.sh" gate/tests
 echo 'words: std' > gate/crates.txt
-printf '%s\n' 'crate words' 'tests: 1' 'wrong bodies words: 1' 'wrong bodies: 1 refused' > list
+printf '%s\n' 'crate words' 'tests: 1' 'wrong bodies words: 1' 'wrong bodies: 1' > list
 stub stubs/rt << 'END'
 mkdir -p crates/ldvbi/out
 echo program > crates/ldvbi/out/ldvbi
@@ -73,12 +73,11 @@ printf 'words/wrong: %s by a goal: f\nwrong bodies: %s refused\n' "${REFUSED:-re
 exit "${WRONG:-0}"
 END
 stub gate/tests/scripts.sh << 'END'
-[ -z "${NEW:-}" ] || { echo 'checks one: 1' | sort - .ci/ran.txt > .ci/ran.new; exit 3; }
 case $* in *--rust) exit "${RUST_SCRIPTS:-0}" ;; *) exit "${SCRIPTS:-0}" ;; esac
 END
-# gate [FAULT]: runs it with this in the environment, and sees whether it passed
+# gate [FAULT]: runs it with this in the environment, or this ROW more in its list, and sees whether it passed
 gate() {
-    cp list gate/.ci/ran.txt
+    { cat list; case ${1:-} in ROW=*) echo "${1#ROW=}" ;; esac; } > gate/.ci/ran.txt
     status=0
     (cd gate && PATH=$work/stubs:$PATH && export PATH && bounded env "$@" sh tests/gate.sh) < empty > out 2> err ||
         status=$?
@@ -88,8 +87,28 @@ fails_with() {
     ! gate "$1" && [ "$status" = 1 ] && grep -q '^the gate: ' err
 }
 check 'the gate passes where nothing is wrong' gate
-for fault in RT=1 FAILED=1 CRATES=2 ENDED=failed MORE=yes MAKE=2 BUILT=another WRONG=1 REFUSED=not BODIES=2 TRIALS=1 \
-    SCRIPTS=1 NEW=1 RUST_SCRIPTS=1 MUTANTS=1; do
+check 'the gate passes where more is run than it has in its list' gate MORE=yes
+for fault in RT=1 FAILED=1 CRATES=2 ENDED=failed MAKE=2 BUILT=another WRONG=1 REFUSED=not BODIES=2 TRIALS=1 SCRIPTS=1 \
+    RUST_SCRIPTS=1 MUTANTS=1 'ROW=crate gone' 'ROW=tests: 2' 'ROW=wrong bodies words: 2' 'ROW=wrong bodies: 2'; do
     check "the gate fails with $fault" fails_with "$fault"
+done
+
+# One script with two checks, of which one is left out: no less may run than the list has
+mkdir -p few/tests few/.ci few/rust
+cp "$tests/scripts.sh" "$tests/ran.sh" "$tests/helpers.sh" few/tests
+touch few/rust/differences.txt
+stub few/rust/ldvbi :
+printf '%s\n' '# runs: rust' '. "${0%/*}/helpers.sh"' 'check one :' 'leave_out 1' finish > few/tests/one.sh
+# runs_all ROW: whether it ends well with this row in the list, too
+runs_all() {
+    printf '%s\n' 'checks one: 2' 'script one on the Rust program' "$1" > few/.ci/ran.txt
+    does env RAN= sh few/tests/scripts.sh few/rust/ldvbi --rust
+}
+for row in 'checks one: 1' 'script two' 'checks two: 1'; do
+    check "all scripts run, with $row in the list" runs_all "$row"
+done
+for row in 'checks one: 3' 'script two on the Rust program'; do
+    ! runs_all "$row"
+    check "a script or a check is gone, with $row in the list" [ "$status$(grep -c '^ran: ' err)" = 11 ]
 done
 finish

@@ -49,6 +49,7 @@ RELATIONS: Dict[Key, Tuple[Key, str]] = {
     ("vbi_line", "OneReading", "reading_of"): (("vbi_words", "Readings", "IsReading"), "one_reading"),
     ("vbi_field", "Shown", "near_of"): (("vbi_field", "Shown", "IsNearRow"), "one_near_row"),
     ("vbi_field", "Shown", "recovery_of"): (("vbi_near", "Recovery", "IsRecovered"), "one_recovered"),
+    ("vbi_seek", "FieldLines", "recovery_of"): (("vbi_near", "Recovery", "IsRecovered"), "one_recovered"),
     ("vbi_words", "Smooth", "smooth_of"): (("vbi_words", "Smooth", "IsSmooth"), "one_smooth"),
 }
 HEAD = re.compile(r"(?:abbrev pub|unfoldable pub|pub record|pub data|record|data|abbrev|unfoldable|pub) (\S+)(?= )")

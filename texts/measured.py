@@ -27,6 +27,6 @@ def cut(path: str, mark: str) -> str:
 
 
 # The tables by their marks, and who measured them
-TABLES = {"lines": "peers", "ntsc": "channel_after_ntsc", "pal": "channel_after_pal"}
+TABLES = {"lines": "peers", "ntsc": "channel_ntsc", "pal": "channel_pal"}
 PARTS = {PAGE: {mark: ("docs/measured/%s.txt" % name, functools.partial(cut, "docs/measured/%s.txt" % name, mark))
                 for mark, name in TABLES.items()}}

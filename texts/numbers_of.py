@@ -49,8 +49,8 @@ def sizes() -> Dict[str, int]:
 
 
 def refused() -> Dict[str, int]:
-    """How many wrong bodies there are, and how many of them the check may refuse by a name alone."""
-    count, = of_source(RAN, r"^wrong bodies: (\d+) refused, 0 not$")
+    """How many wrong bodies there are at least, and how many of them the check may refuse by a name alone."""
+    count, = of_source(RAN, r"^wrong bodies: (\d+)$")
     most, = of_source("tests/proofs/wrong_bodies.py", r"^MOST_LOST = (\d+)\b")
     return {"wrong_bodies": count, "refused.name": most}
 
@@ -69,6 +69,13 @@ def of_tests() -> Dict[str, int]:
     least, most = of_source(RATES, r"^WHOLE, JITTERED = \((\d+), [\d, ]+, (\d+)\), ")
     row, = of_source(READER, r"char row\[(\d+)\]")
     return {"rate.least": least, "rate.most": most, "map.row": row - 1}
+
+
+def of_sources() -> Dict[str, int]:
+    """What tests/sources.py lets a line, a file, a function, a folder and a subject have."""
+    names = "columns", "lines", "function", "files", "subject"
+    return dict(zip(names, of_source("tests/sources.py", "^%s = %s$" % (
+        ", ".join(names).upper(), ", ".join([r"(\d+)"] * len(names))))))
 
 
 def glitches(size: Dict[str, int]) -> Dict[str, int]:
@@ -92,41 +99,48 @@ def of_sides() -> Dict[str, int]:
     return {name + end: int(count) for name, *counts in names for end, count in zip(("", ".of"), counts) if count}
 
 
-SIDE, NEAR = "crates/vbi_side/specs/", "crates/vbi_near/specs/"
 # The margins of one line, of either of two and of both, each those of a code and of another word: columns, and a share
-SIX = "_margins = " + 6 * r"[^#]*?columns = (\d+); share = (\d+)"
-# Rules of the library: the names of their numbers, where they are defined, and how
+SIX = r"[^#]*?".join(6 * [r"columns = (\d+); share = (\d+)"])
+
+
+def margins(name: str) -> str:
+    return " ".join("%s.%d" % (name, one) for one in range(12))
+
+
+# Rules of the library: the names of their numbers, the definition that has them, wherever it stands, and how
 RULES = (
-    ("reach", SIDE + "Beliefs.antt", r"^reach = (\d+)$"),
-    ("field_most", SIDE + "Beliefs.antt", r"^field_most = (\d+)$"),
-    ("enough", SIDE + "Beliefs.antt", r"^enough = (\d+)$"),
-    ("vote_reach", SIDE + "Votes.antt", r"^vote_reach = (\d+)$"),
-    ("minutes", SIDE + "Lines.antt", r"nat_lt minutes (\d+) "),
-    ("looked_most", "crates/vbi_c/specs/Seeking.antt", r"^looked_most = (\d+)$"),
-    ("begun", SIDE + "Verdicts.antt", r"nat_lt (\d+) \(since_end"),
-    ("scratch", SIDE + "Blanks.antt", r"^scratch = (\d+)$"),
-    ("clear", SIDE + "Clocks.antt", r"^IsClear clock n = left_out clock \(n \+ (\d+)\)"),
-    ("second.ntsc", SIDE + "Lines.antt", r"^rate_of Ntsc = (\d+)$"),
-    ("second.pal", SIDE + "Lines.antt", r"^rate_of Pal = (\d+)$"),
-    ("starts.ntsc starts.pal", RATES, r"^NEARS = \(\(NTSC, (\d+), [^)]*\), \(PAL, (\d+),"),
-    ("close", NEAR + "Said.antt", r"^close_limit unit word = word.distance \+ (\d+) "),
-    ("agree", NEAR + "Said.antt", r"third\.distance \+ (\d+) \* unit"),
-    ("borne", NEAR + "Said.antt", r"^is_borne .*both.distance \+ (\d+) \* unit"),
-    ("stretched.least stretched.most", NEAR + "Stretched.antt", r"\((\d+) ≤ rate\) × \(rate ≤ (\d+)\)"),
-    *((" ".join("%s.%d" % (name, one) for one in range(12)), NEAR + "Margins.antt", "^" + name + SIX)
-      for name in ("levelled", "given")),
-    ("levelled.ends", NEAR + "Margins.antt", r"^levelled_margins = [^#]*?ends = (\d+)"),
-    ("given.ends", NEAR + "Margins.antt", r"^given_margins = [^#]*?ends = (\d+)"),
-    ("pile.known pile.else pile.share", NEAR + "Piled.antt", r"if known then (\d+) else (\d+); share = (\d+)"),
-    ("pile.other pile.other_share", NEAR + "Piled.antt", r"other = record \{ columns = (\d+); share = (\d+) "),
-    ("pile.ends", NEAR + "Piled.antt", r"ends = (\d+)"),
+    *((name, name, r"= (\d+)$") for name in ("reach", "field_most", "enough", "vote_reach", "part_most", "looked_most",
+                                             "scratch")),
+    ("minutes", "number_from", r"nat_lt minutes (\d+) "),
+    ("begun", "is_begin_unseen", r"nat_lt (\d+) \(since_end"),
+    ("clear", "IsClear", r"\(n \+ (\d+)\)"),
+    ("second.ntsc second.pal", "rate_of", r"Ntsc = (\d+)\n\w+ Pal = (\d+)$"),
+    ("close", "close_limit", r" \+ (\d+) \* unit"),
+    ("agree", "is_one", r" \+ (\d+) \* unit"),
+    ("borne", "is_borne", r" \+ (\d+) \* unit"),
+    ("stretched.least stretched.most", "IsStretchedPlace", r"\((\d+) ≤ rate\) × \(rate ≤ (\d+)\)"),
+    *((margins(name), name + "_margins", SIX) for name in ("levelled", "given")),
+    *((name + ".ends", name + "_margins", r"ends = (\d+)") for name in ("levelled", "given", "pile")),
+    ("pile.known pile.else pile.share", "pile_margins", r"if known then (\d+) else (\d+); share = (\d+)"),
+    ("pile.other pile.other_share", "pile_margins", r"other = record \{ columns = (\d+); share = (\d+) "),
 )
 
 
-def rules() -> Dict[str, int]:
-    numbers = {name: number for names, path, pattern in RULES
-               for name, number in zip(names.split(), of_source(path, pattern))}
-    return {**numbers, "reach.twice": 2 * numbers["reach"]}
+def rules() -> Dict[str, Any]:
+    """The numbers of these rules, and what follows from them."""
+    parts = [part for path in paths("crates/*/specs/*.antt") for part in read(path).split("\n\n")]
+    numbers: Dict[str, Any] = {}
+    for names, definition, pattern in RULES:
+        of_name = [part for part in parts if re.search(r"^(?:\w+ )*%s :" % definition, part, re.M)]
+        found = set(re.findall(pattern, "\n".join(of_name), re.M))
+        if len(of_name) != 1 or len(found) != 1:
+            raise SystemExit("write: the definitions %s have no one %s" % (definition, pattern))
+        one = found.pop()
+        numbers.update(zip(names.split(), map(int, [one] if isinstance(one, str) else one)))
+    starts = of_source(RATES, r"^NEARS = \(\(NTSC, (\d+), [^)]*\), \(PAL, (\d+),")
+    numbers.update(zip(("starts.ntsc", "starts.pal"), starts))
+    low, = re.findall(r"^samples_of \((\w+) ∷ \w+ ∷ bytes\) = \(\1 [+] 256 ", "\n".join(parts), re.M)
+    return {**numbers, "reach.twice": 2 * numbers["reach"], "byte.first": low}
 
 
 def systems() -> str:
@@ -170,7 +184,8 @@ def package() -> Dict[str, Any]:
 
 def all_numbers() -> Dict[str, Any]:
     size = sizes()
-    return {**size, **rules(), **limits(), **refused(), **glitches(size), **of_tests(), **of_sides(), **package()}
+    return {**size, **rules(), **limits(), **refused(), **glitches(size), **of_tests(), **of_sources(), **of_sides(),
+            **package()}
 
 
 def as_there(value: Any, there: str) -> str:

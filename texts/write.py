@@ -1,8 +1,8 @@
 #!/usr/bin/env python3
-"""Writes the texts that have their source elsewhere: the completions whole; in manual pages, documents, the header for
-C and two more files what stands between a comment `from SOURCE: PART` and `to here`; in a schema the list of kinds; the
-numbers of documents that stand after their name; and all others of documents, manual pages, schemas' descriptions and
-the header's comments (stated.txt). The sources are the commands and options, what was measured, the definitions, and
+"""Writes the texts that have their source elsewhere: the completions and the drawing of the house whole; in manual
+pages, documents, the header for C and two more files what stands between a comment `from SOURCE: PART` and `to here`;
+in a schema the list of kinds; the numbers of documents that stand after their name, and those of rules in some
+sentences (sentences.py). The sources are crates.txt, the commands and options, what was measured, the definitions, and
 the table of the classes of code words (classes.txt)."""
 
 import argparse
@@ -14,14 +14,18 @@ import sys
 import classes_parts
 import completions
 import documents
+import house
 import numbers_of
 import pages
 from program import TOP, ldvbi, ldvbi_side
-import stated
+import sentences
 
 # What stands between these two lines is written here; each is a comment of its file's language.
 PART = re.compile(r"^([^\w\n]+ from ([\w./-]+): (\w+)\b[^\n]*\n)(.*?)(^[^\w\n]+ to here\b)", re.M | re.S)
-HEADER = "include/ldvbi.h"
+
+
+def paths(pattern):
+    return sorted(numbers_of.paths(pattern))
 
 
 def read(path):
@@ -41,27 +45,32 @@ def with_parts(path, of_program=None):
     return PART.sub(lambda one: one[1] + parts[one[3]][1]() + one[5], text)
 
 
-def written():
-    """Yields each path with the text that it has to have."""
-    numbers, named = numbers_of.all_numbers(), set()
+def made(numbers):
+    """Yields each path with the text that its parts and marks give it."""
     for program in (ldvbi(), ldvbi_side()):
         yield "share/completions/%s.bash" % program.name, completions.bash(program)
         yield "share/completions/_%s" % program.name, completions.zsh(program)
         of_program = {name: (program.source, functools.partial(part, program))
                       for name, part in pages.PARTS[program.name].items()}
         path = "share/man/%s.1" % program.name
-        yield path, stated.with_numbers(path, with_parts(path, of_program), numbers)
-    for path in ("bench/plain.h", "python/ldvbi/classes.py"):
+        yield path, with_parts(path, of_program)
+    for path in [*paths("include/*.h"), "bench/plain.h", *paths("python/ldvbi/*.py")]:
         yield path, with_parts(path)
-    for path in sorted(numbers_of.paths("share/schema/*.json")):
-        text = classes_parts.with_kinds(read(path)) if path == classes_parts.SCHEMA else read(path)
-        yield path, stated.with_numbers(path, text, numbers)
-    yield HEADER, stated.with_numbers(HEADER, with_parts(HEADER), numbers)
-    for path in ["README.md", "CONTRIBUTING.md", *sorted(numbers_of.paths("docs/*.md"))]:
-        named |= {one[2] for one in numbers_of.MARK.finditer(read(path))}
-        yield path, stated.with_numbers(path, numbers_of.with_numbers(with_parts(path), numbers), numbers)
-    if not {*numbers_of.of_tests(), *numbers_of.package()} <= named:
-        raise SystemExit("write: no document has %s" % ({*numbers_of.of_tests(), *numbers_of.package()} - named))
+    yield house.PATH, house.picture()
+    for path in paths("share/schema/*.json"):
+        yield path, classes_parts.with_kinds(read(path)) if path == classes_parts.SCHEMA else read(path)
+    for path in ["README.md", "CONTRIBUTING.md", *paths("docs/*.md")]:
+        yield path, numbers_of.with_numbers(with_parts(path), numbers)
+
+
+def written():
+    """Yields each path with the text that it has to have."""
+    numbers, seen = numbers_of.all_numbers(), set()
+    for path, text in made(numbers):
+        seen |= {one[2] for one in numbers_of.MARK.finditer(text)}
+        yield path, sentences.with_numbers(text, numbers, seen)
+    if missing := {*numbers_of.of_tests(), *numbers_of.package(), *sentences.all_sentences()} - seen:
+        raise SystemExit("write: no text has %s" % sorted(missing))
 
 
 def main():

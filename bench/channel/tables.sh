@@ -1,7 +1,7 @@
 #!/bin/sh
 # Writes the tables of simulated lines of worn discs: of NTSC and of PAL what a library makes of them (measure.py), and
 # of lines without a word (without_words.py), as FILES_ntsc.txt, FILES_ntsc_none.txt, FILES_pal.txt, FILES_pal_none.txt.
-# LIBRARY is libldvbi.so.2, also an older one: beside.py compares the files of two of them, since each row has a seed of
+# LIBRARY is libldvbi.so.3, also an older one: beside.py compares the files of two of them, since each row has a seed of
 # its own. With the word `peers` in its place they are the tables of MAME's decoder and of the reader by edges, which
 # see the same lines. It needs Debian's python3-numpy and python3-scipy, for peers mame-tools and a C compiler as well.
 # With 200 fields a row and 20,000 lines of each kind without a word a library takes 20 minutes of one processor, peers

@@ -45,7 +45,7 @@ int main(int count, char **words)
     if (status == LDVBI_DONE)
         status = ldvbi_draw_line(LDVBI_NTSC, black, white, 0, rows + 2 * LINE_BYTES, LINE_BYTES);
     while (status == LDVBI_DONE && fread(rows + LINE_BYTES, 1, length, stdin) == length) {
-        status = ldvbi_recover_rows(LDVBI_NTSC, black, white, rows, sizeof rows, &readings);
+        status = ldvbi_recover_rows(LDVBI_NTSC, black, white, rows, sizeof rows, NULL, 0, &readings);
         if (status == LDVBI_DONE)
             print_field(&readings.lines[1], &readings.lines[2]);
     }

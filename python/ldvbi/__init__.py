@@ -22,7 +22,7 @@ right. Nothing is read then. `system` is a `System` or its name; `black` and `wh
 white16bIre of the capture's .tbc.json. The library gets them as they are, and refuses those that are wrong.
 
 The library is loaded when samples are first read. These places are tried in turn: the file that the environment
-variable LDVBI_LIBRARY names; libldvbi.so.2 in this package (a wheel has it there), in the folder of the package, in the
+variable LDVBI_LIBRARY names; libldvbi.so.3 in this package (a wheel has it there), in the folder of the package, in the
 one above that, or in lib/ of the folder to which `make install` installed both; what the system's loader finds.
 `classify` and `format_of` need no library. Nothing else is needed but CPython and its standard library.
 

@@ -11,7 +11,7 @@ from typing import Any, Dict, List, NamedTuple, Tuple
 
 from .classes import whole_number
 
-ABI = 2
+ABI = 3
 # statuses
 (BAD_SYSTEM, BAD_LEVELS, BAD_LENGTH, BAD_WORD, BAD_COUNTED, BAD_PACE, BAD_ERASED, BAD_LINE,
  BAD_KNOWN, BAD_CLOCK) = range(1, 11)
@@ -98,18 +98,14 @@ _LATER: Dict[str, Tuple[str, List[Any]]] = {
     "ldvbi_next_stop": ("seek stops", _SETUP + [_MEMORY] + [_SIZE] * 3 + [_MEMORY]),
     "ldvbi_judge_ends": ("judge whole sides", [_MEMORY, _SIZE] * 2),
     "ldvbi_find_both": ("judge whole sides", [_MEMORY, _SIZE]),
-    "ldvbi_judge_side": ("judge whole sides", [_NUMBER] * 5 + [_MEMORY, _SIZE] * 4 + [_MEMORY]),
-    "ldvbi_find_clock": ("find clocks", [_NUMBER] * 4 + [_MEMORY, _SIZE, _MEMORY]),
-    "ldvbi_judge_side_by_clock": ("judge sides by clocks",
-                                  [_NUMBER] * 5 + [_MEMORY] + [_MEMORY, _SIZE] * 4 + [_MEMORY]),
-    "ldvbi_set_aside": ("judge whole sides", [_NUMBER] * 4 + [_MEMORY] + [_MEMORY, _SIZE] * 3 + [_MEMORY]),
+    "ldvbi_judge_side": ("judge whole sides", [_MEMORY, _NUMBER] + [_MEMORY, _SIZE] * 4 + [_MEMORY]),
+    "ldvbi_find_clock": ("find clocks", [_MEMORY] + [_MEMORY, _SIZE, _MEMORY]),
+    "ldvbi_set_aside": ("judge whole sides", [_MEMORY] + [_MEMORY, _SIZE] * 3 + [_MEMORY]),
     "ldvbi_check_plan": ("check plans", [_NUMBER, _SIZE, _NUMBER, _MEMORY] + [_MEMORY, _SIZE] * 3 + [_MEMORY]),
     "ldvbi_nearest": ("find nearest words", _SETUP + [_MEMORY, _SIZE, _MEMORY]),
-    "ldvbi_recover_rows": ("recover words", _SETUP + [_MEMORY, _SIZE, _MEMORY]),
-    "ldvbi_recover_fields": ("recover words", _SETUP + [_MEMORY, _SIZE, _MEMORY, _SIZE]),
+    "ldvbi_recover_rows": ("recover words", _SETUP + [_MEMORY, _SIZE] * 2 + [_MEMORY]),
+    "ldvbi_recover_fields": ("recover words", _SETUP + [_MEMORY, _SIZE] * 3),
     "ldvbi_recover_pile": ("recover words of piles", _SETUP + [_NUMBER] * 2 + [_MEMORY, _SIZE] * 2 + [_MEMORY]),
-    "ldvbi_recover_rows_without": ("leave out columns", _SETUP + [_MEMORY, _SIZE] * 2 + [_MEMORY]),
-    "ldvbi_recover_fields_without": ("leave out columns", _SETUP + [_MEMORY, _SIZE] * 3),
     "ldvbi_recovered_record": ("write the document with recovered words",
                                _SETUP + [_NUMBER] + [_MEMORY, _SIZE] * 2 + [_MEMORY]),
 }

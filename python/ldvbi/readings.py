@@ -111,14 +111,13 @@ def read_field(samples: Any, system: AnySystem, black: int, white: int, recover:
 
 
 def _recovering(name: str, dropouts: FieldDropouts, *more: int) -> Callable[..., int]:
-    """The call of the library with this name, or, if a field has dropouts, its sibling that leaves these out;
-    `more` comes after its other arguments."""
-    erased = dropouts_of_field(dropouts)
-    call = later_call(name + "_without" if erased else name)
+    """The call of the library with this name, which leaves out the dropouts of a field; `more` comes after its other
+    arguments."""
+    erased, call = dropouts_of_field(dropouts).packed(0, 1), later_call(name)
 
     def read(*words: Any) -> int:
         *samples, out = words
-        status: int = call(*samples, *(erased.packed(0, 1) if erased else ()), out, *more)
+        status: int = call(*samples, *erased, out, *more)
         return status
     return read
 

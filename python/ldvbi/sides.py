@@ -150,6 +150,8 @@ class JudgedSide(NamedTuple):
 _PACKED_GAP = struct.Struct("@NNQQIII0Q")  # LdvbiGap
 _PACKED_SIDE = struct.Struct("@N4QN7QNNNNNII")  # LdvbiSide, whose first members are LdvbiTally
 PACKED_CLOCK = struct.Struct("=III")  # LdvbiClock
+_PACKED_RULE = struct.Struct("=4I12s")  # LdvbiSideRule, whose last member is an LdvbiClock
+_PLAIN = bytes(PACKED_CLOCK.size)  # LDVBI_PLAIN
 MINUTE, TENTH_MINUTE = 1800, 18000  # pictures, as NTSC counts them
 _ROOM = 64  # gaps, at first: few sides have more
 _KINDS = dict(enumerate(GapKind, 1))
@@ -185,20 +187,19 @@ def judge_side(readings: Any, system: AnySystem, counted: Union[Counted, str] = 
     misread around the first number and around the last weigh less than 10, and the clock leaves out no number within 12
     of these two, then no field of the disc is lost from 24 fields after the first to 24 before the last. Some faults go
     unseen: ldvbi.h says which."""
-    call, packed = _judge_by(clock)
+    call, packed = later_call("ldvbi_judge_side"), _packed_clock(clock)
     fields = _fields_of(readings, system, counted, pace, both, completed)
     _pad(fields, padding)
-    if clock == "find":
-        packed = [_found_clock(fields)]
-    asked = [*fields.asked, fields.pace, fields.on_both, bool(may_end), *packed]
+    rule = _rule_of(fields, packed or _found_clock(fields))
     count, side, room, is_told = fields.length, ctypes.create_string_buffer(_PACKED_SIDE.size), _ROOM, False
     while not is_told:
         gaps = ctypes.create_string_buffer(_PACKED_GAP.size * room)
-        check(call(*asked, fields.seen, count, fields.numbers, count, fields.ends, count, gaps, room, side))
+        check(call(rule, bool(may_end), fields.seen, count, fields.numbers, count, fields.ends, count, gaps, room,
+                   side))
         told = _PACKED_SIDE.unpack(side)
         is_told, room = told[0] <= room, told[0]
-    judged = _side_of(told, _gaps_of(gaps, told[0]), fields, _clock_of(*packed))
-    return _without_aside(judged, fields, gaps, *packed)
+    judged = _side_of(told, _gaps_of(gaps, told[0]), fields, _clock_of(rule[-PACKED_CLOCK.size:]))
+    return _without_aside(judged, fields, gaps, rule)
 
 
 def find_clock(readings: Any, system: AnySystem, counted: Union[Counted, str] = Counted.times,
@@ -211,21 +212,25 @@ def find_clock(readings: Any, system: AnySystem, counted: Union[Counted, str] = 
     return _clock_of(_found_clock(_fields_of(readings, system, counted, pace, both)))
 
 
-def _judge_by(clock: Any) -> Tuple[Any, List[bytes]]:
-    """The call that judges by this clock, and what it gets of it; without one the call that older libraries have."""
-    if clock is None:
-        return later_call("ldvbi_judge_side"), []
-    call = later_call("ldvbi_judge_side_by_clock")
+def _packed_clock(clock: Any) -> Optional[bytes]:
+    """The clock as the library takes it, or None if it is to be found."""
     if clock == "find":
         later_call("ldvbi_find_clock")
-        return call, []
+        return None
+    if clock is None:
+        return _PLAIN
     if not isinstance(clock, tuple) or len(clock) != len(Clock._fields):
         raise ValueError("clock is no Clock, nor to be found")
     packed = PACKED_CLOCK.pack(*map(number_of, Clock._fields, clock))
-    nothing = [None, 0] * 4  # of no field the library tests the clock alone
-    check(call(System.NTSC, Counted.times, Pace.video, Both.on_one, 0, packed, *nothing,
-               ctypes.create_string_buffer(_PACKED_SIDE.size)))
-    return call, [packed]
+    nothing = [None, 0] * 4  # of no field the library tests the rule alone
+    rule = _PACKED_RULE.pack(System.NTSC, Counted.times, Pace.video, Both.on_one, packed)
+    check(later_call("ldvbi_judge_side")(rule, 0, *nothing, ctypes.create_string_buffer(_PACKED_SIDE.size)))
+    return packed
+
+
+def _rule_of(fields: _Fields, clock: bytes) -> bytes:
+    """The rule by which these fields are judged, as the library takes it."""
+    return _PACKED_RULE.pack(*fields.asked, fields.pace, fields.on_both, clock)
 
 
 def _fields_of(readings, system, counted, pace, both, completed=None):
@@ -260,23 +265,22 @@ def _pad(fields: _Fields, padding: Optional[Sequence[bool]]) -> None:
 def _found_clock(fields: _Fields) -> bytes:
     """The clock that the judged numbers tell, as the library wrote it."""
     found = ctypes.create_string_buffer(PACKED_CLOCK.size)
-    asked = *fields.asked, fields.pace, fields.on_both
-    check(later_call("ldvbi_find_clock")(*asked, fields.numbers, fields.length, found))
+    check(later_call("ldvbi_find_clock")(_rule_of(fields, _PLAIN), fields.numbers, fields.length, found))
     return bytes(found)
 
 
-def _clock_of(packed=bytes(PACKED_CLOCK.size)):
+def _clock_of(packed):
     kind, period, phase = PACKED_CLOCK.unpack(packed)
     return Clock(_CLOCKS.get(kind, kind), period, phase)
 
 
-def _without_aside(judged, fields, gaps, clock=bytes(PACKED_CLOCK.size)):
-    """The answer, without the numbers that are set aside, of these gaps as the library wrote them."""
+def _without_aside(judged, fields, gaps, rule):
+    """The answer, without the numbers that are set aside by this rule, of these gaps as the library wrote them."""
     if all(gap.kind != GapKind.replaced for gap in judged.gaps):
         return judged
     left, count = ctypes.create_string_buffer(PACKED_NUMBER.size * fields.length), ctypes.c_size_t()
-    check(later_call("ldvbi_set_aside")(*fields.asked, fields.pace, fields.on_both, clock, gaps, len(judged.gaps),
-                                        fields.numbers, fields.length, left, fields.length, ctypes.byref(count)))
+    check(later_call("ldvbi_set_aside")(rule, gaps, len(judged.gaps), fields.numbers, fields.length, left,
+                                        fields.length, ctypes.byref(count)))
     numbers = numbers_of(left)
     aside = (field for field, number in enumerate(numbers) if number != judged.numbers[field])
     return judged._replace(numbers=numbers, aside=tuple(aside)) if count.value else judged

@@ -53,8 +53,9 @@ class Stream(Fields):
         refuse_dropouts(recover, dropouts)
         self._lock, self._is_open, self._uses = threading.RLock(), True, 0
         self._setup = setup_of(system, black, white)
-        self._read = later_call("ldvbi_recover_fields") if recover else library().ldvbi_read_fields
-        self._setup.check(self._read(*self._setup, None, 0, None, 0))
+        self._recovers, read = recover, library().ldvbi_read_fields
+        self._read = later_call("ldvbi_recover_fields") if recover else read
+        self._setup.check(read(*self._setup, None, 0, None, 0))
         self.system, self.black, self.white = System(self._setup.system), self._setup.black, self._setup.white
         self.recover = recover
         self._line, self._size = line_bytes(self.system), field_bytes(self.system)
@@ -71,8 +72,6 @@ class Stream(Fields):
             self._bytes = self._samples.length
         self._count, self.cut_bytes = divmod(self._bytes, self._size)
         self.dropouts = Dropouts(dropouts, self._count)
-        if self.dropouts:
-            self._read = later_call("ldvbi_recover_fields_without")
 
     def close(self) -> None:
         with self._lock:
@@ -204,7 +203,7 @@ class Stream(Fields):
         """What the library reads of the fields from the first one on to before the last one, which stand there."""
         count = last - first
         out = ctypes.create_string_buffer(PACKED_FIELD.size * count)
-        erased = self.dropouts.packed(first, last) if self.dropouts else ()
+        erased = self.dropouts.packed(first, last) if self._recovers else ()
         self._setup.check(self._read(*self._setup, address, count * self._size, *erased, out, count))
         return out
 

@@ -1,7 +1,7 @@
 #!/bin/sh
 # Asks the examples in C, C++ and Python, and `ldvbi-side` for pictures, times, chapters and stops of drawn sides,
 # whether they are whole, and for their gaps. Each has to answer what the table answers.txt has (answers.py).
-# Needs libldvbi.so.2 beside the program, or at the top of the repository (`make lib`).
+# Needs libldvbi.so.3 beside the program, or at the top of the repository (`make lib`).
 # usage: sh tests/cli/answers.sh PROGRAM
 # runs: library rust
 # fails where: tests/cli/answers.txt|s/ = field 29;/ = field 27;/

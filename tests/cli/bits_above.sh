@@ -1,6 +1,6 @@
 #!/bin/sh
-# Compiles the three ways of `bits_above` with their tests into a folder, as x86-64, arm-64 and plain: that of 64-bit ARM
-# with functions that do what its five instructions do.
+# Compiles the three ways of `bits_above` with their tests into a folder, as x86-64, arm-64 and plain: that of 64-bit
+# ARM with functions that do what its five instructions do.
 # usage: sh tests/cli/bits_above.sh FOLDER
 set -eu
 

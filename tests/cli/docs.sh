@@ -18,7 +18,7 @@ ln -s "$top/python/ldvbi-side" bin/ldvbi-side
 PATH=$work/bin:$PATH
 PYTHONDONTWRITEBYTECODE=1 LDVBI_LIBRARY=
 export PATH PYTHONDONTWRITEBYTECODE LDVBI_LIBRARY
-library=$([ ! -e "$built/libldvbi.so.2" ] || echo libldvbi.so.2)
+library=$([ ! -e "$built/libldvbi.so.3" ] || echo libldvbi.so.3)
 
 # Cuts a document into files: commands into NAME.NUMBER.sh, .bash or .python, which it prints with their marks, and what
 # they print into NAME.NUMBER.text. What it says on standard error is a fault of the document.
@@ -101,13 +101,15 @@ cp -r "$top/docs" "$top/texts" "$top/include" copy
 while read -r name alterations; do
     sed -i "$alterations" "copy/$name"
 done << 'END'
-include/ldvbi.h s/at most eight by drop-frame/at most nine by drop-frame/
+include/ldvbi.h s/from 224 columns on NTSC/from 225 columns on NTSC/
 docs/ANSWER.md s/^- `cause`: as/- `why`: as/; s/, `confirmed`//
 docs/DECISIONS.md s/`outcome_of`/`outcome_for`/
 docs/FORMATS.md s/^- line 17: CLV mark$/- line 18: CLV mark/; s/`field width differs`/`field width differ`/
 docs/FORMATS.md s/else `hold` and that/else `held` and that/; s/#####[.]*######/#####....#####/; s/low byte/high byte/
 docs/MEASURED.md s/judged 1,795 right/judged 1,798 right/
-docs/PROMISES.md s/(#not-promised)/(#not-proved)/; s/`fetched`, `written`/`fetched`, `rewritten`/; s/`Said.antt`/`Saids.antt`/
+docs/PROMISES.md s/(#not-promised)/(#not-proved)/; s/`fetched`, `written`/`fetched`, `rewritten`/
+docs/PROMISES.md s/`WordRule.antt`/`WordRules.antt`/
+docs/pictures/house.svg s/vbi_near/vbi_far/
 END
 while read -r count said; do
     check "$said" in_folder "$top" python3 $said
@@ -115,7 +117,7 @@ while read -r count said; do
     check "$said sees other texts" [ "$status $(grep -vc 'looked at$' out)" = "1 $count" ]
 done << 'END'
 4 texts/write.py --check
-12 tests/documents.py
+11 tests/documents.py
 END
 
 for path in README docs/RECIPES docs/PYTHON; do

@@ -28,7 +28,7 @@ library=
 puts() {
     cp "$program" "tree/$1/ldvbi"
     [ ! "$library" ] ||
-        { cp "$built/libldvbi.a" "$built/libldvbi.so.2" "tree/$1" && ln -sf libldvbi.so.2 "tree/$1/libldvbi.so"; }
+        { cp "$built/libldvbi.a" "$built/libldvbi.so.3" "tree/$1" && ln -sf libldvbi.so.3 "tree/$1/libldvbi.so"; }
 }
 puts .
 
@@ -55,7 +55,7 @@ has() {
     (cd tree && git ls-files 'docs/*.md' 'docs/pictures/*.[ps]*g' examples | sed 's,^,share/doc/ldvbi/,' &&
         git ls-files 'python/*.py' | sed 's,^,share/ldvbi/,')
     [ ! "$library" ] || printf '%s\n' include/ldvbi.h lib/cmake/ldvbi/ldvbi-config-version.cmake \
-        lib/cmake/ldvbi/ldvbi-config.cmake lib/libldvbi.a lib/libldvbi.so lib/libldvbi.so.2 lib/pkgconfig/ldvbi.pc
+        lib/cmake/ldvbi/ldvbi-config.cmake lib/libldvbi.a lib/libldvbi.so lib/libldvbi.so.3 lib/pkgconfig/ldvbi.pc
 } > files
 # by_python PREFIX: these files, and what says to the system's Python where the module is
 by_python() {
@@ -84,7 +84,7 @@ installs() {
     check "$name: the program is copied as it is" cmp "$folder/bin/ldvbi" "$program"
     # All can read it, and run what is to be run.
     find "$folder" ! -type l -printf '%m %y %p\n' |
-        awk '$1 != ($2 == "d" || $3 ~ /\/bin\/ldvbi(-side)?$|\/libldvbi\.so\.2$/ ? 755 : 644)' > err
+        awk '$1 != ($2 == "d" || $3 ~ /\/bin\/ldvbi(-side)?$|\/libldvbi\.so\.3$/ ? 755 : 644)' > err
     check "$name: it is for all" [ ! -s err ]
     grep -r -e '<!--' "$folder/share/doc/ldvbi" > err
     check "$name: documents are without marks" [ ! -s err ]

@@ -12,7 +12,7 @@
 {
     printf '%s\n' '755 bin/ldvbi BUILT/ldvbi' '755 bin/ldvbi-side python/ldvbi-side' \
         '644 include/ldvbi.h include/ldvbi.h' '644 LIB/libldvbi.a BUILT/libldvbi.a' \
-        '755 LIB/libldvbi.so.2 BUILT/libldvbi.so.2'
+        '755 LIB/libldvbi.so.3 BUILT/libldvbi.so.3'
     for name in ldvbi ldvbi-side; do
         printf '644 share/%s share/%s\n' man/man1/$name.1 man/$name.1 \
             bash-completion/completions/$name completions/$name.bash zsh/site-functions/_$name completions/_$name
@@ -25,8 +25,8 @@
 } > places
 described='pkgconfig/ldvbi.pc cmake/ldvbi/ldvbi-config.cmake cmake/ldvbi/ldvbi-config-version.cmake'
 program_crates='vbi_words vbi_line vbi_near vbi_field vbi_meta vbi_cli ldvbi'
-library_crates='vbi_words vbi_line vbi_near vbi_field vbi_side vbi_c'
-libraries='libldvbi.a libldvbi.so libldvbi.so.2'
+library_crates='vbi_words vbi_line vbi_near vbi_field vbi_side vbi_whole vbi_plan vbi_seek vbi_c'
+libraries='libldvbi.a libldvbi.so libldvbi.so.3'
 version=$(sed -n 's/^## \([0-9.]*\) .*/\1/p' "$top/CHANGELOG.md" | head -n 1)
 umask 077
 # holding PATH..: makes these files in the tree
@@ -49,9 +49,9 @@ git -C source init -q
 git -C source add .
 GIT_AUTHOR_DATE='@1000000000 +0000' GIT_COMMITTER_DATE='@1000000000 +0000' \
     git -C source -c user.name=test -c user.email=test@localhost commit -qm source
-holding ldvbi $libraries rust/ldvbi rust/libldvbi.a rust/libldvbi.so.2 rust/crate/Cargo.toml \
+holding ldvbi $libraries rust/ldvbi rust/libldvbi.a rust/libldvbi.so.3 rust/crate/Cargo.toml \
     rust/crate/target/x rust/crate/.cargo/config.toml crates/vbi_near/out/d.rt
-ln -sf libldvbi.so.2 source/libldvbi.so
+ln -sf libldvbi.so.3 source/libldvbi.so
 
 # Commands without the toolchain, another machine, and tools for what is packed
 mkdir tools packers
@@ -92,9 +92,9 @@ placed() {
                 /..*) where='${CMAKE_CURRENT_LIST_DIR}/../..'$5 ;;
                 *) where=$5 ;;
             esac
-            echo "644 $3/$path $where $6 $version 2 ($private)"
+            echo "644 $3/$path $where $6 $version 3 ($private)"
         done
-        echo "$3/libldvbi.so libldvbi.so.2"
+        echo "$3/libldvbi.so libldvbi.so.3"
     } > wanted_rows
     grep -q LIB rows || sed -i '/ldvbi[.]pc\|[.]cmake\|libldvbi/d' wanted_rows
     [ -z "${7:-}" ] ||
@@ -120,7 +120,7 @@ while IFS='|' read -r gone rows words root prefix lib from up libdir sites; do
     check "make $words: what it says" [ "$status$(cat out err)" = "0$said" ]
     check "make $words: what is where" placed "$root" "$prefix" "$lib" "$from" "$up" "$libdir" "$sites"
     # Files of others, whose names begin as ours do
-    sed '/[.]so[.]2 /d; s,[.]so .*,.so.0,; s,^... ,,; s, .*,,' wanted_rows |
+    sed '/[.]so[.]3 /d; s,[.]so .*,.so.0,; s,^... ,,; s, .*,,' wanted_rows |
         sed '/[.]so/b; s,/ldvbi/.*,/ldvbi-other/file,; t; s,\([^/.]*\)\([^/]*\)$,\1-other\2,' | sort -u > others
     (cd "$root" && sed 's,[^/]*$,,' ../others | xargs mkdir -p && xargs touch < ../others)
     made source uninstall ${words#* }
@@ -132,7 +132,7 @@ done < installs
 # What is refused, and said without the toolchain; nothing is installed then
 commands=$work/tools
 touch source/crates.txt
-rm source/rust/libldvbi.so.2
+rm source/rust/libldvbi.so.3
 rust='make rust && make install FROM=rust'
 while IFS='|' read -r words target said more; do
     eval "made source DESTDIR=$work/stage $words"
@@ -146,14 +146,14 @@ install PREFIX="'/a b'"|places|PREFIX, LIBDIR and DESTDIR can't have a space
 install-lib LIBDIR="'/a b'"|places|PREFIX, LIBDIR and DESTDIR can't have a space
 uninstall DESTDIR="'/a b'"|places|PREFIX, LIBDIR and DESTDIR can't have a space
 install FROM=here|places|FROM is 'proved' or 'rust'
-wheel FROM=rust|rust/libldvbi.so.2|rust/libldvbi.so.2 isn't there: make rust builds it
+wheel FROM=rust|rust/libldvbi.so.3|rust/libldvbi.so.3 isn't there: make rust builds it
 |toolchain|the proved build needs the toolchain of Rattle, whose command rt is not on the PATH|without it: $rust
 test|toolchain|the proved build needs the toolchain of Rattle, whose command rt is not on the PATH|without it: $rust
 lib|toolchain|the proved build needs the toolchain of Rattle, whose command rt is not on the PATH|without it: $rust
 install|toolchain|the proved build needs the toolchain of Rattle, whose command rt is not on the PATH|without it: $rust
 END
 check 'nothing is installed then' [ ! -e stage ]
-holding rust/libldvbi.so.2
+holding rust/libldvbi.so.3
 touch -d @900000000 source/crates.txt
 
 # ---- What is packed: by commands that say what they are told
@@ -165,9 +165,9 @@ while IFS='|' read -r words said left; do
     judge "make $words" 0 wanted_text ''
     check "make $words: what it leaves" [ "$(cd source && find ${left%%/*} -type f | sort | xargs)" = "$left" ]
 done << END
-wheel|python3 packaging/make_wheel.py libldvbi.so.2 dist|dist/deb/old dist/ldvbi.whl
-wheel FROM=rust WHEELS=w|python3 packaging/make_wheel.py rust/libldvbi.so.2 w|w/ldvbi.whl
-venv|python3 -m venv .venv+python3 packaging/make_wheel.py libldvbi.so.2 .venv/wheel+\
+wheel|python3 packaging/make_wheel.py libldvbi.so.3 dist|dist/deb/old dist/ldvbi.whl
+wheel FROM=rust WHEELS=w|python3 packaging/make_wheel.py rust/libldvbi.so.3 w|w/ldvbi.whl
+venv|python3 -m venv .venv+python3 packaging/make_wheel.py libldvbi.so.3 .venv/wheel+\
 python3 install --quiet --disable-pip-version-check --no-index .venv/wheel/ldvbi.whl+\
 ldvbi-side is SOURCE/.venv/bin/ldvbi-side; after '. .venv/bin/activate' it is ldvbi-side alone|\
 .venv/bin/pip .venv/wheel/ldvbi.whl
@@ -196,14 +196,14 @@ crates/vbi_cli/src/a.rt||.tar.gz|
 rust/hand/a.rs|$libraries|-x86_64-linux.tar.gz .tar.gz|
 rust/b.py|ldvbi|.tar.gz|
 rust/c.sh|ldvbi|.tar.gz|
-crates.txt||-rust-mips-linux.tar.gz .crate .tar.gz .deb .whl|rust/libldvbi.so.2
-crates.txt|rust/libldvbi.so.2 rust/libldvbi.a|-rust-mips-linux.tar.gz .crate .tar.gz|
+crates.txt||-rust-mips-linux.tar.gz .crate .tar.gz .deb .whl|rust/libldvbi.so.3
+crates.txt|rust/libldvbi.so.3 rust/libldvbi.a|-rust-mips-linux.tar.gz .crate .tar.gz|
 crates.txt|rust/ldvbi|.tar.gz|
-||-rust-mips-linux.tar.gz -x86_64-linux.tar.gz .crate .tar.gz .deb .whl|libldvbi.so.2
+||-rust-mips-linux.tar.gz -x86_64-linux.tar.gz .crate .tar.gz .deb .whl|libldvbi.so.3
 END
 printf '%s\n' "strip --strip-unneeded dist/ldvbi-$version-x86_64-linux/bin/ldvbi" \
     "strip --strip-unneeded dist/ldvbi-$version-rust-mips-linux/bin/ldvbi" \
-    'python3 packaging/make_wheel.py libldvbi.so.2 dist' "deb proved dist/deb $version dist" > wanted_text
+    'python3 packaging/make_wheel.py libldvbi.so.3 dist' "deb proved dist/deb $version dist" > wanted_text
 judge 'make dist tells the commands that pack' 0 wanted_text ''
 cut -c 67- state/dist/SHA256SUMS > names
 check 'the checksums' sh -c 'cd state/dist && sha256sum -c --quiet SHA256SUMS && ls ldvbi* | cmp ../../names -'
@@ -257,14 +257,14 @@ done
 while IFS='|' read -r target rows; do
     rm -f proofs
     made source $target JOBS=3
-    echo "$rows" | tr ',' '\n' | sed 's/\(lib\|run\) /&--jobs /' > wanted_words
+    echo "$rows" | tr ',' '\n' | sed 's/ [1-9]/ lib --jobs&/; s/run lib/run/' > wanted_words
     sed 's/ .*/ proved, 5 s/' wanted_words > wanted_text
     judge "make $target says one line of a crate" 0 wanted_text ''
     check "make $target: what is proved" cmp wanted_words proofs
     check "make $target: what is copied" [ "$(cat source/$target)" = "of $(tail -n 1 proofs | cut -d ' ' -f 1)" ]
 done << 'END'
-ldvbi|vbi_words lib 3,vbi_line lib 3,vbi_near lib 3,vbi_field lib 3,vbi_meta lib 1,vbi_cli lib 3,ldvbi run 1 -- --help
-libldvbi.a|vbi_words lib 3,vbi_line lib 3,vbi_near lib 3,vbi_field lib 3,vbi_side lib 3,vbi_c lib 1
+ldvbi|vbi_words 3,vbi_line 3,vbi_near 3,vbi_field 3,vbi_meta 1,vbi_cli 3,ldvbi run 1 -- --help
+libldvbi.a|vbi_words 3,vbi_line 3,vbi_near 3,vbi_field 3,vbi_side 3,vbi_whole 3,vbi_plan 1,vbi_seek 3,vbi_c 1
 END
 { echo 'rt run --jobs 1 -- --help'; seq 99; } > wanted
 check 'the log has what the toolchain said' cmp source/crates/ldvbi/out/make.log wanted
@@ -301,21 +301,17 @@ while IFS='|' read -r body wanted_status said; do
     check "the library of an archive that needs $body" [ "$status $(grep -o "$said" err | sort -u | paste -s -d ,)" = \
         "$wanted_status" ]
 done << 'END'
-1|0 BIND_NOW,T ldvbi_one,soname: [libldvbi.so.2]|T .*\|soname: .*\|BIND_NOW\|[Uw] .*
+1|0 BIND_NOW,T ldvbi_one,soname: [libldvbi.so.3]|T .*\|soname: .*\|BIND_NOW\|[Uw] .*
 ldvbi_absent()|2 undefined reference|undefined reference
 END
 
 # `make clean` takes away what was built, and leaves the source.
-(cd source && mkdir -p dist/a .venv/a .ci rust/out/a rust/x86_64-pc-windows-gnu crates/vbi_c/out && touch .ci/ran.new)
+(cd source && mkdir -p dist/a .venv/a rust/out/a rust/x86_64-pc-windows-gnu crates/vbi_c/out)
 holding rust/libldvbi.dylib
 made source clean
 check 'make clean leaves the source' [ "$status$(git -C source status --porcelain)" = 0 ]
 
-# The list of what is run, and the words of make mutants
-holding .ci/ran.new
-made source ran
-check 'the list of what was run is taken' [ "$(echo source/.ci/*; cat source/.ci/ran.txt)" = 'source/.ci/ran.txt
-.ci/ran.new' ]
+# The words of make mutants
 holding tests/mutants.py
 echo 'import sys; print(*sys.argv)' > source/tests/mutants.py
 NPROC=3

@@ -270,13 +270,13 @@ def compare_lines(call):
         yield call("ldvbi_nearest", given, samples=worn)
         yield call("ldvbi_recover_pile", given, known=random.choice([0, 1, 1, 2]), samples=worn,
                    erased=erased[:random.choice([0, 16, 32])])
-        for name in ("ldvbi_recover_rows", "ldvbi_recover_rows_without", "ldvbi_recovered_record"):
+        for name in ("ldvbi_recover_rows", "ldvbi_recovered_record"):
             yield call(name, given, samples=random_rows(setup, 3), erased=random_erased(1),
                        number=random.randrange(2 ** random.randrange(33)))
     if random.random() < 0.05:
         field = field_of(setup.system, random_rows(setup, 3))
         yield call("ldvbi_read_field", given, samples=field)
-        for name in ("ldvbi_read_fields", "ldvbi_recover_fields", "ldvbi_recover_fields_without"):
+        for name in ("ldvbi_read_fields", "ldvbi_recover_fields"):
             yield call(name, given, samples=2 * field, erased=random_erased(2),
                        count=random.choice([1, 2, 2, 2, 3, 2 ** 40]))
 

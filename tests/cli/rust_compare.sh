@@ -28,7 +28,7 @@ done
 if [ "${COMPARE_RUNNER:-}" ]; then
     leave_out 1
 else
-    check 'the same of the library' compared library "$top/libldvbi.so.2" "$built/libldvbi.so.2" 2500
+    check 'the same of the library' compared library "$top/libldvbi.so.3" "$built/libldvbi.so.3" 2500
 fi
 
 # A difference is found: in the letters of help, in a status, in what is said, and in what a library writes
@@ -46,6 +46,6 @@ words 50 "$@" 2> said || { status=$?; sed 's/^ldvbi: /ldvbi, /' said >&2; exit $
 streams 2 "$@" > all; status=$?; sed 's/[0-9A-F]\(.\?\)$/~\1/' all; exit $status
 END
 echo 'unsigned ldvbi_classify(unsigned word, void *code) { return word >> 23 == 1 ? 0 : 4; }' |
-    "${CC:-cc}" -shared -fPIC -o other.so -x c - -x none -Wl,--no-as-needed,-rpath,"$top" "$top/libldvbi.so.2" || exit 1
-check 'library: a difference is found' different library "$top/libldvbi.so.2" "$work/other.so" 1
+    "${CC:-cc}" -shared -fPIC -o other.so -x c - -x none -Wl,--no-as-needed,-rpath,"$top" "$top/libldvbi.so.3" || exit 1
+check 'library: a difference is found' different library "$top/libldvbi.so.3" "$work/other.so" 1
 finish

@@ -85,12 +85,39 @@ the example in its documents|cargo test --doc --quiet
 its interface on drawn sides|cargo test --quiet --tests
 sides that it opens|cargo test --quiet --features metadata --test opened
 END
+# docs/RUST.md names the files with unsafe code. In all others the compiler denies it.
+check 'unsafe code stands in four files' [ "$(cd "$top/rust/hand/src" && grep -lw unsafe ./* | tr '\n' ' ')" = \
+    './bits_above.rs ./exports.rs ./opened.rs ./system.rs ' ]
 check 'a panic ends the process' sh -c "cargo rustc --quiet --release --lib -- --print cfg | grep -qx 'panic=\"abort\"'"
 # Who takes the library takes none of what the program alone needs.
 bounded cargo tree --quiet --edges normal --prefix none > "$work/out" 2> "$work/err"
 check 'the library needs no clap and no serde_json' \
     [ "$(grep -o '^\(byteorder\|clap\|serde_json\|arrayvec\|itoa\) v' "$work/out" | tr '\n' ' ')" \
     = 'arrayvec v byteorder v itoa v ' ]
+
+# Nothing of the source is unused by the program and the libraries, but for what users of its crates were promised: a
+# stream in pieces, a line by itself, and what lines, intakes and outlets have counted; and but for the stand of a line
+# that has no other beside it, which definitions name, and which the code tells by a function of its own.
+while read -r file names; do
+    for name in $names; do echo "src/$file $name"; done
+done << 'END' | sort > "$work/promised"
+field/feeder.rs copy_front copy_in take_bytes Feeder begin feed finish
+field/summary.rs Failed
+field/outlet.rs failures errors
+field/row_intake.rs fetched failures errors
+line/counted.rs failures errors
+line/intake.rs outcome clear_line passes fetched failures errors
+line/line.rs passes looks
+line/outcome.rs read_line
+near/word_rule.rs Alone
+END
+cp -r . "$work/judged"
+sed 's/allow(dead_code, /allow(/' src/lib.rs > "$work/judged/src/lib.rs"
+(cd "$work/judged" && bounded env RUSTFLAGS= cargo check --quiet --lib --features cli --message-format json) |
+    jq -r 'select(.reason == "compiler-message").message | select(.code.code == "dead_code").spans[]
+        | select(.is_primary) | "\(.file_name) \(.text[0] | .text[.highlight_start - 1:.highlight_end - 1])"' |
+    sort > "$work/unused"
+check 'nothing is unused but what is promised' cmp -s "$work/promised" "$work/unused"
 
 # The package, which has nothing of this machine, and builds by itself. As a repository others depend on it by git.
 sources=

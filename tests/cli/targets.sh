@@ -16,7 +16,7 @@ for script_path in tests/tools.sh tests/gate.sh tests/scripts.sh bench/all.sh be
     bench/peers/compare.sh rust/build.sh; do
     stub tree/$script_path "echo $script_path \"\$@\"; [ \"\${FAULT:-}\" != $script_path ]"
 done
-touch tree/libldvbi.a tree/libldvbi.so.2 tree/ldvbi
+touch tree/libldvbi.a tree/libldvbi.so.3 tree/ldvbi
 stub bin/rt 'echo rt'
 
 # ran FOLDER COMMAND..: runs a command there, with the stubs on the PATH
@@ -48,8 +48,8 @@ rust-compare|tests/scripts.sh rust/ldvbi rust_compare
 rust-compare TARGET=x-windows-y|tests/scripts.sh rust/x-windows-y/ldvbi.exe rust_compare
 bench|rust/build.sh,bench/all.sh ./ldvbi
 peers|bench/peers/compare.sh ./ldvbi 200 docs/measured/peers.txt
-channel|bench/channel/tables.sh ./libldvbi.so.2 docs/measured/channel
-channel PROGRAM=/a/ldvbi|bench/channel/tables.sh libldvbi.so.2 docs/measured/channel
+channel|bench/channel/tables.sh ./libldvbi.so.3 docs/measured/channel
+channel PROGRAM=/a/ldvbi|bench/channel/tables.sh libldvbi.so.3 docs/measured/channel
 END
 stub tree/tests/scripts.sh 'echo "$COMPARE_RUNS, $COMPARE_SEED, <$COMPARE_RUNNER>"'
 ran tree make -s rust-compare N=3 SEED=7 RUNNER='qemu -L /usr'
@@ -82,7 +82,7 @@ for pair in own:bin/cargo none:debian/cargo; do
 done
 check 'with its own compiler' grep -qx "$work/debian/cargo $work/debian/rustc" out
 check 'what is built for another machine' [ "$(cd other/rust/mips && echo *)" = \
-    'ldvbi ldvbi.dll ldvbi.exe libldvbi.a libldvbi.dll.a libldvbi.dylib libldvbi.so libldvbi.so.2' ]
+    'ldvbi ldvbi.dll ldvbi.exe libldvbi.a libldvbi.dll.a libldvbi.dylib libldvbi.so libldvbi.so.3' ]
 rm bin/python3
 
 # .ci/run runs a command at the top, which is README's
@@ -134,6 +134,7 @@ judge 'nothing is missing' 0 empty ''
 
 # What compares the program of another machine
 does make -s -n -C "$top" rust-compare N=3 SEED=4 RUNNER='wine -x' TARGET=x86_64-pc-windows-gnu
-check 'make rust-compare' [ "$(tr -d '\\\n' < out | tr -s ' ')" = 'COMPARE_RUNS=3 COMPARE_SEED=4 COMPARE_RUNNER="wine -x"'\
+check 'make rust-compare' [ "$(tr -d '\\\n' < out | tr -s ' ')" = \
+    'COMPARE_RUNS=3 COMPARE_SEED=4 COMPARE_RUNNER="wine -x"'\
 ' SCRIPT_SECONDS=86400 HARNESS_VERBOSE=1 sh tests/scripts.sh rust/x86_64-pc-windows-gnu/ldvbi.exe rust_compare' ]
 finish

@@ -26,11 +26,11 @@ int madvise(void *address, size_t length, int advice) {
 }
 
 uint32_t ldvbi_recover_rows(uint32_t system, uint32_t black, uint32_t white, const void *samples, size_t length,
-                            LdvbiFieldReadings *readings) {
+                            const LdvbiErased *erased, size_t erased_count, LdvbiFieldReadings *readings) {
     __typeof__(ldvbi_recover_rows) *next = dlsym(RTLD_NEXT, "ldvbi_recover_rows");
     FILE *file = fopen(getenv("ADVISED"), "a");
     fprintf(file, "%u %u ", black, white);
     fwrite(samples, 1, length, file);
     fclose(file);
-    return next(system, black, white, samples, length, readings);
+    return next(system, black, white, samples, length, erased, erased_count, readings);
 }

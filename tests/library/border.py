@@ -33,6 +33,7 @@ _MEMBERS = {
     "Reading": "BBHI cause pass column word", "FieldReadings": "BBHIBBHIBBHI lines",
     "Near": "IIQQQ word start distance rival longer", "Erased": "IIII field line first last",
     "Record": "I448s length text", "Code": "III kind first second", "Clock": "III kind period phase",
+    "SideRule": "IIIIIII system counted pace both clock",
     "Capture": "NN first fields", "Stretch": "NNNII field fields capture number padding", "Checked": "NI stretch rule",
     "Sighting": "II number weight", "Sightings": "IIIII line_17 line_18 instead", "Number": "II number state",
     "Place": "NN field looked", "Neighbour": "NII field number",

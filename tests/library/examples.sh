@@ -2,7 +2,7 @@
 # Runs the examples in C, C++ and Python on drawn sides, beside what the table answers.txt asks of them: sides that few
 # numbers are judged of, stops, gaps, cut fields, worn lines, long sides and want of memory; what they refuse; those in
 # Python where nobody reads what they print; and pixels.c on lines of 8 bits at 13.5 MHz, as no TBC file has them.
-# Needs libldvbi.so.2 beside the program, or at the top of the repository (`make lib`).
+# Needs libldvbi.so.3 beside the program, or at the top of the repository (`make lib`).
 # usage: sh tests/library/examples.sh PROGRAM
 # runs: library rust
 # fails where: examples/seek.py|s/wanted, 79999/wanted, 80000/
@@ -67,7 +67,8 @@ BEGIN {
         number = sprintf("F%05d", (field + 1) / 2)
         print "- " number " -" > "long.words"
         line = field == 29 || field == 38 || field == 125 ? "82CFFF " : "- "
-        print line (field ~ /^(21|23|27|53|77)$/ ? number " " number : field == 55 ? number " -" : "- -") > "sparse.words"
+        print line (field ~ /^(21|23|27|53|77)$/ ? number " " number : field == 55 ? number " -" : "- -") \
+            > "sparse.words"
         chapter = field ~ /^[1246]$/ ? "802DDD" : field ~ /^1[468]$/ ? "803DDD" : field ~ /^[67][02468]$/ ? "879DDD" : \
             field > 120 ? "80EEEE" : "-"
         print line (field % 2 && field > 1 && field < 120 ? number " -" : chapter " " chapter) > "reach.words"

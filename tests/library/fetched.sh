@@ -1,6 +1,6 @@
 #!/bin/sh
 # Runs the examples that search on a sparse side of 10 GB that is out of memory: each answer is that of the whole side's
-# judge, and 1 to 12 MB are fetched for it. Needs libldvbi.so.2 beside the program, or at the top of the repository
+# judge, and 1 to 12 MB are fetched for it. Needs libldvbi.so.3 beside the program, or at the top of the repository
 # (`make lib`), and 200 MB of disk in TMPDIR. The player in Rust is tried with the program of `make rust`.
 # usage: sh tests/library/fetched.sh PROGRAM
 # runs: library rust

@@ -3,7 +3,7 @@
 # tells the loader where the library is (no LD_LIBRARY_PATH). Then the wheel of the Python module, which brings the
 # library. Of what was proved also by the lines in LIBRARY.md, moved, and in other folders; the wheel without the net,
 # and its tag; and `pip install` of the source. What is installed where, tests/cli/packaging.sh tries.
-# Needs libldvbi.a and libldvbi.so.2 beside the program, or at the top of the repository (`make lib`), and of what was
+# Needs libldvbi.a and libldvbi.so.3 beside the program, or at the top of the repository (`make lib`), and of what was
 # proved Debian's python3-venv and python3-wheel.
 # usage: sh tests/library/installed.sh PROGRAM
 # runs: library rust
@@ -24,8 +24,8 @@ place=user
 from=proved
 [ "$built" = "$top" ] || place=user/rust from=rust
 cp "$program" $place/ldvbi
-cp "$built/libldvbi.a" "$built/libldvbi.so.2" $place
-ln -s libldvbi.so.2 $place/libldvbi.so
+cp "$built/libldvbi.a" "$built/libldvbi.so.3" $place
+ln -s libldvbi.so.3 $place/libldvbi.so
 # makes WORD..: `make` without the toolchain there
 makes() {
     does env PATH=/usr/bin:/bin make -s -C user FROM=$from "$@"
@@ -74,7 +74,7 @@ builds_on() {
     check "$1: CMake" cmake_builds "${3:-${2%/lib*}}"
 }
 check 'make install' makes install PREFIX="$work/usr"
-check 'the library that is installed' cmp usr/lib/libldvbi.so.2 "$built/libldvbi.so.2"
+check 'the library that is installed' cmp usr/lib/libldvbi.so.3 "$built/libldvbi.so.3"
 builds_on installed "$work/usr/lib"
 check 'the installed program' prints 0 "$(output_of --version)" usr/bin/ldvbi --version
 export PKG_CONFIG_PATH="$work/usr/lib/pkgconfig"
@@ -83,13 +83,13 @@ archive='-Wl,-Bstatic $(pkg-config --static --libs ldvbi) -Wl,-Bdynamic'
 check 'the archive, by pkg-config' says "$cc -o say_static say.c \$(pkg-config --cflags ldvbi) $archive; ./say_static"
 for one in built/say_ldvbi:1 built/say_static:0 say_static:0; do
     check "whether $one needs the shared library" \
-        [ "$(readelf -d ${one%:*} | grep -c 'libldvbi[.]so[.]2')" = ${one#*:} ]
+        [ "$(readelf -d ${one%:*} | grep -c 'libldvbi[.]so[.]3')" = ${one#*:} ]
 done
 unset PKG_CONFIG_PATH
 
 # The wheel: its name, whose tag has the C library of 2.17, or the latest that the library needs; and its files
 check 'make wheel' makes wheel WHEELS="$work/wheels"
-needed=$({ echo GLIBC_2.17; readelf -VW "$built/libldvbi.so.2" | grep -o 'GLIBC_2[.][0-9]*'; } | sort -uV | tail -n 1)
+needed=$({ echo GLIBC_2.17; readelf -VW "$built/libldvbi.so.3" | grep -o 'GLIBC_2[.][0-9]*'; } | sort -uV | tail -n 1)
 wheel=ldvbi-$version-py3-none-manylinux_$(echo ${needed#GLIBC_} | tr . _)_$processor.whl
 check 'its name has version and tag' [ "$(ls wheels)" = "$wheel" ]
 {
@@ -97,7 +97,7 @@ check 'its name has version and tag' [ "$(ls wheels)" = "$wheel" ]
     echo ldvbi-$version.data/data/share/man/man1/ldvbi-side.1
     printf "ldvbi-$version.dist-info/%s\n" LICENSE METADATA RECORD WHEEL entry_points.txt
 } | sed 's/^/100644 /' > files
-echo 100755 ldvbi/libldvbi.so.2 >> files
+echo 100755 ldvbi/libldvbi.so.3 >> files
 sort files > wanted
 does python3 -c '
 import sys, zipfile
@@ -106,7 +106,7 @@ with zipfile.ZipFile(sys.argv[1]) as wheel:
     wheel.extractall("wheel")' wheels/$wheel
 check 'it has these files, with these modes' cmp out wanted
 check 'its tag' grep -qx "Tag: $(echo ${wheel%.whl} | cut -d - -f 3-)" wheel/ldvbi-$version.dist-info/WHEEL
-check 'and the library' cmp wheel/ldvbi/libldvbi.so.2 "$built/libldvbi.so.2"
+check 'and the library' cmp wheel/ldvbi/libldvbi.so.3 "$built/libldvbi.so.3"
 if [ $from = rust ]; then
     leave_out 30
     finish
@@ -160,9 +160,9 @@ echo 'int pthread_create(void *, void *, void *, void *); int make(void) { retur
 bounded $cc -shared -fPIC -o libraries/libother.so nothing.c
 while IFS='|' read -r what tag options; do
     rm -rf tagged
-    bounded $cc -shared -fPIC -o libraries/libldvbi.so.2 $options
+    bounded $cc -shared -fPIC -o libraries/libldvbi.so.3 $options
     check "the tag of a library $what" prints 0 "tagged/ldvbi-$version-py3-none-${tag}_$processor.whl" \
-        python3 "$top/packaging/make_wheel.py" libraries/libldvbi.so.2 tagged
+        python3 "$top/packaging/make_wheel.py" libraries/libldvbi.so.3 tagged
 done << 'END'
 that needs a newer one|manylinux_2_34|new.c
 that needs another one|linux|-Wl,--no-as-needed nothing.c -Llibraries -lother
@@ -177,7 +177,7 @@ mkdir tree
 check 'a folder for the source' does /usr/bin/python3 -m venv source
 ! does source/bin/pip install -q --no-index "$work/tree"
 check 'without a library pip says what to do' grep -q 'make rust && make wheel$' err
-cp "$built/libldvbi.so.2" tree
+cp "$built/libldvbi.so.3" tree
 check 'pip installs the source' does source/bin/pip install -q --no-index "$work/tree"
 seeks 'its command reads a TBC file from the source' source/bin/ldvbi-side
 finish

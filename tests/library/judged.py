@@ -254,16 +254,22 @@ def clock_of(text):
     return CLOCK.pack(*named(kind), *map(int, numbers or (0, 0)))
 
 
-def answer_of_side(asked, fields, room, said=None, clock=b""):
-    """What is answered, by a clock if there is one, and the gaps that are written into room for so many, or for as many
+def rule_of(asked, clock):
+    """The rule with this clock, packed. What is asked is a system, what is counted, a pace, and on which fields."""
+    return struct.pack("4I", *asked) + clock
+
+
+def answer_of_side(asked, clock, fields, room, said=None):
+    """What is answered by a rule with this clock, and the gaps that are written into room for so many, or for as many
     as is said. Without fields, or without room, null stands for the array."""
     parts = [b"".join(part) for part in zip(*fields)] or [b""] * 3
     arrays = [(memory.put(part) if fields else None, len(fields)) for memory, part in zip(PARTS, parts)]
     gaps, side = GAPS.put(BEFORE[0] * GAP.size * room) if room else None, ANSWER.put(BEFORE[0] * SIDE.size)
-    judge, kept = ("judge_side_by_clock", [KEPT.put(clock)]) if clock else ("judge_side", [])
-    status = call(judge)(*asked, *kept, *(word for array in arrays for word in array), gaps, said or room, side)
+    rule = rule_of(asked[:4], clock)
+    status = call("judge_side")(KEPT.put(rule), asked[4], *(word for array in arrays for word in array), gaps,
+                                said or room, side)
     expect(status == 0, asked, "refused", status)
-    expect(KEPT.get(len(clock)) == clock, asked, "changes the clock")
+    expect(KEPT.get(len(rule)) == rule, asked, "changes the rule")
     expect([memory.get(len(part)) for memory, part in zip(PARTS, parts)] == parts, "has changed")
     side = SIDE.unpack(ANSWER.get(SIDE.size))
     written, written_bytes = GAPS.get(GAP.size * room), GAP.size * min(room, side[0])
@@ -273,21 +279,21 @@ def answer_of_side(asked, fields, room, said=None, clock=b""):
 
 def test_side(setting, text, gaps, wanted):
     """With room for none of its gaps, for some, for all, and for one more. A number in a setting stands for itself. Of
-    a state that no call answers nothing is believed, and nothing is in doubt. By no clock it is the same as without."""
+    a state that no call answers nothing is believed, and nothing is in doubt. No clock has any period and phase."""
     *words, clock = setting.split(":") if setting.count(":") == 5 else [*setting.split(":"), "plain/7/9"]
     asked = [int(word) if word.isdigit() else named(word)[0] for word in words]
-    calls = [{"clock": clock_of(clock)}, {}][:1 + clock.startswith("plain")]
+    clocks = [clock_of(clock), bytes(CLOCK.size)][:1 + clock.startswith("plain")]
     fields, gaps = spread(text, judged_field, NO_FIELD), [gap_of(gap) for gap in gaps.split(",") if gap]
     wanted = side_found(wanted, gaps)
     for state in (5, 257, 258, 65537, 65538, 0x80000001, 2 ** 32 - 1):
         odd = spread(text, judged_field, (NO_FIELD[0], NUMBER.pack(700, state), STATE.pack(state)))
-        for by in calls:
-            expect(answer_of_side(asked, odd, 0, **by) == (wanted, []), setting, text, "with the state", state)
-    for room, by in ((room, by) for room in range(len(gaps) + 2) for by in calls):
-        found = answer_of_side(asked, fields, room, **by)
+        for by in clocks:
+            expect(answer_of_side(asked, by, odd, 0) == (wanted, []), setting, text, "with the state", state)
+    for room, by in ((room, by) for room in range(len(gaps) + 2) for by in clocks):
+        found = answer_of_side(asked, by, fields, room)
         expect(found == (wanted, gaps[:room]), setting, text, room, *found)
-    for said, by in ((said, by) for said in (2 ** 64 - 1, 2 ** 63, 2 ** 60) for by in calls if gaps):
-        found = answer_of_side(asked, fields, len(gaps), said, **by)
+    for said, by in ((said, by) for said in (2 ** 64 - 1, 2 ** 63, 2 ** 60) for by in clocks if gaps):
+        found = answer_of_side(asked, by, fields, len(gaps), said)
         expect(found == (wanted, gaps), setting, text, "room for", said)
 
 
@@ -297,11 +303,12 @@ def test_aside(setting, text, gaps, wanted=""):
     *words, clock = setting.split(":")
     fields, gaps = spread(text, judged_field, NO_FIELD), [GAP.pack(*gap_of(gap)) for gap in gaps.split(",")]
     numbers, size = b"".join(field[1] for field in fields), NUMBER.size * len(fields)
+    rule = rule_of(named(*words), clock_of(clock))
     for count in range(len(gaps) + 1):
         told, aside = b"".join(gaps[:count]), [*map(int, wanted.split())] * (count >= 2)
-        left, found, by = FOUND.put(b"\xAA" * size), ANSWER.put(8 * b"\xAA"), KEPT.put(clock_of(clock))
-        status = call("set_aside")(*named(*words), by, GAPS.put(told) if told else None, count, PARTS[1].put(numbers),
-                                   len(fields), left, len(fields), found)
+        left, found, by = FOUND.put(b"\xAA" * size), ANSWER.put(8 * b"\xAA"), KEPT.put(rule)
+        status = call("set_aside")(by, GAPS.put(told) if told else None, count, PARTS[1].put(numbers), len(fields),
+                                   left, len(fields), found)
         made = [(number, DOUBTFUL if field in aside else state)
                 for field, (number, state) in enumerate(NUMBER.iter_unpack(numbers))]
         written = [*NUMBER.iter_unpack(FOUND.get(size))]
@@ -311,11 +318,13 @@ def test_aside(setting, text, gaps, wanted=""):
 
 
 def test_clock(setting, text, wanted):
-    """The clock of believed numbers, whatever stands there before the call. The numbers stay as they are."""
+    """The clock of believed numbers, whatever stands there before the call, or as the rule's clock. The numbers stay as
+    they are."""
     asked, numbers = named(*setting.split(":")), b"".join(field[1] for field in spread(text, judged_field, NO_FIELD))
     for before in BEFORE:
         at = KEPT.put(before * CLOCK.size)
-        status = call("find_clock")(*asked, PARTS[1].put(numbers), len(numbers) // NUMBER.size, at)
+        rule = GAPS.put(rule_of(asked, before * CLOCK.size))
+        status = call("find_clock")(rule, PARTS[1].put(numbers), len(numbers) // NUMBER.size, at)
         found = KEPT.get(CLOCK.size)
         expect((status, found) == (0, clock_of(wanted)), setting, text, status, CLOCK.unpack(found))
         expect(PARTS[1].get(len(numbers)) == numbers, setting, text, "has changed")

@@ -2,7 +2,7 @@
 # What the library needs and gives. What includes ldvbi.h: by each standard, twice, in two parts of a program, which
 # prints its texts; the quick start at its head; and what the compiler has to warn of. Then tests over the border, from
 # Python, in memory after which no page follows.
-# Needs libldvbi.a and libldvbi.so.2 beside the program, or at the top of the repository (`make lib`).
+# Needs libldvbi.a and libldvbi.so.3 beside the program, or at the top of the repository (`make lib`).
 # usage: sh tests/library/library.sh PROGRAM
 # runs: library rust
 # fails where: include/ldvbi.h|s/LDVBI_PAL = 2/LDVBI_PAL = 3/
@@ -12,16 +12,16 @@
 
 with_python
 
-more=$(nm -D --undefined-only "$built/libldvbi.so.2" | sed 's/^ *U //; s/@.*//' | grep -vx 'memcpy\|memmove\|memset')
+more=$(nm -D --undefined-only "$built/libldvbi.so.3" | sed 's/^ *U //; s/@.*//' | grep -vx 'memcpy\|memmove\|memset')
 check 'the library needs memcpy, memmove and memset at most' [ -z "$more" ]
 more=$(nm -u "$built/libldvbi.a" 2> err | sed -n 's/^ *U //p' | grep -vx 'memcpy\|memmove\|memset')
 check 'the archive needs memcpy, memmove and memset at most' [ -z "$more" ]
-nm -D --defined-only "$built/libldvbi.so.2" | sed 's/.* //' | sort > all
+nm -D --defined-only "$built/libldvbi.so.3" | sed 's/.* //' | sort > all
 grep -vx ldvbi_plain_rust all > exported
 sed -n 's/^\(LDVBI_[A-Z0-9()]* \)*[a-z0-9_]* \(ldvbi_[a-z_]*\)(.*/\2/p' "$top/include/ldvbi.h" | sort > declared
 check 'the library gives what the header declares, and nothing else' cmp -s exported declared
 check 'the library does not say that it is plain Rust' cmp -s all exported
-readelf -dSW "$built/libldvbi.so.2" > sections
+readelf -dSW "$built/libldvbi.so.3" > sections
 abi=$(sed -n 's/^#define LDVBI_ABI //p' "$top/include/ldvbi.h")
 check 'the name of the library has the number of its interface' grep -q "SONAME.*\[libldvbi.so.$abi\]" sections
 check 'the interface of the header is that of make' grep -qx "ABI := $abi" "$top/Makefile"

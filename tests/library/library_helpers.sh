@@ -20,7 +20,7 @@ prints() {
 
 # with_python: has Python find the package, and the library that is tested
 with_python() {
-    export LDVBI_LIBRARY="$built/libldvbi.so.2" PYTHONPATH="$top/python" PYTHONDONTWRITEBYTECODE=1
+    export LDVBI_LIBRARY="$built/libldvbi.so.3" PYTHONPATH="$top/python" PYTHONDONTWRITEBYTECODE=1
 }
 
 # answers_so NAME STATUS OUT SAID COMMAND: whether a line for the shell ends with this status, and writes these lines,

@@ -169,7 +169,8 @@ def word_of(field, row):
 
 def are_read(tv, name, address, length, places, *count):
     """The call answers with the words that these rows of fields show."""
-    packed = answered(name, tv[:3], (address, length), READING.size * len(places), *count)
+    erased = [] if "recover" in name else None
+    packed = answered(name, tv[:3], (address, length), READING.size * len(places), *count, erased=erased)
     wanted = [(0, 1, 0, word) if word else (BLANK, 0, 0, 0) for word in (word_of(*place) for place in places)]
     expect([*READING.iter_unpack(packed)] == wanted, name, tv.system, places, packed)
 

@@ -1,7 +1,7 @@
 #!/bin/sh
 # What the wheel of the Python module and the package of Debian's say of themselves, byte for byte, and what each is
 # made of: what pip and dpkg read of it. Which files they have packaging.sh says, and installed.sh installs the wheel.
-# Needs libldvbi.a and libldvbi.so.2 beside the program, or at the top of the repository (`make lib`).
+# Needs libldvbi.a and libldvbi.so.3 beside the program, or at the top of the repository (`make lib`).
 # usage: sh tests/library/packed.sh PROGRAM
 # runs: library rust
 # fails where: packaging/make_deb.sh|s/^Section: video/Section: sound/
@@ -17,10 +17,10 @@ make_wheel="$top/packaging/make_wheel.py"
 
 # ---- The wheel
 
-does python3 "$make_wheel" "$built/libldvbi.so.2" one
+does python3 "$make_wheel" "$built/libldvbi.so.3" one
 check 'the path of the wheel is printed' [ "$(cat out)" = "$(echo one/ldvbi-$version-py3-none-*_$processor.whl)" ]
 tag=$(basename one/*.whl .whl | cut -d - -f 3-)
-check 'it is the same each time' cmp "$(cat out)" "$(python3 "$make_wheel" "$built/libldvbi.so.2" two)"
+check 'it is the same each time' cmp "$(cat out)" "$(python3 "$make_wheel" "$built/libldvbi.so.3" two)"
 (mkdir wheel && cd wheel && bounded python3 -m zipfile -e ../one/*.whl .)
 about=wheel/ldvbi-$version.dist-info
 cat > wanted << END
@@ -56,7 +56,7 @@ ldvbi-$version.dist-info/LICENSE LICENSE
 ldvbi-$version.data/data/share/man/man1/ldvbi-side.1 share/man/ldvbi-side.1
 END
 cp -r wheel/ldvbi wheel/ldvbi_side "$work"
-rm ldvbi/libldvbi.so.2
+rm ldvbi/libldvbi.so.3
 (cd "$top/python" && find ldvbi ldvbi_side -name '*.py' | sort | xargs cat) > sources
 find ldvbi ldvbi_side -type f | sort | xargs cat > found
 check 'its modules are those of the source' cmp sources found
@@ -89,7 +89,7 @@ while IFS='|' read -r tag needed versions isa; do
     for one in $versions; do SAID="$SAID 0x0010: Name: $one  Flags: none  Version: 2\n"; done
     export SAID="$SAID${isa:+      Properties: x86 ISA needed: $isa\n}"
     check "the tag is $tag: $needed $versions $isa" prints 0 "py3-none-${tag}_$processor" \
-        env PATH="$work/bin:$PATH" python3 tag.py "${make_wheel%/*}" "$built/libldvbi.so.2"
+        env PATH="$work/bin:$PATH" python3 tag.py "${make_wheel%/*}" "$built/libldvbi.so.3"
 done << 'END'
 manylinux_2_17|||
 manylinux_2_17|libc.so.6 libm.so.6 librt.so.1 libdl.so.2 libpthread.so.0 libgcc_s.so.1 ld-linux-x86-64.so.2|GLIBC_2.2.5|
@@ -104,16 +104,16 @@ linux|libc.so.6|GLIBC_2.17 CXXABI_1.3|
 linux|||x86-64-v2
 linux|||x86-64-baseline, x86-64-v9
 END
-! does env _PYTHON_HOST_PLATFORM=win-amd64 python3 "$make_wheel" "$built/libldvbi.so.2" tagged
+! does env _PYTHON_HOST_PLATFORM=win-amd64 python3 "$make_wheel" "$built/libldvbi.so.3" tagged
 check 'a wheel is of Linux alone' [ "$(cat err)" = 'make_wheel: a wheel is made on Linux, and this is win' ]
 stub bin/readelf 'exit 3'
-! does env PATH="$work/bin:$PATH" python3 "$make_wheel" "$built/libldvbi.so.2" tagged
+! does env PATH="$work/bin:$PATH" python3 "$make_wheel" "$built/libldvbi.so.3" tagged
 check 'what readelf has failed at' [ "$status$(cut -c 1-19 err)" = '1make_wheel: Command' ]
 
 mkdir alone
 ln -s "$(python3 -c 'import sys; print(sys.executable)')" alone/python3
 check 'without readelf nothing is known of a library' prints 0 "tagged/ldvbi-$version-py3-none-linux_$processor.whl" \
-    env PATH="$work/alone" python3 "$make_wheel" "$built/libldvbi.so.2" tagged
+    env PATH="$work/alone" python3 "$make_wheel" "$built/libldvbi.so.3" tagged
 
 # What pip calls: of two libraries that of `make rust`
 mkdir -p source/rust
@@ -128,12 +128,12 @@ print(pip_backend.build_wheel("by_pip"))' "$work/source"
 printf '%s\n' "ldvbi: the library isn't built; in $work/source:" '    make rust && make wheel' \
     '    pip install dist/*.whl' > wanted
 check 'without a library two lines say how to get one' cmp wanted err
-cp "$built/libldvbi.so.2" source
+cp "$built/libldvbi.so.3" source
 asks_pip
 check 'the name of the wheel' [ "$status $(cat out)" = "0 $(basename one/*.whl)" ]
 check 'the library is that of the source' cmp one/*.whl by_pip/*.whl
-mv source/libldvbi.so.2 source/rust
-echo none > source/libldvbi.so.2
+mv source/libldvbi.so.3 source/rust
+echo none > source/libldvbi.so.3
 asks_pip
 check 'the library of make rust is taken first' cmp one/*.whl by_pip/*.whl
 
@@ -144,14 +144,14 @@ architecture=$(dpkg --print-architecture)
 folder() {
     mkdir -p "$1/usr/bin" "$1/usr/lib/multiarch" "$1/usr/share/man/man1" "$1/usr/share/doc/ldvbi"
     cp "$program" "$1/usr/bin/ldvbi"
-    cp "$built/libldvbi.so.2" "${2:-$built/libldvbi.a}" "$1/usr/lib/multiarch"
+    cp "$built/libldvbi.so.3" "${2:-$built/libldvbi.a}" "$1/usr/lib/multiarch"
     cp "$top"/share/man/*.1 "$1/usr/share/man/man1"
     cp "$top/LICENSE" "$1/usr/share/doc/ldvbi"
     chmod -R go+rX,go-w "$1"
 }
-glibc=$(cat "$program" "$built/libldvbi.so.2" | grep -aoh 'GLIBC_2[.][0-9]*' | sort -uV | tail -n 1 | cut -d _ -f 2)
+glibc=$(cat "$program" "$built/libldvbi.so.3" | grep -aoh 'GLIBC_2[.][0-9]*' | sort -uV | tail -n 1 | cut -d _ -f 2)
 unwinds=
-! grep -aq 'libgcc_s[.]so[.]1' "$program" "$built/libldvbi.so.2" || unwinds='libgcc-s1, '
+! grep -aq 'libgcc_s[.]so[.]1' "$program" "$built/libldvbi.so.3" || unwinds='libgcc-s1, '
 echo 'int ldvbi_one(void); int ldvbi_one(void) { return 1; } int main(void) { return 0; }' > one.c
 bounded $cc -g -c one.c && ar rc libldvbi.a one.o
 for from in proved rust; do
@@ -211,7 +211,7 @@ sort > ../wanted << 'END'
 755 ./usr/lib
 755 ./usr/lib/multiarch
 644 ./usr/lib/multiarch/libldvbi.a
-644 ./usr/lib/multiarch/libldvbi.so.2
+644 ./usr/lib/multiarch/libldvbi.so.3
 755 ./usr/share
 755 ./usr/share/doc
 755 ./usr/share/doc/ldvbi
@@ -267,7 +267,7 @@ done
 # A program and a library with all that a debugger wants, of which the library alone unwinds
 folder known libldvbi.a
 bounded $cc -g -o known/usr/bin/ldvbi one.c
-bounded $cc -g -shared -fPIC -o known/usr/lib/multiarch/libldvbi.so.2 one.c -Wl,--no-as-needed -lgcc_s
+bounded $cc -g -shared -fPIC -o known/usr/lib/multiarch/libldvbi.so.3 one.c -Wl,--no-as-needed -lgcc_s
 cp -r known again
 umask 077
 does sh "$top/packaging/make_deb.sh" proved known $version to_known
@@ -276,12 +276,12 @@ bounded dpkg-deb -R to_known/*.deb unpacked_known
 glibc=$(readelf -VW known/usr/bin/ldvbi | grep -o 'GLIBC_2[.][0-9]*' | sort -uV | tail -n 1 | cut -d _ -f 2)
 check 'both are asked what they need' grep -qx "Depends: libc6 (>= $glibc), libgcc-s1, python3 (>= 3.9)" \
     unpacked_known/DEBIAN/control
-for file in bin/ldvbi lib/multiarch/libldvbi.so.2; do
+for file in bin/ldvbi lib/multiarch/libldvbi.so.3; do
     nm unpacked_known/usr/$file > found 2> err
     check "$file is stripped" grep -q 'no symbols' err
 done
-check 'the archive has names, and nothing for a debugger' [ "$(readelf -sSW unpacked_known/usr/lib/multiarch/libldvbi.a |
-    grep -o 'debug_info\|ldvbi_one$' | sort -u)" = ldvbi_one ]
+readelf -sSW unpacked_known/usr/lib/multiarch/libldvbi.a | grep -o 'debug_info\|ldvbi_one$' | sort -u > found
+check 'the archive has names, and nothing for a debugger' [ "$(cat found)" = ldvbi_one ]
 sleep 1
 does sh "$top/packaging/make_deb.sh" proved again $version to_again
 check 'the package of the same files is the same, whatever mode new files get' cmp to_known/*.deb to_again/*.deb

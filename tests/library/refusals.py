@@ -66,6 +66,9 @@ def answered(name, words, is_open, is_listed=True):
         size = {"void": 1, "uint32_t": 4, "size_t": 8}.get(kind) or is_pointer and layout(kind).size
         if not is_pointer:
             arguments.append(words[key])
+        elif key == "rule":
+            rule = [words[name] for name in ("system", "counted", "pace", "both")]
+            arguments.append(OPEN[key].put(struct.pack("4I", *rule) + words.get("clock", b"\xFF" * 12)))
         elif isinstance(words.get(key), bytes) and (is_listed or key == "clock"):
             arguments.append(OPEN[key].put(words[key]) if words[key] else None)
         elif is_open:
@@ -83,6 +86,7 @@ def test_call(name, right, **more):
     expect(found == NUMBERS.DONE, name, right, "is refused", found)
     own = {getattr(NUMBERS, status): changes for status, changes in more.items()}
     numbers = {key for key, _, is_pointer in parameters(name) if not is_pointer} | {"clock"} & {*right}
+    numbers |= {"system", "counted", "pace"} if "both" in right else set()
     tests = [(status, [change for change in changes + own.get(status, []) if set(change) <= {*numbers, "erased"}])
              for status, changes in BAD.items()]
     for place, (status, changes) in enumerate(tests):
@@ -111,20 +115,20 @@ def test_video(system):
         for black, white in PAIRS:
             test_call(name, {"system": system, "black": black, "white": white, **right}, **more)
 
-    for name, lines in (("read_line", 1), ("read_rows", 3), ("recover_rows", 3), ("read_field", LINES[system])):
+    for name, lines in (("read_line", 1), ("read_rows", 3), ("read_field", LINES[system])):
         test(name, {"length": lines * line})
     test("draw_line", {"length": line, "word": 0xF12345})
     test("nearest", {"length": line}, piles)
-    for name in ("read_fields", "recover_fields"):
-        test(name, {"length": field, "count": 1}, fields)
-        expect(call(name)(system, 0, 1, None, 0, None, 0) == NUMBERS.DONE, name, "of no field")
-    for name in ("recover_rows_without", "recovered_record"):
+    test("read_fields", {"length": field, "count": 1}, fields)
+    for name, places in (("read_fields", 2), ("recover_fields", 3)):
+        expect(call(name)(system, 0, 1, *[None, 0] * places) == NUMBERS.DONE, name, "of no field")
+    for name in ("recover_rows", "recovered_record"):
         for entries in TAKEN[1]:
             test(name, {"length": 3 * line, "number": MOST, **erased(entries)}, BAD_ERASED=[*map(erased, REFUSED[1])])
     for count, several in TAKEN.items():
         right = {"length": count * field, "count": count}
         for entries in several:
-            test("recover_fields_without", {**right, **erased(entries)}, [one for one in fields if one != right],
+            test("recover_fields", {**right, **erased(entries)}, [one for one in fields if one != right],
                  BAD_ERASED=[*map(erased, REFUSED[count])])
     test("recover_pile", {"line": 17, "known": 1, "length": 2 * line, **erased("0 17 3 4, 1 17 3 4")}, piles,
          BAD_ERASED=[*map(erased, ("0 18 3 4", "2 17 3 4", "0 17 4 3", "1 17 3 4, 0 17 3 4"))])
@@ -134,16 +138,15 @@ def test_judges():
     """Calls that judge."""
     sizes = (0, 1, 3, 4, MOST_BYTES, MOST_BYTES >> 1, MOST_BYTES >> 3)
     no_found = {"BAD_PACE": one("pace", (NUMBERS.FIND_PACE, ))}
-    for name in ("judge", "find_pace", "judge_side", "judge_side_by_clock", "complete_times", "judge_chapters",
-                 "judge_stops", "judge_ends"):
+    for name in ("judge", "find_pace", "judge_side", "complete_times", "judge_chapters", "judge_stops", "judge_ends"):
         counts = [key for key, kind, _ in parameters(name) if kind == "size_t" and key != "gap_room"]
         lengths = [dict(zip(counts, some)) for some in itertools.product(sizes, repeat=len(counts)) if len({*some}) > 1]
-        more = no_found if "judge_side" in name else {}
+        more = no_found if name == "judge_side" else {}
         for count, clock in ((0, (0, 5, 9)), (2, (2, MOST, MOST - 1))):
-            clock = {"clock": layout("Clock").pack(*clock)} if name == "judge_side_by_clock" else {}
+            rule = {"both": MOST, "clock": layout("Clock").pack(*clock)} if name == "judge_side" else {}
             for system, counted, pace in ((1, 1, 1), (2, 2, 2), (2, 1, 1 if more else 3)):
-                test_call(name, {"system": system, "counted": counted, "pace": pace, "both": MOST, "may_end": MOST,
-                                 "gap_room": 1, **clock, **dict.fromkeys(counts, count)}, BAD_LENGTH=lengths, **more)
+                test_call(name, {"system": system, "counted": counted, "pace": pace, "may_end": MOST, "gap_room": 1,
+                                 **rule, **dict.fromkeys(counts, count)}, BAD_LENGTH=lengths, **more)
     for system, counted, pace in ((1, 1, 1), (2, 2, 2), (2, 1, 3)):
         right, part = {"system": system, "counted": counted, "pace": pace}, NUMBERS.PART
         test_call("judge_field", {**right, "pace": min(pace, 2), "count": part, "field": part - 1}, **no_found,

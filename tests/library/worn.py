@@ -115,7 +115,7 @@ def are_recovered(tv, fields, packed):
 
 
 def rows_are_recovered(tv, row, rows):
-    are_recovered(tv, [row], answered("recover_rows", tv[:3], rows, 24))
+    are_recovered(tv, [row], answered("recover_rows", tv[:3], rows, 24, erased=[]))
 
 
 def test_worn(tv):
@@ -124,13 +124,13 @@ def test_worn(tv):
     for row in (*EVEN, LONE[tv]):
         rows_are_recovered(tv, row, worn_rows(tv, *row[:2], 0))
     for row in WORN:
-        are_recovered(tv, [row], answered("recover_rows_without", tv[:3], worn_rows(tv, *row[:2]), 24,
+        are_recovered(tv, [row], answered("recover_rows", tv[:3], worn_rows(tv, *row[:2]), 24,
                                           erased=erased_of(tv, 0, *row[1::2])))
     plain = [row for row in WORN if not row[3]]
-    for name, fields in (("recover_fields_without", WORN), ("recover_fields", plain)):
+    for fields in (WORN, plain):
         stream = sum((before + worn_rows(tv, *row[:2]) + after for row in fields), array("H"))
         entries = [entry for field, row in enumerate(fields) for entry in erased_of(tv, field, *row[1::2])]
-        packed = answered(name, tv[:3], stream, 24 * len(fields), len(fields), erased=entries or None)
+        packed = answered("recover_fields", tv[:3], stream, 24 * len(fields), len(fields), erased=entries)
         are_recovered(tv, fields, packed)
 
 

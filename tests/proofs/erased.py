@@ -15,7 +15,8 @@ import sys
 import tempfile
 
 MODULES = {"vbi_words": "words", "vbi_line": "line", "vbi_field": "field", "vbi_meta": "meta", "vbi_cli": "cli",
-           "vbi_near": "near", "vbi_side": "side", "vbi_c": "c"}
+           "vbi_near": "near", "vbi_side": "side", "vbi_whole": "whole_side", "vbi_plan": "plan", "vbi_seek": "seek",
+           "vbi_c": "c"}
 TOKEN = re.compile(r"""//[^\n]*|b?"(?:\\.|[^"\\])*"|b?'(?:\\[^'\n]+|[^'\\\n])'|'[a-z_]\w*|\w+|::|->|=>|\S""", re.S)
 CLOSING = {"(": ")", "[": "]", "{": "}"}
 LAWS = re.compile(r"(?:\w+_)?laws")
@@ -78,8 +79,9 @@ def after(tokens, place, ends):
 def ghost_end(tokens, at):
     """The place after what begins here if it doesn't run: an item or a member that is ghost, a clause, a module of
     laws, a tactic, a model, what becomes of an allocation that was refused. Else none."""
-    first, second, third = (tokens[at:at + 3] + ["", ""])[:3]
-    first, second = (second, third) if first == "pub" else (first, second)
+    is_public = tokens[at] == "pub"
+    place = at + 4 if is_public and tokens[at + 1:at + 4] == ["(", "crate", ")"] else at + is_public
+    first, second = (tokens[place:place + 2] + ["", ""])[:2]
     if first == "ghost":
         return after(tokens, at, {";", ","})
     if first == "mod" and LAWS.fullmatch(second):

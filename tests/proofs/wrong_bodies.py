@@ -1,5 +1,5 @@
 #!/usr/bin/env python3
-"""Tries the wrong bodies of crates/NAME/must-fail/*.edit, many in one check: the prover must refuse each by itself.
+"""Tries the wrong bodies of crates/NAME/must-fail/FILE/*.edit, many in a check: the prover must refuse each by itself.
 
 A check says of each function whether its own body meets its contract, also where a function that it calls is refused.
 So wrong bodies of different functions share a check, and each is judged by the line of its own function. Those of one
@@ -77,7 +77,7 @@ class Crate:
             for row in re.findall(r"^\| `.*", read(f"{self.folder}/{REFUSES}"), re.M):
                 edit, function = re.findall(r"`([^`]*)`", row)
                 rows[edit].append(function)
-        paths = sorted(glob.glob(f"{self.folder}/{FOLDER}/*.edit"))
+        paths = sorted(glob.glob(f"{self.folder}/{FOLDER}/**/*.edit", recursive=True), key=os.path.basename)
         edits = [Edit(self.folder, path, rows.pop(os.path.basename(path)[:-len(".edit")], None)) for path in paths]
         return [edit for edit in edits if word in edit.name], [*rows]
 

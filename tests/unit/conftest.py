@@ -12,8 +12,8 @@ import pytest
 
 TOP = os.path.abspath(os.path.join(os.path.dirname(__file__), os.pardir, os.pardir))
 BUILT = next((place for place in (TOP, os.path.join(TOP, "rust"))
-              if os.path.exists(os.path.join(place, "libldvbi.so.2"))), TOP)
-os.environ.setdefault("LDVBI_LIBRARY", os.path.join(BUILT, "libldvbi.so.2"))
+              if os.path.exists(os.path.join(place, "libldvbi.so.3"))), TOP)
+os.environ.setdefault("LDVBI_LIBRARY", os.path.join(BUILT, "libldvbi.so.3"))
 os.environ.setdefault("LDVBI_PROGRAM", os.path.join(BUILT, "ldvbi"))
 FOLDERS = [os.path.join(TOP, name) for name in ("python", "simulated")]
 if "COVERAGE_PROCESS_START" not in os.environ:  # else python.sh has set it

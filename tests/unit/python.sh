@@ -1,7 +1,7 @@
 #!/bin/sh
 # Runs the tests of the Python package by Debian's pytest, side by side. Each test that passes is a check, so that none
 # gets lost; one that is skipped is a failure. Each line of the package has to run, in the tests or in a process that
-# they start, and which test runs which is kept for tests/mutants.py. Needs libldvbi.so.2 beside the program, or at the
+# they start, and which test runs which is kept for tests/mutants.py. Needs libldvbi.so.3 beside the program, or at the
 # top of the repository (`make lib`).
 # usage: sh tests/unit/python.sh PROGRAM
 # runs: library
@@ -10,7 +10,7 @@
 # shellcheck source=tests/helpers.sh
 . "$(dirname "$0")/../helpers.sh"
 
-export LDVBI_LIBRARY="$built/libldvbi.so.2" LDVBI_PROGRAM="$program" COVERAGE_PROCESS_START="$work/coveragerc"
+export LDVBI_LIBRARY="$built/libldvbi.so.3" LDVBI_PROGRAM="$program" COVERAGE_PROCESS_START="$work/coveragerc"
 # Python reads sitecustomize in as it starts: in pytest's processes, and in those that tests start.
 export PYTHONPATH="$top/python:$top/simulated:$work/site:$tests" MUTANTS_TIMES="$work/times"
 # What is compiled once serves all processes, and nothing is written beside the package.
@@ -47,7 +47,8 @@ lines() {
 # Each process leaves a file. Some are combined at a time, side by side, which is quicker than one by one.
 combined() {
     find lines -type f -print0 | bounded xargs -0 -n 40 -P "$(nproc)" sh -c \
-        'exec python3 -m coverage combine -q --rcfile coveragerc --data-file "parts/${1##*/}" "$@"' coverage > err 2>&1 &&
+        'exec python3 -m coverage combine -q --rcfile coveragerc --data-file "parts/${1##*/}" "$@"' coverage \
+        > err 2>&1 &&
         lines combine -q parts
 }
 mkdir parts

@@ -266,7 +266,7 @@ def test_what_is_printed_alone(statuses):
     """The version, the help, and the summary of a side without an option."""
     status, text, said = statuses.run_words("--version")
     assert (status, said) == (0, "")
-    assert re.search(r"^ldvbi-side %s\nlibrary [0-9.]+ \([a-zR, ]+\): /.*libldvbi\.so\.2\n\Z" %
+    assert re.search(r"^ldvbi-side %s\nlibrary [0-9.]+ \([a-zR, ]+\): /.*libldvbi\.so\.3\n\Z" %
                      re.escape(ldvbi.__version__), text)
     for name in SIDES:
         assert statuses.run_words(name) == statuses.run_words(name, "--summary")

@@ -126,15 +126,14 @@ OLD = """
     say its version | version || find paces | find_pace || complete times | complete_times || find clocks | find_clock
     judge numbers | judge || judge one field | judge_field || judge chapters | judge_chapters
     judge stops | judge_stops || judge whole sides | judge_ends, find_both, judge_side, set_aside
-    judge sides by clocks | judge_side_by_clock || check plans | check_plan
+    check plans | check_plan
     seek numbers | seek || seek chapters | seek_chapter || seek stops | next_stop || find nearest words | nearest
     recover words | recover_rows, recover_fields || recover words of piles | recover_pile
-    leave out columns | recover_rows_without, recover_fields_without
     write the document with recovered words | recovered_record
 """
 
 
-def other(interface=2, status=0, cause=0, **more):
+def other(interface=3, status=0, cause=0, **more):
     """A library with this interface, whose calls return this status and write this cause; and with more calls."""
     def call(*words):
         for one in words:
@@ -181,7 +180,7 @@ def state():
 @pytest.mark.parametrize("asked, one, wanted", (
     (causes, "/absent", "no library to read and judge with (/absent: cannot open shared object file: No such file or "
      "directory): " + MAKE + " it, " + NAMES),
-    (causes, other(1), "HERE has the interface 1, not 2: %s the one that fits, %s" % (MAKE, NAMES)),
+    (causes, other(1), "HERE has the interface 1, not 3: %s the one that fits, %s" % (MAKE, NAMES)),
     # causes and states that a later library adds stay numbers, and its statuses are refusals
     (causes, other(cause=5), (5, 5)), (causes, other(cause=255), (255, 255)), (causes, other(status=99), REFUSED),
     (state, judging_as(4), (5, 4)), (state, judging_as(2 ** 31), (5, 2 ** 31)), (state, judging_as(0, 99), REFUSED),
@@ -221,7 +220,7 @@ def test_what_the_loader_finds(room, anew):
     assert re.fullmatch(r"no library to read and judge with \(.*undefined symbol: ldvbi_abi\): %s it, %s" % (
         MAKE, NAMES), reason(causes, kind=OSError))
     with mock.patch("builtins.open", side_effect=OSError):
-        assert library._path_of("libldvbi.so.2") == "libldvbi.so.2"
+        assert library._path_of("libldvbi.so.3") == "libldvbi.so.3"
     assert library._path_of("x/../y") == os.path.abspath("y")
 
 
@@ -251,10 +250,10 @@ def test_places(room, monkeypatch):
     os.makedirs(room.named("share/ldvbi/python/ldvbi"))
     monkeypatch.setattr(library, "__file__", room.named("share/ldvbi/python/ldvbi/library.py"))
     monkeypatch.setenv("LDVBI_LIBRARY", "")
-    assert library._library_file() == "libldvbi.so.2"
+    assert library._library_file() == "libldvbi.so.3"
     for place in ("lib", "share/ldvbi/rust", "share/ldvbi", "share/ldvbi/python", "share/ldvbi/python/ldvbi"):
         os.makedirs(room.named(place), exist_ok=True)
-        path = room.write(place + "/libldvbi.so.2", "")
+        path = room.write(place + "/libldvbi.so.3", "")
         assert os.path.realpath(library._library_file()) == path
     monkeypatch.delenv("LDVBI_LIBRARY")
     assert os.path.realpath(library._library_file()) == path
@@ -364,12 +363,12 @@ def test_each_call(monkeypatch):
             *((name, judge_side, packed, "PAL") for name in ("find_pace", "judge_ends", "judge_side")),
             ("find_clock", find_clock, packed, "PAL"),
             ("find_clock", functools.partial(judge_side, clock="find"), packed, "PAL"),
-            ("judge_side_by_clock", functools.partial(judge_side, clock=(1, 0, 0)), packed, "PAL"),
+            ("judge_side", functools.partial(judge_side, clock=(1, 0, 0)), packed, "PAL"),
             ("set_aside", judge_side, away, "PAL"),
             ("nearest", nearest, LINE, *NTSC), ("seek", lambda: seek(fields(), 1)),
             ("seek_chapter", lambda: seek_chapter(fields(), 1)), ("next_stop", lambda: next_stop(fields())),
             ("recover_fields", lambda: list(fields())), ("recovered_record", lambda: list(fields().records())),
-            ("recover_fields_without", lambda: list(fields(dropouts=[(0, 17, 3, 4)])))):
+            ("recover_fields", lambda: list(fields(dropouts=[(0, 17, 3, 4)])))):
         for module in (judging, near, seeking, sides, stream):
             monkeypatch.setattr(module, "later_call", functools.partial(later_call, name))
         assert reason(call, *words) == REFUSED

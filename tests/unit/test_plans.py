@@ -1,5 +1,5 @@
-"""The library's check of plans in Python: what it is given, what it answers, and what it refuses. What the rules are has
-tests/library/plans.txt."""
+"""The library's check of plans in Python: what it is given, what it answers, and what it refuses. What the rules are
+has tests/library/plans.txt."""
 
 import itertools
 

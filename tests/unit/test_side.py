@@ -282,8 +282,9 @@ def test_levels():
 
 def test_what_metadata_counts():
     """A line, if numberOfSequentialFields isn't the count of its fields, or that of the file."""
-    for sequential, fields, text in ((8, 8, None), (None, 9, None), (9, 8, "9, and it has 8"), (9, 9, "9, and it has 9"),
-                                     (8, 9, "8, and it has 9"), (8, None, "8, and it has 0")):
+    for sequential, fields, text in ((8, 8, None), (None, 9, None), (9, 8, "9, and it has 8"),
+                                     (9, 9, "9, and it has 9"), (8, 9, "8, and it has 9"),
+                                     (8, None, "8, and it has 0")):
         one = made("1..4", side)
         one.sequential, one.expected = sequential, fields
         assert [line for line in summary(one.analysis.answer) if line.startswith("metadata: ")] == (

@@ -1,5 +1,5 @@
 //! The program `ldvbi`: it opens what the command line names, has the job done over that, and prints what went wrong.
-//! The crate `vbi_cli` reads the words and does the job.
+//! The crate `vbi_cli` reads the words (`read_words`) and does the job (`run_job`).
 #![tactic(auto)]
 
 mod fault;
@@ -10,8 +10,7 @@ use std::io::{Read, Write};
 use std::process::ExitCode;
 use std::rt::{Env, Files};
 use std::{env, fs, io};
-use vbi_cli::{AppFault, Input, Job, Source, WordsFault, do_command, read_words, settle, status};
-use vbi_field::Outlet;
+use vbi_cli::{AppFault, Input, Job, WordsFault, read_words, run_job, status};
 use vbi_meta::{META_LIMIT, MetaFault};
 
 fn main(rt: HostRuntime) -> ExitCode {
@@ -92,14 +91,7 @@ fn run_with_files(rt: &HostRuntime, job: &Job) -> Result<u8, MainFault> {
     };
     let mut output = rt.stdout();
     let bytes = meta.as_ref().map(Vec::as_slice);
-    let ended = match settle(rt.alloc(), job, bytes) {
-        Ok(config) => {
-            let mut source = Source::new(job.verb, job.recover, config.system(), &mut input);
-            let mut outlet = Outlet::new(&mut output);
-            do_command(&config, &mut source, &mut outlet)
-        }
-        Err(fault) => Err(fault.into()),
-    };
+    let ended = run_job(rt.alloc(), job, bytes, &mut input, &mut output);
     let flushed = output.flush();
     if let Err(fault) = &ended {
         print_fault(rt, beside.as_ref(), fault);

@@ -8,17 +8,18 @@ use Rattle.std.proofs.lemmas.List.FromFn.{length-map-range_with_len}
 use Rattle.vbi_side.specs.declared.sighting.Sightings.{Sightings}
 use Rattle.vbi_side.specs.Beliefs.{reach, enough, field_weight}
 use Rattle.vbi_side.specs.Chapters.{says, opposes, said_weight, opposed_weight}
-use Rattle.vbi_side.specs.CleanRuns.{IsReadTwice}
+use Rattle.vbi_whole.specs.CleanRuns.{IsReadTwice}
 use Rattle.vbi_side.specs.Sightings.{Shows}
-use Rattle.vbi_side.proofs.CleanRuns.{twice_weighs, three_weigh}
+use Rattle.vbi_whole.proofs.CleanRuns.{twice_weighs, three_weigh}
 use Rattle.vbi_side.proofs.Filling.{shown_within}
 use Rattle.vbi_side.proofs.Weights.{spread, weight_at-passes}
-use Rattle.vbi_c.specs.declared.setup.Setup.{Setup}
-use Rattle.vbi_c.specs.ChapterLeads.{TellsChapter, LeadsToChapter, IsFirstOf}
+use Rattle.vbi_seek.specs.FieldLines.{Side}
+use Rattle.vbi_seek.specs.ChapterLeads.{TellsChapter, chapter_spots, IsFirstOf}
+use Rattle.vbi_seek.specs.Spots.{Leads}
 use Rattle.vbi_c.specs.ChapterRuns.{AreChaptersRead, IsFirstPicture}
-use Rattle.vbi_c.specs.ChapterSeeking.{chapters_at, chapters_from, said_below, TellChapter}
-use Rattle.vbi_c.proofs.ChapterPlaces.{at, said_below-more}
-use Rattle.vbi_c.proofs.Tellers.{first_chapter, chapter_other}
+use Rattle.vbi_seek.specs.ChapterSearch.{chapters_at, chapters_from, said_below, TellChapter}
+use Rattle.vbi_seek.proofs.ChapterPlaces.{at, said_below-more}
+use Rattle.vbi_seek.proofs.Tellers.{first_chapter, chapter_other}
 
 -- ---- weights
 
@@ -59,27 +60,27 @@ one_read : (fields : List Sightings) (i m n : ℕ) → IsReadTwice fields i m �
 one_read fields i m n ((field, at, first, second, same), shown) other =
     sym (on_17 field m same (subst (λ o. Shows o m) at shown)) ∙ on_17 field n same (subst (λ o. Shows o n) at other)
 
-module _ (setup : Setup) (bytes : List ℕ) (count : ℕ) (chapter : ℕ → ℕ) (begin last : ℕ)
-    (run : AreChaptersRead chapter (chapters_from setup bytes 0 count) begin last) where
+module _ (side : Side) (chapter : ℕ → ℕ) (begin last : ℕ)
+    (run : AreChaptersRead chapter (chapters_from side 0 side.count) begin last) where
   -- ---- the run
 
-  shown_is : (i n : ℕ) → Shows (slice_get (chapters_from setup bytes 0 count) i) n
+  shown_is : (i n : ℕ) → Shows (slice_get (chapters_from side 0 side.count) i) n
       → (p : ℕ) × (p ≤ last) × (i ≡ begin + 2 * p) × (chapter p ≡ n)
   shown_is i n shown =
       let (p, low, at) = run.read.others i n shown in (
         p,
         low,
         at,
-        one_read (chapters_from setup bytes 0 count) (begin + 2 * p) (chapter p) n (run.read.each p low)
-            (subst (λ j. Shows (slice_get (chapters_from setup bytes 0 count) j) n) at shown),
+        one_read (chapters_from side 0 side.count) (begin + 2 * p) (chapter p) n (run.read.each p low)
+            (subst (λ j. Shows (slice_get (chapters_from side 0 side.count) j) n) at shown),
       )
 
-  inside : begin + 2 * last < count
+  inside : begin + 2 * last < side.count
   inside = omega (
     arith,
-    shown_within (chapters_from setup bytes 0 count) (begin + 2 * last) (chapter last)
+    shown_within (chapters_from side 0 side.count) (begin + 2 * last) (chapter last)
         (run.read.each last (omega arith)).1,
-    length-map-range_with_len (chapters_at setup bytes) 0 count,
+    length-map-range_with_len (chapters_at side) 0 side.count,
   )
 
   two_more : 2 ≤ last
@@ -104,33 +105,33 @@ module _ (setup : Setup) (bytes : List ℕ) (count : ℕ) (chapter : ℕ → ℕ
   -- ---- two pictures tell a chapter
 
   -- a field of a part is one of the side
-  same_field : (field k i : ℕ) → i < k → field + k ≤ count
-      → slice_get (chapters_from setup bytes field k) i ≡ slice_get (chapters_from setup bytes 0 count) (field + i)
+  same_field : (field k i : ℕ) → i < k → field + k ≤ side.count
+      → slice_get (chapters_from side field k) i ≡ slice_get (chapters_from side 0 side.count) (field + i)
   same_field field k i less within =
-      at (chapters_at setup bytes) field k i (field + i) less refl
-      ∙ sym (at (chapters_at setup bytes) 0 count (field + i) (field + i) (omega (arith, less, within))
+      at (chapters_at side) field k i (field + i) less refl
+      ∙ sym (at (chapters_at side) 0 side.count (field + i) (field + i) (omega (arith, less, within))
       (omega arith))
 
   -- a chapter that a field of a part shows is its picture's
-  in_part : (field k i n : ℕ) → field + k ≤ count → Shows (slice_get (chapters_from setup bytes field k) i) n
+  in_part : (field k i n : ℕ) → field + k ≤ side.count → Shows (slice_get (chapters_from side field k) i) n
       → (p : ℕ) × (p ≤ last) × (field + i ≡ begin + 2 * p) × (chapter p ≡ n) × (i < k)
   in_part field k i n within shown =
       let less : i < k = omega (
         arith,
-        shown_within (chapters_from setup bytes field k) i n shown,
-        length-map-range_with_len (chapters_at setup bytes) field k,
+        shown_within (chapters_from side field k) i n shown,
+        length-map-range_with_len (chapters_at side) field k,
       ) in
       let (p, low, place, is) = shown_is (field + i) n
       (subst (λ o. Shows o n) (same_field field k i less within) shown) in
       (p, low, place, is, less)
 
   -- fields that tell a chapter show it, and another one shows one, too
-  told_two : (field k n : ℕ) → field + k ≤ count → TellChapter (chapters_from setup bytes field k) n
+  told_two : (field k n : ℕ) → field + k ≤ side.count → TellChapter (chapters_from side field k) n
       → (p : ℕ) × (p ≤ last) × (chapter p ≡ n) × (field ≤ begin + 2 * p) × (begin + 2 * p < field + k)
       × (begin + 3 ≤ field + k) × (field + 2 ≤ begin + 2 * last)
   told_two field k n within (i, shown, told) =
       let (p, low, place, is, less) = in_part field k i n within shown in
-      let (j, m, apart, also) = chapter_other (chapters_from setup bytes field k) i n told in
+      let (j, m, apart, also) = chapter_other (chapters_from side field k) i n told in
       let (r, high, there, same, more) = in_part field k j m within also in
       let differ : p ≢ r = λ e. apart (omega (arith, place, there, e)) in (
         p,
@@ -142,31 +143,31 @@ module _ (setup : Setup) (bytes : List ℕ) (count : ℕ) (chapter : ℕ → ℕ
         omega (arith, place, there, low, high, differ),
       )
 
-  part_twice : (field k p : ℕ) → field ≤ begin + 2 * p → begin + 2 * p < field + k → field + k ≤ count → p ≤ last
-      → IsReadTwice (chapters_from setup bytes field k) (begin + 2 * p - field) (chapter p)
+  part_twice : (field k p : ℕ) → field ≤ begin + 2 * p → begin + 2 * p < field + k → field + k ≤ side.count → p ≤ last
+      → IsReadTwice (chapters_from side field k) (begin + 2 * p - field) (chapter p)
   part_twice field k p from to within low =
       let ((seen, there, first, second, same), shown) = run.read.each p low in
       let place : field + (begin + 2 * p - field) ≡ begin + 2 * p = omega (arith, from) in
       let here = same_field field k (begin + 2 * p - field) (omega (arith, from, to)) within
-      ∙ ap (λ (j : ℕ). slice_get (chapters_from setup bytes 0 count) j) place in
+      ∙ ap (λ (j : ℕ). slice_get (chapters_from side 0 side.count) j) place in
       ((seen, here ∙ there, first, second, same), subst (λ o. Shows o (chapter p)) (sym here) shown)
 
   -- two of one chapter tell it
-  pair_tells : (field k p : ℕ) → field ≤ begin + 2 * p → begin + 2 * (p + 1) < field + k → field + k ≤ count
-      → p + 1 ≤ last → chapter (p + 1) ≡ chapter p → TellChapter (chapters_from setup bytes field k) (chapter p)
+  pair_tells : (field k p : ℕ) → field ≤ begin + 2 * p → begin + 2 * (p + 1) < field + k → field + k ≤ side.count
+      → p + 1 ≤ last → chapter (p + 1) ≡ chapter p → TellChapter (chapters_from side field k) (chapter p)
   pair_tells field k p from to within low on =
       let i = begin + 2 * p - field in
       let j = begin + 2 * (p + 1) - field in
       let here = part_twice field k p from (omega (arith, to)) within (omega (arith, low)) in
       let there = part_twice field k (p + 1) (omega (arith, from)) to within low in
-      let long = length-map-range_with_len (chapters_at setup bytes) field k in
-      let much : 8 ≤ said_below (chapters_from setup bytes field k) (chapter p)
-      (length (chapters_from setup bytes field k))
-      = two_say (chapters_from setup bytes field k) (chapter p) i j (length (chapters_from setup bytes field k))
+      let long = length-map-range_with_len (chapters_at side) field k in
+      let much : 8 ≤ said_below (chapters_from side field k) (chapter p)
+      (length (chapters_from side field k))
+      = two_say (chapters_from side field k) (chapter p) i j (length (chapters_from side field k))
       (omega (arith, from)) (omega (arith, long, from, to))
-      (twice_weighs (λ m. m == chapter p) (chapters_from setup bytes field k) i (chapter p) here
+      (twice_weighs (λ m. m == chapter p) (chapters_from side field k) i (chapter p) here
       (eq-eqb (chapter p) (chapter p) refl))
-      (twice_weighs (λ m. m == chapter p) (chapters_from setup bytes field k) j (chapter (p + 1)) there
+      (twice_weighs (λ m. m == chapter p) (chapters_from side field k) j (chapter (p + 1)) there
       (eq-eqb (chapter (p + 1)) (chapter p) on)) in
       (i, here.1, omega (arith, much))
 
@@ -228,7 +229,7 @@ module _ (setup : Setup) (bytes : List ℕ) (count : ℕ) (chapter : ℕ → ℕ
 
   -- so from each field before the last picture on some fields tell a chapter, few of them once the run has begun
   told_by : (field : ℕ) → field + 2 ≤ begin + 2 * last
-      → (k n : ℕ) × TellChapter (chapters_from setup bytes field k) n × (field + k ≤ count)
+      → (k n : ℕ) × TellChapter (chapters_from side field k) n × (field + k ≤ side.count)
       × ((field + k ≤ begin + 3) ⊎ ((begin < field) × (k ≤ 6)))
   told_by field early =
       let p = (field - begin + 1) / 2 in
@@ -246,10 +247,10 @@ module _ (setup : Setup) (bytes : List ℕ) (count : ℕ) (chapter : ℕ → ℕ
       )
 
   told_first : (field : ℕ) → begin - 21 ≤ field → field + 2 ≤ begin + 2 * last
-      → (k n : ℕ) × TellsChapter setup bytes count field k n
+      → (k n : ℕ) × TellsChapter side field k n
   told_first field late early =
       let (most, m, tells, within, near) = told_by field early in
-      let (k, n, few, told, none) = first_chapter (chapters_from setup bytes field) most m tells in (
+      let (k, n, few, told, none) = first_chapter (chapters_from side field) most m tells in (
         k,
         n,
         record {
@@ -265,20 +266,21 @@ module _ (setup : Setup) (bytes : List ℕ) (count : ℕ) (chapter : ℕ → ℕ
 
   -- ---- they lead to each chapter
 
-  pub chapters_lead : (q : ℕ) → q ≤ last → IsFirstPicture chapter q → count + 16 ≤ 32 * last
-      → LeadsToChapter setup bytes count (chapter q) (begin + 2 * q) (begin - 21) (begin + 2 * last - 2)
+  pub chapters_lead : (q : ℕ) → q ≤ last → IsFirstPicture chapter q → side.count + 16 ≤ 32 * last
+      → Leads (chapter_spots side) (chapter q) (begin + 2 * q) (begin - 21) (begin + 2 * last - 2)
   chapters_lead q low first large = record {
     inside = omega (arith, inside);
     part = omega (arith, large, two_more);
     between = (omega arith, omega (arith, low, two_more));
-    told = λ field from to. told_first field from (omega (arith, to, two_more));
+    told = λ field from to.
+        let (k, n, tells) = told_first field from (omega (arith, to, two_more)) in (k, n, tells.few, tells);
     untold = λ field k n tells.
         let (p, high, is, from, to, after, early) = told_two field k n tells.inside tells.tells in
-        (omega (arith, after, tells.few), omega (arith, early));
+        (omega (arith, after, tells.few), omega (arith, early, tells.few));
     lower = λ field k n tells less.
         let (p, high, is, from, to, after, early) = told_two field k n tells.inside tells.tells in
         let before = in_order q p low high (omega (arith, is, less)) in
-        omega (arith, from, before);
+        omega (arith, from, before, tells.few);
     higher = λ field k n tells more.
         let (p, high, is, from, to, after, early) = told_two field k n tells.inside tells.tells in
         let before = in_order_too q p low high first (omega (arith, is, more)) in
@@ -289,7 +291,7 @@ module _ (setup : Setup) (bytes : List ℕ) (count : ℕ) (chapter : ℕ → ℕ
 
   -- three pictures of a chapter say it
   said : (q : ℕ) → q ≤ last → IsFirstPicture chapter q
-      → 12 ≤ said_weight (chapters_from setup bytes 0 count) (begin + 2 * q) (chapter q)
+      → 12 ≤ said_weight (chapters_from side 0 side.count) (begin + 2 * q) (chapter q)
   said q low first =
       let (r, from, to, room, one, two) = run.three q low in
       let is : r ≡ q = elim (eqb_tells r q) [
@@ -305,27 +307,27 @@ module _ (setup : Setup) (bytes : List ℕ) (count : ℕ) (chapter : ℕ → ℕ
         run.rise q (q + 1) (omega arith) (omega (arith, room_too)),
         run.rise (q + 1) (q + 2) (omega arith) room_too,
       ) in
-      three_weigh (says (begin + 2 * q) (chapter q)) (chapters_from setup bytes 0 count) (begin + 2 * q) (begin + 2 * q)
+      three_weigh (says (begin + 2 * q) (chapter q)) (chapters_from side 0 side.count) (begin + 2 * q) (begin + 2 * q)
       (begin + 2 * (q + 1)) (begin + 2 * (q + 2)) (omega arith, omega arith) (omega arith, omega arith)
       (omega arith, omega arith) (omega arith) (omega arith)
       (says_it q q low refl) (says_it q (q + 1) (omega (arith, room_too)) middle) (says_it q (q + 2) room_too end)
     where
       says_it : (q r : ℕ) → r ≤ last → chapter r ≡ chapter q
           → 4 ≤ field_weight (says (begin + 2 * q) (chapter q) (begin + 2 * r))
-          (slice_get (chapters_from setup bytes 0 count) (begin + 2 * r))
+          (slice_get (chapters_from side 0 side.count) (begin + 2 * r))
       says_it q r high same =
-          twice_weighs (says (begin + 2 * q) (chapter q) (begin + 2 * r)) (chapters_from setup bytes 0 count)
+          twice_weighs (says (begin + 2 * q) (chapter q) (begin + 2 * r)) (chapters_from side 0 side.count)
           (begin + 2 * r) (chapter r) (run.read.each r high) (eq-eqb (chapter r) (chapter q) same)
 
   -- none speaks against it
   unopposed : (q : ℕ) → q ≤ last
-      → opposed_weight (chapters_from setup bytes 0 count) (begin + 2 * q) (chapter q) < enough
-  unopposed q low = elim (spread (opposes (begin + 2 * q) (chapter q)) (chapters_from setup bytes 0 count)
+      → opposed_weight (chapters_from side 0 side.count) (begin + 2 * q) (chapter q) < enough
+  unopposed q low = elim (spread (opposes (begin + 2 * q) (chapter q)) (chapters_from side 0 side.count)
       (begin + 2 * q) reach (2 * reach + 1)) [
         | inl (most, none) ↦ omega (arith, most)
         | inr (k, less, apart, weighs) ↦
             let (near, (m, shown, against)) = weight_at-passes (opposes (begin + 2 * q) (chapter q))
-            (chapters_from setup bytes 0 count) (begin + 2 * q) k weighs in
+            (chapters_from side 0 side.count) (begin + 2 * q) k weighs in
             let (r, high, place, is) = shown_is (begin + 2 * q + k - reach) m shown in
             absurd (elim (or_cases (nat_le (begin + 2 * q + k - reach) (begin + 2 * q) && nat_lt (chapter q) m)
             (nat_le (begin + 2 * q) (begin + 2 * q + k - reach) && nat_lt m (chapter q)) against) [
@@ -336,7 +338,8 @@ module _ (setup : Setup) (bytes : List ℕ) (count : ℕ) (chapter : ℕ → ℕ
                   let order : r ≤ q = omega (arith, at_most, place) in
                   omega (arith, run.rise r q order low, is, more)
               | inr earlier ↦
-                  let p = and_parts (nat_le (begin + 2 * q) (begin + 2 * q + k - reach)) (nat_lt m (chapter q)) earlier in
+                  let p =
+                  and_parts (nat_le (begin + 2 * q) (begin + 2 * q + k - reach)) (nat_lt m (chapter q)) earlier in
                   let at_least = leb-true (begin + 2 * q) (begin + 2 * q + k - reach) p.0 in
                   let less_than = ltb-true m (chapter q) p.1 in
                   let order : q ≤ r = omega (arith, at_least, place) in
@@ -345,13 +348,13 @@ module _ (setup : Setup) (bytes : List ℕ) (count : ℕ) (chapter : ℕ → ℕ
       ]
 
   pub first_of : (q : ℕ) → q ≤ last → IsFirstPicture chapter q
-      → IsFirstOf setup bytes count (chapter q) (begin + 2 * q)
+      → IsFirstOf side (chapter q) (begin + 2 * q)
   first_of q low first = record {
     has = record {
       shown = (run.read.each q low).1;
       said = omega (arith, said q low first);
       unopposed = unopposed q low;
-      ahead = λ m shown apart. absurd (apart (sym (one_read (chapters_from setup bytes 0 count) (begin + 2 * q)
+      ahead = λ m shown apart. absurd (apart (sym (one_read (chapters_from side 0 side.count) (begin + 2 * q)
           (chapter q) m (run.read.each q low) shown)));
     };
     others = λ i less has.

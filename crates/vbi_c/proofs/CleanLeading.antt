@@ -10,54 +10,54 @@ use Rattle.vbi_side.specs.declared.clock.Clock.{Clock}
 use Rattle.vbi_side.specs.declared.pace.Pace.TheVariants.{Video}
 use Rattle.vbi_side.specs.declared.sighting.Sightings.{Sightings}
 use Rattle.vbi_side.specs.Beliefs.{window_weight}
-use Rattle.vbi_side.specs.CleanRuns.{IsReadTwice, IsOneOfThree}
+use Rattle.vbi_whole.specs.CleanRuns.{IsReadTwice, IsOneOfThree}
 use Rattle.vbi_side.specs.Clocks.{kept}
 use Rattle.vbi_side.specs.Paces.{fits}
 use Rattle.vbi_side.specs.Sightings.{Shows}
-use Rattle.vbi_side.proofs.CleanRuns.{shown_is, twice_weighs, two_weigh}
+use Rattle.vbi_whole.proofs.CleanRuns.{shown_is, twice_weighs, two_weigh}
 use Rattle.vbi_side.proofs.Filling.{shown_within}
-use Rattle.vbi_side.proofs.ThreeInRow.{greater}
-use Rattle.vbi_c.specs.declared.search.Seek.{Seek}
-use Rattle.vbi_c.specs.Leads.{Tells, Leads}
-use Rattle.vbi_c.specs.Seeking.{shown_at, shown_of}
-use Rattle.vbi_c.specs.Telling.{TellsFrom}
-use Rattle.vbi_c.proofs.Tellers.{told_other, first_told}
+use Rattle.vbi_whole.proofs.ThreeInRow.{greater}
+use Rattle.vbi_seek.specs.NumberLeads.{Tells, number_spots}
+use Rattle.vbi_seek.specs.Spots.{Leads}
+use Rattle.vbi_seek.specs.NumberSearch.{Numbers, shown_at, shown_of}
+use Rattle.vbi_seek.specs.NumberSpots.{TellsFrom}
+use Rattle.vbi_seek.proofs.Tellers.{told_other, first_told}
 
 -- what this many fields from this one on show
-abbrev pub part : Seek → List ℕ → ℕ → ℕ → List Sightings
-part seek bytes field k = map (shown_at seek bytes) (range_with_len field k)
+abbrev pub part : Numbers → ℕ → ℕ → List Sightings
+part numbers field k = map (shown_at numbers) (range_with_len field k)
 
-pub part_at : (seek : Seek) (bytes : List ℕ) (field k i : ℕ) → i < k
-    → slice_get (part seek bytes field k) i ≡ Some (shown_at seek bytes (field + i))
-part_at seek bytes field k i inside =
-    let other = shown_at seek bytes (field + i) in
-    slice_get-get_or (part seek bytes field k) i other
-    (omega (arith, inside, length-map-range_with_len (shown_at seek bytes) field k))
-    ∙ ap Some (get_or-map-range_with_len (shown_at seek bytes) field k i (field + i) other inside refl)
+pub part_at : (numbers : Numbers) (field k i : ℕ) → i < k
+    → slice_get (part numbers field k) i ≡ Some (shown_at numbers (field + i))
+part_at numbers field k i inside =
+    let other = shown_at numbers (field + i) in
+    slice_get-get_or (part numbers field k) i other
+    (omega (arith, inside, length-map-range_with_len (shown_at numbers) field k))
+    ∙ ap Some (get_or-map-range_with_len (shown_at numbers) field k i (field + i) other inside refl)
 
 -- a field of a part is one of the side
-same_field : (seek : Seek) (bytes : List ℕ) (count field k i : ℕ) → i < k → field + k ≤ count
-    → slice_get (part seek bytes field k) i ≡ slice_get (shown_of seek bytes count) (field + i)
-same_field seek bytes count field k i inside within =
+same_field : (numbers : Numbers) (field k i : ℕ) → i < k → field + k ≤ numbers.side.count
+    → slice_get (part numbers field k) i ≡ slice_get (shown_of numbers) (field + i)
+same_field numbers field k i inside within =
     let place : 0 + (field + i) ≡ field + i = omega arith in
-    part_at seek bytes field k i inside
-    ∙ sym (part_at seek bytes 0 count (field + i) (omega (arith, inside, within))
-    ∙ ap (λ (j : ℕ). Some (shown_at seek bytes j)) place)
+    part_at numbers field k i inside
+    ∙ sym (part_at numbers 0 numbers.side.count (field + i) (omega (arith, inside, within))
+    ∙ ap (λ (j : ℕ). Some (shown_at numbers j)) place)
 
-module _ (seek : Seek) (bytes : List ℕ) (count : ℕ) (clock : Clock) (number : ℕ → ℕ) (begin last : ℕ)
-    (each : (p : ℕ) → p ≤ last → IsReadTwice (shown_of seek bytes count) (begin + 2 * p) (number p))
-    (others : (i n : ℕ) → Shows (slice_get (shown_of seek bytes count) i) n
+module _ (numbers : Numbers) (clock : Clock) (number : ℕ → ℕ) (begin last : ℕ)
+    (each : (p : ℕ) → p ≤ last → IsReadTwice (shown_of numbers) (begin + 2 * p) (number p))
+    (others : (i n : ℕ) → Shows (slice_get (shown_of numbers) i) n
     → (p : ℕ) × (p ≤ last) × (i ≡ begin + 2 * p))
     (three : (p : ℕ) → p ≤ last → IsOneOfThree number last p)
     (steps : (p : ℕ) → p ≤ last → kept clock (number p) ≡ kept clock (number 0) + p) where
   -- ---- the run
 
   -- its last field is one of the side
-  pub inside : begin + 2 * last < count
+  pub inside : begin + 2 * last < numbers.side.count
   inside = omega (
     arith,
-    shown_within (shown_of seek bytes count) (begin + 2 * last) (number last) (each last (omega arith)).1,
-    length-map-range_with_len (shown_at seek bytes) 0 count,
+    shown_within (shown_of numbers) (begin + 2 * last) (number last) (each last (omega arith)).1,
+    length-map-range_with_len (shown_at numbers) 0 numbers.side.count,
   )
 
   pub two_more : 2 ≤ last
@@ -90,25 +90,25 @@ module _ (seek : Seek) (bytes : List ℕ) (count : ℕ) (clock : Clock) (number 
   -- ---- two pictures tell a number
 
   -- a number that a field of a part shows is its picture's
-  pub in_part : (field k i n : ℕ) → field + k ≤ count → Shows (slice_get (part seek bytes field k) i) n
+  pub in_part : (field k i n : ℕ) → field + k ≤ numbers.side.count → Shows (slice_get (part numbers field k) i) n
       → (p : ℕ) × (p ≤ last) × (field + i ≡ begin + 2 * p) × (number p ≡ n) × (i < k)
   in_part field k i n within shown =
       let less : i < k = omega (
         arith,
-        shown_within (part seek bytes field k) i n shown,
-        length-map-range_with_len (shown_at seek bytes) field k,
+        shown_within (part numbers field k) i n shown,
+        length-map-range_with_len (shown_at numbers) field k,
       ) in
-      let (p, low, at, is) = shown_is number (shown_of seek bytes count) begin last each others three (field + i) n
-      (subst (λ o. Shows o n) (same_field seek bytes count field k i less within) shown) in
+      let (p, low, at, is) = shown_is number (shown_of numbers) begin last each others three (field + i) n
+      (subst (λ o. Shows o n) (same_field numbers field k i less within) shown) in
       (p, low, at, is, less)
 
   -- fields that tell a number show it, and that of another picture
-  told_two : (field k n : ℕ) → field + k ≤ count → TellsFrom seek bytes field k n
+  told_two : (field k n : ℕ) → field + k ≤ numbers.side.count → TellsFrom numbers field k n
       → (p : ℕ) × (p ≤ last) × (number p ≡ n) × (field ≤ begin + 2 * p) × (begin + 2 * p < field + k)
       × (begin + 3 ≤ field + k) × (field + 2 ≤ begin + 2 * last)
   told_two field k n within (i, shown, told) =
       let (p, low, at, is, less) = in_part field k i n within shown in
-      let (j, m, apart, also) = told_other (part seek bytes field k) i n told in
+      let (j, m, apart, also) = told_other (part numbers field k) i n told in
       let (r, high, there, same, more) = in_part field k j m within also in
       let differ : p ≢ r = λ e. apart (omega (arith, at, there, e)) in (
         p,
@@ -120,29 +120,31 @@ module _ (seek : Seek) (bytes : List ℕ) (count : ℕ) (clock : Clock) (number 
         omega (arith, at, there, low, high, differ),
       )
 
-  pub part_twice : (field k p : ℕ) → field ≤ begin + 2 * p → begin + 2 * p < field + k → field + k ≤ count → p ≤ last
-      → IsReadTwice (part seek bytes field k) (begin + 2 * p - field) (number p)
+  pub part_twice : (field k p : ℕ) → field ≤ begin + 2 * p → begin + 2 * p < field + k
+      → field + k ≤ numbers.side.count → p ≤ last
+      → IsReadTwice (part numbers field k) (begin + 2 * p - field) (number p)
   part_twice field k p from to within low =
       let ((seen, at, first, second, same), shown) = each p low in
       let place : field + (begin + 2 * p - field) ≡ begin + 2 * p = omega (arith, from) in
-      let here = same_field seek bytes count field k (begin + 2 * p - field) (omega (arith, from, to)) within
-      ∙ ap (λ (j : ℕ). slice_get (shown_of seek bytes count) j) place in
+      let here = same_field numbers field k (begin + 2 * p - field) (omega (arith, from, to)) within
+      ∙ ap (λ (j : ℕ). slice_get (shown_of numbers) j) place in
       ((seen, here ∙ at, first, second, same), subst (λ o. Shows o (number p)) (sym here) shown)
 
   -- two that go on tell the first one's
-  pair_tells : (field k p : ℕ) → field ≤ begin + 2 * p → begin + 2 * (p + 1) < field + k → field + k ≤ count
-      → p + 1 ≤ last → number (p + 1) ≡ number p + 1 → TellsFrom seek bytes field k (number p)
+  pair_tells : (field k p : ℕ) → field ≤ begin + 2 * p → begin + 2 * (p + 1) < field + k
+      → field + k ≤ numbers.side.count → p + 1 ≤ last → number (p + 1) ≡ number p + 1
+      → TellsFrom numbers field k (number p)
   pair_tells field k p from to within low on =
       let a = begin + 2 * p - field in
       let b = begin + 2 * (p + 1) - field in
       let here = part_twice field k p from (omega (arith, to)) within (omega (arith, low)) in
       let there = part_twice field k (p + 1) (omega (arith, from)) to within low in
-      let much : 8 ≤ window_weight (fits Video a (number p)) (part seek bytes field k) a
-      = two_weigh (fits Video a (number p)) (part seek bytes field k) a a b (omega arith, omega arith)
+      let much : 8 ≤ window_weight (fits Video a (number p)) (part numbers field k) a
+      = two_weigh (fits Video a (number p)) (part numbers field k) a a b (omega arith, omega arith)
       (omega (arith, from), omega (arith, from)) (omega (arith, from))
-      (twice_weighs (fits Video a (number p) a) (part seek bytes field k) a (number p) here
+      (twice_weighs (fits Video a (number p) a) (part numbers field k) a (number p) here
       (eq-eqb (a + 2 * number p) (a + 2 * number p) refl))
-      (twice_weighs (fits Video a (number p) b) (part seek bytes field k) b (number (p + 1)) there
+      (twice_weighs (fits Video a (number p) b) (part numbers field k) b (number (p + 1)) there
       (eq-eqb (b + 2 * number p) (a + 2 * number (p + 1)) (omega (arith, on, from)))) in
       (a, here.1, inl (omega (arith, much)))
 
@@ -188,7 +190,7 @@ module _ (seek : Seek) (bytes : List ℕ) (count : ℕ) (clock : Clock) (number 
 
   -- so from each field before the last picture on some fields tell a number, few of them once the run has begun
   told_by : (field : ℕ) → field + 2 ≤ begin + 2 * last
-      → (k n : ℕ) × TellsFrom seek bytes field k n × (field + k ≤ count)
+      → (k n : ℕ) × TellsFrom numbers field k n × (field + k ≤ numbers.side.count)
       × ((field + k ≤ begin + 3) ⊎ ((begin < field) × (k ≤ 6)))
   told_by field early =
       let p = (field - begin + 1) / 2 in
@@ -208,12 +210,12 @@ module _ (seek : Seek) (bytes : List ℕ) (count : ℕ) (clock : Clock) (number 
   -- ---- the first that tell
 
   first_tells : (field : ℕ) → field + 2 ≤ begin + 2 * last
-      → (k n : ℕ) × TellsFrom seek bytes field k n
-      × ((j m : ℕ) → j < k → TellsFrom seek bytes field j m → ⊥) × (field + k ≤ count)
+      → (k n : ℕ) × TellsFrom numbers field k n
+      × ((j m : ℕ) → j < k → TellsFrom numbers field j m → ⊥) × (field + k ≤ numbers.side.count)
       × ((field + k ≤ begin + 3) ⊎ ((begin < field) × (k ≤ 6)))
   first_tells field early =
       let (most, m, tells, within, near) = told_by field early in
-      let (k, n, few, told, none) = first_told (part seek bytes field) most m tells in (
+      let (k, n, few, told, none) = first_told (part numbers field) most m tells in (
         k,
         n,
         told,
@@ -226,7 +228,7 @@ module _ (seek : Seek) (bytes : List ℕ) (count : ℕ) (clock : Clock) (number 
       )
 
   -- whichever tell a number end there
-  tells_near : (field k n : ℕ) → Tells seek bytes count field k n
+  tells_near : (field k n : ℕ) → Tells numbers field k n
       → (field + k ≤ begin + 3) ⊎ ((begin < field) × (k ≤ 6))
   tells_near field k n tells =
       let (p, low, is, from, to, after, early) = told_two field k n tells.inside tells.tells in
@@ -239,8 +241,8 @@ module _ (seek : Seek) (bytes : List ℕ) (count : ℕ) (clock : Clock) (number 
 
   -- ---- they lead to each number
 
-  pub clean_leads : (q : ℕ) → q ≤ last → count + 16 ≤ 32 * last
-      → Leads seek bytes count (number q) (begin + 2 * q) (begin - 9) (begin + 2 * last - 2)
+  pub clean_leads : (q : ℕ) → q ≤ last → numbers.side.count + 16 ≤ 32 * last
+      → Leads (number_spots numbers) (number q) (begin + 2 * q) (begin - 9) (begin + 2 * last - 2)
   clean_leads q low large = record {
     inside = omega (arith, inside);
     part = omega (arith, large, two_more);

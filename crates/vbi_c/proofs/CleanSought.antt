@@ -14,20 +14,19 @@ use Rattle.vbi_side.specs.declared.pace.Pace.{Pace}
 use Rattle.vbi_side.specs.declared.pace.Pace.TheVariants.{Video}
 use Rattle.vbi_side.specs.declared.sighting.Sightings.{Sightings}
 use Rattle.vbi_side.specs.Beliefs.{reach, Believed}
-use Rattle.vbi_side.specs.CleanRuns.{IsReadTwice, IsOneOfThree}
+use Rattle.vbi_whole.specs.CleanRuns.{IsReadTwice, IsOneOfThree}
 use Rattle.vbi_side.specs.Clocks.{kept}
-use Rattle.vbi_side.specs.Due.{Due}
-use Rattle.vbi_side.specs.Found.{IsFound}
+use Rattle.vbi_side.specs.DueNumbers.{Due}
+use Rattle.vbi_side.specs.PaceSearch.{IsFound}
 use Rattle.vbi_side.specs.Numbers.{believed, doubtful_of, IsKnown}
 use Rattle.vbi_side.specs.Sightings.{Shows}
-use Rattle.vbi_side.proofs.CleanRuns.{all_believed, finds_video}
+use Rattle.vbi_whole.proofs.CleanRuns.{all_believed, finds_video}
 use Rattle.vbi_side.proofs.Counting.{plain}
 use Rattle.vbi_side.proofs.Filling.{unlike, not_due}
-use Rattle.vbi_c.specs.declared.judging.Asked.TheVariants.{Given, Found}
-use Rattle.vbi_c.specs.declared.search.Seek.{Seek}
+use Rattle.vbi_seek.specs.declared.asked.Asked.TheVariants.{Given, Found}
 use Rattle.vbi_c.specs.Judging.{IsGiven}
-use Rattle.vbi_c.specs.Leads.{IsFirstKnown}
-use Rattle.vbi_c.specs.Seeking.{shown_at, shown_of, around_most, HasOther, IsJudgedIn}
+use Rattle.vbi_seek.specs.NumberLeads.{IsFirstKnown}
+use Rattle.vbi_seek.specs.NumberSearch.{Numbers, shown_at, shown_of, around_most, HasOther, IsJudgedIn}
 use Rattle.vbi_c.proofs.CleanLeading.{part, part_at, inside, two_more, in_part, part_twice}
 
 -- of times the pace is that of video
@@ -49,20 +48,20 @@ three_inside begin last q first many count much low inside (inr before) (inl aft
 three_inside begin last q first many count much low inside (inr before) (inr after) =
     omega (arith, much, low, inside, before, after)
 
-module _ (seek : Seek) (bytes : List ℕ) (count : ℕ) (clock : Clock) (number : ℕ → ℕ) (begin last : ℕ)
-    (each : (p : ℕ) → p ≤ last → IsReadTwice (shown_of seek bytes count) (begin + 2 * p) (number p))
-    (others : (i n : ℕ) → Shows (slice_get (shown_of seek bytes count) i) n
+module _ (numbers : Numbers) (clock : Clock) (number : ℕ → ℕ) (begin last : ℕ)
+    (each : (p : ℕ) → p ≤ last → IsReadTwice (shown_of numbers) (begin + 2 * p) (number p))
+    (others : (i n : ℕ) → Shows (slice_get (shown_of numbers) i) n
     → (p : ℕ) × (p ≤ last) × (i ≡ begin + 2 * p))
     (three : (p : ℕ) → p ≤ last → IsOneOfThree number last p)
     (steps : (p : ℕ) → p ≤ last → kept clock (number p) ≡ kept clock (number 0) + p) where
-  in_count : begin + 2 * last < count
-  in_count = inside seek bytes count clock number begin last each others three steps
+  in_count : begin + 2 * last < numbers.side.count
+  in_count = inside numbers clock number begin last each others three steps
 
   much : 2 ≤ last
-  much = two_more seek bytes count clock number begin last each others three steps
+  much = two_more numbers clock number begin last each others three steps
 
-  believed_at : (p : ℕ) → p ≤ last → Believed Video (shown_of seek bytes count) (begin + 2 * p) (number p)
-  believed_at p low = all_believed number (shown_of seek bytes count) begin last each others three (begin + 2 * p)
+  believed_at : (p : ℕ) → p ≤ last → Believed Video (shown_of numbers) (begin + 2 * p) (number p)
+  believed_at p low = all_believed number (shown_of numbers) begin last each others three (begin + 2 * p)
       (number p) (each p low).1
 
   -- ---- the fields before the one with the number have others
@@ -85,16 +84,16 @@ module _ (seek : Seek) (bytes : List ℕ) (count : ℕ) (clock : Clock) (number 
   blank_known field m (inl e) = unlike field m e
   blank_known field m (inr e) = not_due field m e
 
-  blank_due : (i n : ℕ) → IsBlank i → Due Video (shown_of seek bytes count) i n → ⊥
+  blank_due : (i n : ℕ) → IsBlank i → Due Video (shown_of numbers) i n → ⊥
   blank_due i n blank d =
-      let (j, m, k, l, leaves) = d.left in
-      let b : Believed Video (shown_of seek bytes count) j m = leaves.first in
-      let on : i + 2 * m ≡ j + 2 * n = leaves.on in
-      let before : j < i = leaves.before in
-      let (p, low, at) = others j m b.shown in
+      let (earlier, later, leaves) = d.left in
+      let b : Believed Video (shown_of numbers) earlier.field earlier.number = leaves.first in
+      let on : i + 2 * earlier.number ≡ earlier.field + 2 * n = leaves.on in
+      let before : earlier.field < i = leaves.before in
+      let (p, low, at) = others earlier.field earlier.number b.shown in
       blank ((i - begin) / 2) (omega (arith, on, before, at))
 
-  other_at : (q i : ℕ) → q ≤ last → i < begin + 2 * q → HasOther Video (shown_of seek bytes count) (number q) i
+  other_at : (q i : ℕ) → q ≤ last → i < begin + 2 * q → HasOther Video (shown_of numbers) (number q) i
   other_at q i low before = elim (picture_or_not i) [
     | inl (p, at) ↦
         let less : p < q = omega (arith, at, before) in
@@ -103,7 +102,7 @@ module _ (seek : Seek) (bytes : List ℕ) (count : ℕ) (clock : Clock) (number 
           believed (number p),
           inl (
             number p,
-            subst (λ j. Believed Video (shown_of seek bytes count) j (number p)) (sym at)
+            subst (λ j. Believed Video (shown_of numbers) j (number p)) (sym at)
                 (believed_at p (omega (arith, less, low))),
             refl,
           ),
@@ -111,14 +110,14 @@ module _ (seek : Seek) (bytes : List ℕ) (count : ℕ) (clock : Clock) (number 
         )
     | inr blank ↦
         let place : 0 + i ≡ i = omega arith in
-        let at = part_at seek bytes 0 count i (omega (arith, before, low, in_count)) in (
-          doubtful_of (shown_at seek bytes (0 + i)),
+        let at = part_at numbers 0 numbers.side.count i (omega (arith, before, low, in_count)) in (
+          doubtful_of (shown_at numbers (0 + i)),
           inr (inr (
             λ n b. let (p, inside_run, is) = others i n b.shown in blank p is,
             λ n d. blank_due i n blank d,
-            (shown_at seek bytes (0 + i), at, refl),
+            (shown_at numbers (0 + i), at, refl),
           )),
-          blank_known (shown_at seek bytes (0 + i)) (number q),
+          blank_known (shown_at numbers (0 + i)) (number q),
         )
   ]
 
@@ -126,18 +125,18 @@ module _ (seek : Seek) (bytes : List ℕ) (count : ℕ) (clock : Clock) (number 
 
   -- of a disc that leaves out no number, a part around a picture is a run itself
   part_paced : (q first many : ℕ) (system : System) (counted : Counted) (found : Pace) → clock ≡ Plain → q ≤ last
-      → first + many ≤ count → (first ≡ 0) ⊎ (first + 2 * reach ≤ begin + 2 * q)
-      → (first + many ≡ count) ⊎ (begin + 2 * q + 2 * reach < first + many)
-      → IsFound system counted (part seek bytes first many) found → found ≡ Video
+      → first + many ≤ numbers.side.count → (first ≡ 0) ⊎ (first + 2 * reach ≤ begin + 2 * q)
+      → (first + many ≡ numbers.side.count) ⊎ (begin + 2 * q + 2 * reach < first + many)
+      → IsFound system counted (part numbers first many) found → found ≡ Video
   part_paced q first many system counted found none low within before after is =
-      finds_video (λ p. number (from + p)) (part seek bytes first many) (begin + 2 * from - first) (to - from)
+      finds_video (λ p. number (from + p)) (part numbers first many) (begin + 2 * from - first) (to - from)
       (λ p less. let place : begin + 2 * (from + p) - first ≡ begin + 2 * from - first + 2 * p
       = omega (arith, starts) in
-      subst (λ i. IsReadTwice (part seek bytes first many) i (number (from + p))) place
-      (part_twice seek bytes count clock number begin last each others three steps first many (from + p)
+      subst (λ i. IsReadTwice (part numbers first many) i (number (from + p))) place
+      (part_twice numbers clock number begin last each others three steps first many (from + p)
       (omega (arith, starts)) (omega (arith, less, far.0, far.1)) within (omega (arith, less, far.0, far.1))))
       (λ i n shown. let (p, high, at, same, inside_part)
-      = in_part seek bytes count clock number begin last each others three steps first many i n within shown in
+      = in_part numbers clock number begin last each others three steps first many i n within shown in
       (p - from, omega (arith, at, high, inside_part), omega (arith, at)))
       (λ p less. elim (leb_tells p 2) [
         | inl (t, early) ↦ (0, omega arith, early, far.0, on 0 1 (omega (arith, far.0)), on 0 2 (omega (arith, far.0)))
@@ -162,7 +161,7 @@ module _ (seek : Seek) (bytes : List ℕ) (count : ℕ) (clock : Clock) (number 
       starts = omega arith
 
       far : (2 ≤ to - from) × (to ≤ last)
-      far = (three_inside begin last q first many count much low in_count before after, omega arith)
+      far = (three_inside begin last q first many numbers.side.count much low in_count before after, omega arith)
 
       by_steps : (p : ℕ) → p ≤ last → number p ≡ number 0 + p
       by_steps p less =
@@ -179,12 +178,12 @@ module _ (seek : Seek) (bytes : List ℕ) (count : ℕ) (clock : Clock) (number 
 
   -- the pace of video is asked for, or what is found can only be that
   abbrev Asks : Type 0
-  Asks = (seek.judging.asked ≡ Given Video)
-      ⊎ ((seek.judging.asked ≡ Found)
-      × ((clock ≡ Plain) ⊎ (seek.judging.counted ≡ Times) ⊎ (seek.judging.system ≡ Pal)))
+  Asks = (numbers.judging.asked ≡ Given Video)
+      ⊎ ((numbers.judging.asked ≡ Found)
+      × ((clock ≡ Plain) ⊎ (numbers.judging.counted ≡ Times) ⊎ (numbers.judging.system ≡ Pal)))
 
   pub first_known : (q : ℕ) → q ≤ last → Asks
-      → IsFirstKnown seek bytes count (number q) (begin + 2 * q) Video
+      → IsFirstKnown numbers (number q) (begin + 2 * q) Video
   first_known q low asks = record {
     inside = omega (arith, low, in_count);
     known = (believed (number q), inl (number q, believed_at q low, refl), inl refl);
@@ -193,15 +192,15 @@ module _ (seek : Seek) (bytes : List ℕ) (count : ℕ) (clock : Clock) (number 
   }
     where
       asked : (first many : ℕ) (found : Pace) → many ≤ around_most
-          → IsJudgedIn seek bytes count (begin + 2 * q) first many found → found ≡ Video
+          → IsJudgedIn numbers (begin + 2 * q) first many found → found ≡ Video
       asked first many found few is = elim asks [
         | inl given ↦ subst (λ a. IsGiven a found) given is.asked.0
-        | inr (sought, inl none) ↦ part_paced q first many seek.judging.system seek.judging.counted found none low
+        | inr (sought, inl none) ↦ part_paced q first many numbers.judging.system numbers.judging.counted found none low
             is.inside is.before is.after (is.asked.1 sought)
-        | inr (sought, inr (inl times)) ↦ of_times seek.judging.system found (part seek bytes first many)
-            (subst (λ (c : Counted). IsFound seek.judging.system c (part seek bytes first many) found) times
+        | inr (sought, inr (inl times)) ↦ of_times numbers.judging.system found (part numbers first many)
+            (subst (λ (c : Counted). IsFound numbers.judging.system c (part numbers first many) found) times
             (is.asked.1 sought))
         | inr (sought, inr (inr pal)) ↦
-            subst (λ (s : System). IsFound s seek.judging.counted (part seek bytes first many) found) pal
+            subst (λ (s : System). IsFound s numbers.judging.counted (part numbers first many) found) pal
             (is.asked.1 sought)
       ]

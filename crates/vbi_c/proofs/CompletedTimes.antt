@@ -27,13 +27,13 @@ shown_word word pass (low, high) =
 -- the word that completes a field is one
 completed_word : (system : words.System) (line_16 : Shown) (seen : List Sightings) (i word : ℕ)
     → IsCompleted system line_16 seen i word → IsWord word
-completed_word system line_16 seen i word (part, m, completed) =
+completed_word system line_16 seen i word (part, m, has, completed) =
     subst IsWord (sym completed.word_is) (word_of_minute (m / minute_of system) completed.early)
 
 -- where votes are sound the lines of a completed field tell the number of the disc
 told_lines : (system : words.System) (recorded : ℕ → Option ℕ) (seen : List Sightings) (lines : List LdvbiReading)
     (i part m word : ℕ) → part_of system (lines_of lines).line_16 ≡ Some part
-    → IsVotedSoundly recorded (minute_of system) seen i part m
+    → IsVotedSoundly recorded (record { minute = minute_of system; field = i; part = part }) seen m
     → IsCompleted system (lines_of lines).line_16 seen i word
     → TellsTime system m (record { lines = with_time word lines })
 told_lines system recorded seen (line_16 ∷ line_17 ∷ line_18 ∷ []) i part m word has voted completed =
@@ -46,7 +46,7 @@ told_lines system recorded seen other i part m word has voted completed =
 -- a field is as it was then, or tells that number
 pub told_field : (system : words.System) (recorded : ℕ → Option ℕ) (seen : List Sightings) (i part m : ℕ)
     (before after : LdvbiFieldReadings) → part_of system (lines_in before).line_16 ≡ Some part
-    → IsVotedSoundly recorded (minute_of system) seen i part m
+    → IsVotedSoundly recorded (record { minute = minute_of system; field = i; part = part }) seen m
     → IsCompletedField system seen i before after → (after ≡ before) ⊎ TellsTime system m after
 told_field system recorded seen i part m before after has voted (inl (word, completed, is)) =
     inr (subst (TellsTime system m) (sym is)
@@ -56,13 +56,13 @@ told_field system recorded seen i part m before after has voted (inr (none, is))
 -- where they are right it tells it if it shows no time
 pub told_unseen : (system : words.System) (recorded : ℕ → Option ℕ) (seen : List Sightings) (i part m : ℕ)
     (before after : LdvbiFieldReadings) → part_of system (lines_in before).line_16 ≡ Some part
-    → IsVotedRightly recorded (minute_of system) seen i part m
+    → IsVotedRightly recorded (record { minute = minute_of system; field = i; part = part }) seen m
     → ((n : ℕ) → Shows (slice_get seen i) n → ⊥) → m / minute_of system < 600
     → IsCompletedField system seen i before after → TellsTime system m after
 told_unseen system recorded seen i part m before after has voted unseen early (inl (word, completed, is)) =
     subst (TellsTime system m) (sym is)
     (told_lines system recorded seen before.lines i part m word has
-    (rightly_soundly recorded (minute_of system) seen i part m voted) completed)
+    (rightly_soundly recorded _ seen m voted) completed)
 told_unseen system recorded seen i part m before after has voted unseen early (inr (none, is)) =
     absurd (none (time_word (m / minute_of system))
     (completed_rightly recorded system (lines_in before).line_16 seen i part m has voted unseen early))

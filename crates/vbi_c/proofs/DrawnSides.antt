@@ -17,16 +17,12 @@ use Rattle.vbi_near.specs.Recovery.{alone, stands_of, shown_in, none_erased, row
 use Rattle.vbi_near.proofs.Kept.{sure-shown}
 use Rattle.vbi_field.specs.ConfigView.{ConfigView}
 use Rattle.vbi_field.specs.Draws.{draw_out, AreDrawable}
-use Rattle.vbi_field.specs.Shown.{recovery_of}
 use Rattle.vbi_field.specs.declared.word_row.WordRow.{WordRow}
 use Rattle.vbi_field.proofs.DrawnReads.{drawn_field}
-use Rattle.vbi_field.proofs.OneShown.{is_shown}
 use Rattle.vbi_side.specs.Misread.{numbers_in}
-use Rattle.vbi_c.specs.declared.search.Seek.{Seek}
-use Rattle.vbi_c.specs.Fields.{field_in}
-use Rattle.vbi_c.specs.Judging.{lines_of}
-use Rattle.vbi_c.specs.Recovering.{code_bytes, recovered_for_c}
-use Rattle.vbi_c.specs.Seeking.{shown_at}
+use Rattle.vbi_seek.specs.FieldLines.{Side, code_bytes, field_in, lines_by, recovered_at}
+use Rattle.vbi_seek.specs.NumberSearch.{Numbers, shown_at}
+use Rattle.vbi_seek.proofs.OneRecovery.{is_recovered}
 
 -- ---- bytes
 
@@ -74,17 +70,19 @@ line_read system levels bytes i k word few is =
 three : (a b c d e f : Recovered) → a ≡ d → b ≡ e → c ≡ f → a ∷ b ∷ c ∷ [] ≡ d ∷ e ∷ f ∷ []
 three a b c d e f one two last = cc
 
-recovered : (system : System) (levels : Slicing) (bytes : List ℕ) (rows : List WordRow) (i : ℕ) (words : WordRow)
-    → levels.black < levels.white
-    → bytes ≡ draw_out (record { system = system; levels = levels; max_fields = 5 }) rows
-    → slice_get rows i ≡ Some words → AreDrawable words
-    → recovery_of system levels (code_bytes system (field_in system bytes i)) (none_erased system)
+recovered : (side : Side) (rows : List WordRow) (i : ℕ) (words : WordRow)
+    → side.setup.levels.black < side.setup.levels.white
+    → side.bytes ≡ draw_out (record { system = side.setup.system; levels = side.setup.levels; max_fields = 5 }) rows
+    → slice_get rows i ≡ Some words → AreDrawable words → recovered_at side i
     ≡ drawn_as words.first ∷ drawn_as words.second ∷ drawn_as words.third ∷ []
-recovered system levels bytes rows i words order drawn at are =
+recovered side rows i words order drawn at are =
+    let system = side.setup.system in
+    let levels = side.setup.levels in
+    let bytes = side.bytes in
     let c : ConfigView = record { system = system; levels = levels; max_fields = 5 } in
     let read = drawn_field c rows i words order at are in
     let code = code_bytes system (field_in system bytes i) in
-    let (first, second, last, both, seen, is) = is_shown system levels code (none_erased system) in
+    let (first, second, last, both, seen, is) = is_recovered side.setup code in
     let unit = unit_of levels in
     let first_is = line_read system levels bytes i 0 words.first (omega arith)
     (subst (λ (z : List ℕ). IsReading system (row_levels levels (line_at system z i 15)) (drawn_reading words.first))
@@ -105,14 +103,16 @@ recovered system levels bytes rows i words order drawn at are =
     (seen.line_18.reading ∙ third_is) (sure words.third))
 
 -- what a search sees of it
-pub drawn_shown : (seek : Seek) (bytes : List ℕ) (rows : List WordRow) (i : ℕ) (words : WordRow)
-    → seek.setup.levels.black < seek.setup.levels.white
-    → bytes ≡ draw_out (record { system = seek.setup.system; levels = seek.setup.levels; max_fields = 5 }) rows
+pub drawn_shown : (numbers : Numbers) (rows : List WordRow) (i : ℕ) (words : WordRow)
+    → numbers.side.setup.levels.black < numbers.side.setup.levels.white
+    → numbers.side.bytes ≡ draw_out (record {
+      system = numbers.side.setup.system;
+      levels = numbers.side.setup.levels;
+      max_fields = 5;
+    }) rows
     → slice_get rows i ≡ Some words → AreDrawable words
-    → shown_at seek bytes i ≡ numbers_in seek.judging.system seek.judging.counted
-    (lines_of (recovered_for_c (drawn_as words.first) ∷ recovered_for_c (drawn_as words.second)
-    ∷ recovered_for_c (drawn_as words.third) ∷ []))
-drawn_shown seek bytes rows i words order drawn at are =
-    ap (λ (lines : List Recovered). numbers_in seek.judging.system seek.judging.counted
-    (lines_of (map recovered_for_c lines)))
-    (recovered seek.setup.system seek.setup.levels bytes rows i words order drawn at are)
+    → shown_at numbers i ≡ numbers_in numbers.judging.system numbers.judging.counted
+    (lines_by (drawn_as words.first ∷ drawn_as words.second ∷ drawn_as words.third ∷ []))
+drawn_shown numbers rows i words order drawn at are =
+    ap (λ (lines : List Recovered). numbers_in numbers.judging.system numbers.judging.counted
+    (lines_by lines)) (recovered numbers.side rows i words order drawn at are)

@@ -9,10 +9,10 @@ use Rattle.std.proofs.lemmas.List.FromFn.{map-range_with_len_more}
 use Rattle.vbi_words.specs.declared.system.System.{System}
 use Rattle.vbi_words.specs.Geometry.{width_of, line_at}
 use Rattle.vbi_near.specs.Candidates.{Row, row_of}
-use Rattle.vbi_near.specs.Piled.{row_in, rows_in, IsSaidTogether}
+use Rattle.vbi_near.specs.PileRule.{row_in, rows_in, IsSaidTogether}
 use Rattle.vbi_c.specs.declared.erased.LdvbiErased.{LdvbiErased}
 use Rattle.vbi_c.specs.Erased.{line_marks}
-use Rattle.vbi_c.specs.declared.setup.Setup.{Setup}
+use Rattle.vbi_seek.specs.declared.side_bytes.Setup.{Setup}
 use Rattle.vbi_c.specs.Piling.{HasMarks, row_erased, rows_erased, count_in}
 
 -- the first items of the first items

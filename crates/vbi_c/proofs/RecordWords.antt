@@ -12,7 +12,7 @@ use Rattle.vbi_field.specs.Shown.{recovery_of, joined_rows, as_readings}
 use Rattle.vbi_field.specs.Stream.{rows_in}
 use Rattle.vbi_field.proofs.OneShown.{only_shown}
 use Rattle.vbi_c.specs.declared.fields.LdvbiFieldReadings.{LdvbiFieldReadings}
-use Rattle.vbi_c.specs.declared.setup.Setup.{Setup}
+use Rattle.vbi_seek.specs.declared.side_bytes.Setup.{Setup}
 use Rattle.vbi_c.specs.Record.{lines_for_c, HasWordsOf}
 use Rattle.vbi_c.specs.Recovering.{AreRecovered, recovered_for_c}
 

@@ -1,38 +1,70 @@
--- A side that is called whole by what the calls answer one after the other.
+-- What the calls answer of a side one after the other, and a side that is called whole by that.
 use Rattle.std.specs.Prelude.{◌≡◌, ℕ, ◌+◌, ◌<◌, ◌≤◌, Bool, List, Option}
-use Rattle.vbi_side.specs.declared.clock.Clock.{Clock}
-use Rattle.vbi_side.specs.declared.gap.Gap.{Gap}
+use Rattle.vbi_whole.specs.declared.gap.Gap.{Gap}
 use Rattle.vbi_side.specs.declared.number.Number.{Number}
+use Rattle.vbi_side.specs.declared.pace.Pace as paces
 use Rattle.vbi_side.specs.declared.sighting.Sightings.{Sightings}
-use Rattle.vbi_side.specs.declared.verdict.Finding.{Finding}
+use Rattle.vbi_whole.specs.declared.verdict.Finding.{Finding}
 use Rattle.vbi_side.specs.Clocks.{IsClearAt}
-use Rattle.vbi_side.specs.Side.{Rises, captured}
-use Rattle.vbi_side.specs.Truth.{wrong_weight}
-use Rattle.vbi_side.specs.Verdicts.{IsFinding}
+use Rattle.vbi_side.specs.Side.{Rises, captured, AreLost}
+use Rattle.vbi_side.specs.Truth.{wrong_weight, IsNear}
+use Rattle.vbi_whole.specs.Verdicts.{IsFinding}
 use Rattle.vbi_c.specs.declared.fields.LdvbiFieldReadings.{LdvbiFieldReadings}
-use Rattle.vbi_c.specs.declared.judging.Judging.{Judging}
+use Rattle.vbi_seek.specs.declared.asked.Judging.{Judging}
 use Rattle.vbi_c.specs.declared.whole_side.Siding.{Siding}
 use Rattle.vbi_c.specs.Judging.{AreJudged}
 use Rattle.vbi_c.specs.WholeSides.{slack_by}
+use Rattle.vbi_whole.specs.Gaps.{Judged, to_judge, rule_by}
 
--- the numbers are what ldvbi_judge answers at the pace by which the side is judged, the side is called whole, its
--- fields stand in the disc's order, its first and last number are 48 fields or more apart, and the words misread near
--- each of the two weigh less than 10
-pub record IsCalledWhole (disc : ℕ → Option ℕ) (place : ℕ → ℕ) (judging : Judging) (readings : List LdvbiFieldReadings)
-    (seen : List Sightings) (numbers : List Number) (siding : Siding) (both : ℕ) (side : Finding) : Type 0 where
-  pub judged : AreJudged judging readings seen numbers siding.pace
-  pub may_end : Bool
+-- what the calls are given of a side, and what they answer: ldvbi_judge of its readings, and then ldvbi_judge_side,
+-- with the gaps before the call and after it
+pub record Called : Type 0 where
+  pub judging : Judging
+  pub readings : List LdvbiFieldReadings
+  pub seen : List Sightings
+  pub numbers : List Number
   pub ends : List ℕ
+  pub siding : Siding
+  pub both : ℕ
+  pub may_end : Bool
   pub old : List Gap
   pub new : List Gap
-  pub found : IsFinding siding.pace (slack_by siding.pace both numbers) siding.numbering may_end seen numbers ends side
-      old new
-  pub whole : side.verdict ≡ 1
+  pub side : Finding
+
+-- by how many fields its numbers may be off from each other, at this pace
+abbrev pub slack_at : paces.Pace → Called → ℕ
+slack_at pace called = slack_by pace called.both called.numbers
+
+-- the side as it is judged at this pace and to within so many fields
+abbrev pub judged_at : Called → paces.Pace → ℕ → Judged
+judged_at called pace slack =
+    to_judge (rule_by pace slack called.siding.numbering) called.seen called.numbers called.ends
+
+-- this is found of it then
+abbrev pub Finds : Called → paces.Pace → ℕ → Type 0
+Finds called pace slack = IsFinding (judged_at called pace slack) called.may_end called.side called.old called.new
+
+-- the calls answer so: the side is judged at the pace at which its numbers were
+pub record IsAnswered (called : Called) : Type 0 where
+  pub judged : AreJudged called.judging called.readings called.seen called.numbers called.siding.pace
+  pub found : Finds called called.siding.pace (slack_at called.siding.pace called)
+
+-- the side is called whole, its fields stand in the disc's order, its first and last number are 48 fields or more
+-- apart, and the words misread near each of the two weigh less than 10
+pub record IsCalledWhole (disc : ℕ → Option ℕ) (place : ℕ → ℕ) (called : Called) : Type 0 where
+  pub answered : IsAnswered called
+  pub whole : called.side.verdict ≡ 1
   pub rises : Rises place
-  pub few : wrong_weight (captured disc place) seen side.first < 10
-  pub low : wrong_weight (captured disc place) seen side.last < 10
-  pub far : side.first + 48 ≤ side.last
+  pub few : wrong_weight (captured disc place) called.seen called.side.first < 10
+  pub low : wrong_weight (captured disc place) called.seen called.side.last < 10
+  pub far : called.side.first + 48 ≤ called.side.last
 
 -- the clock leaves out no number near the first one and the last one
-abbrev pub AreClearEnds : Clock → List Number → Finding → Type 0
-AreClearEnds clock numbers side = IsClearAt clock numbers side.first × IsClearAt clock numbers side.last
+abbrev pub AreClearEnds : Called → Type 0
+AreClearEnds called = IsClearAt called.siding.numbering.clock called.numbers called.side.first
+    × IsClearAt called.siding.numbering.clock called.numbers called.side.last
+
+-- at most so many fields are lost between a field near the first number and one near the last
+abbrev pub AreFewLost : (ℕ → ℕ) → Called → ℕ → Type 0
+AreFewLost place called most = (p q some : ℕ) × IsNear called.side.first p × IsNear called.side.last q
+    × AreLost place p q some × (some ≤ most)

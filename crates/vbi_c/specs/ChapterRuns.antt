@@ -1,7 +1,7 @@
 -- Captures whose chapters leave nothing to doubt: one run of a disc, each chapter code of which was read.
 use Rattle.std.specs.Prelude.{◌≡◌, ◌≢◌, ◌<◌, ◌≤◌, ◌+◌, ℕ, List}
 use Rattle.vbi_side.specs.declared.sighting.Sightings.{Sightings}
-use Rattle.vbi_side.specs.CleanRuns.{IsReadRun}
+use Rattle.vbi_whole.specs.CleanRuns.{IsReadRun}
 
 -- from field `begin` on every other field shows the chapter of the next picture on both lines, in pass 1, up to picture
 -- `last`; no other field shows one. Chapters never fall, and each lasts three pictures or more

@@ -2,12 +2,12 @@
 use Rattle.std.specs.Prelude.{◌≡◌, ℕ, ◌==◌, ◌&&◌, ◌⊎◌, nat_lt, true, false, if◌then◌else◌, List, Option, Some, None}
 use Rattle.vbi_side.specs.declared.clock.Clock.{Clock}
 use Rattle.vbi_side.specs.declared.clock.Clock.TheVariants.{Plain, DropFrame, OneIn}
-use Rattle.vbi_side.specs.declared.gap.Numbering.{Numbering}
+use Rattle.vbi_whole.specs.declared.gap.Numbering.{Numbering}
 use Rattle.vbi_side.specs.declared.number.Number.{Number}
 use Rattle.vbi_side.specs.declared.pace.Pace.{Pace}
 use Rattle.vbi_side.specs.Clocks.{IsProper}
-use Rattle.vbi_side.specs.ClocksFound.{IsClockTold, ExplainsMost}
-use Rattle.vbi_side.specs.Gaps.{has_clock}
+use Rattle.vbi_whole.specs.ClockSearch.{IsClockTold, ExplainsMost}
+use Rattle.vbi_whole.specs.Gaps.{has_clock, rule_by}
 use Rattle.vbi_c.specs.declared.clock.LdvbiClock.{LdvbiClock}
 
 -- the clock of these numbers: 0 for none, 1 for drop-frame, 2 for one number in a period, whose phase is below it
@@ -31,6 +31,7 @@ clock_for_c (OneIn period phase) = clock_as 2 period phase
 -- which they don't go on, and that of the numbering if the disc has none
 pub record IsClockFound (pace : Pace) (slack : ℕ) (numbering : Numbering) (answers : List Number) (clock : Clock)
     : Type 0 where
-  pub told : (clock ≡ numbering.clock) ⊎ (IsProper clock × IsClockTold clock pace slack answers)
-  pub drop : has_clock numbering ≡ true → ExplainsMost DropFrame pace slack answers → clock ≡ DropFrame
+  pub told : (clock ≡ numbering.clock) ⊎ (IsProper clock × IsClockTold clock (rule_by pace slack numbering) answers)
+  pub drop : has_clock numbering ≡ true → ExplainsMost DropFrame (rule_by pace slack numbering) answers → clock
+      ≡ DropFrame
   pub none : has_clock numbering ≡ false → clock ≡ numbering.clock

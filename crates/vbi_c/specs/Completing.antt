@@ -1,5 +1,5 @@
 -- The completing of times, as C asks for it: first the system is looked at, then the lengths of the arrays.
-use Rattle.std.specs.Prelude.{◌≡◌, ℕ, ◌/◌, ◌<◌, ◌==◌, ◌&&◌, ◌⊎◌, List, [], ◌∷◌, length, slice_get, Option, Some}
+use Rattle.std.specs.Prelude.{◌≡◌, ℕ, ◌/◌, ◌<◌, ◌⊎◌, List, [], ◌∷◌, length, slice_get, Option, Some}
 use Rattle.std.specs.Prelude.{Result}
 use Rattle.vbi_words.specs.declared.system.System as words
 use Rattle.vbi_side.specs.declared.lines.Counted.TheVariants.{Times}
@@ -9,17 +9,17 @@ use Rattle.vbi_side.specs.Lines.{pass_weight}
 use Rattle.vbi_side.specs.Misread.{numbers_in}
 use Rattle.vbi_side.specs.Votes.{minute_of, part_of, IsCompleted, IsVotedSoundly, IsVotedRightly}
 use Rattle.vbi_c.specs.declared.fields.LdvbiFieldReadings.{LdvbiFieldReadings}
-use Rattle.vbi_c.specs.declared.judging.Judging.{Judging}
-use Rattle.vbi_c.specs.declared.judging.Asked.TheVariants.{Found}
+use Rattle.vbi_seek.specs.declared.asked.Judging.{Judging}
+use Rattle.vbi_seek.specs.declared.asked.Asked.TheVariants.{Found}
 use Rattle.vbi_c.specs.declared.reading.LdvbiReading.{LdvbiReading}
 use Rattle.vbi_c.specs.declared.status.Refusal.{Refusal}
-use Rattle.vbi_c.specs.Judging.{with_lengths, lines_in}
+use Rattle.vbi_c.specs.Judging.{are_as_long, with_lengths, lines_in}
 use Rattle.vbi_c.specs.Setups.{system_of}
 
 -- the system of a call, with arrays that are both as long as that of the readings
 abbrev pub completing_of : ℕ → ℕ → ℕ → ℕ → Result words.System Refusal
 completing_of system count seen completed =
-    with_lengths (system_of system) (seen == count && completed == count)
+    with_lengths (system_of system) (are_as_long count seen completed)
 
 -- what asks for the times that fields show; the pace says nothing there
 abbrev pub times_of : words.System → Judging
@@ -57,9 +57,10 @@ pub record AreCompleted (system : words.System) (readings : List LdvbiFieldReadi
   pub right : (recorded : ℕ → Option ℕ) (i part m : ℕ) (before after : LdvbiFieldReadings)
       → slice_get readings i ≡ Some before → slice_get completed i ≡ Some after
       → part_of system (lines_in before).line_16 ≡ Some part
-      → IsVotedSoundly recorded (minute_of system) seen i part m → (after ≡ before) ⊎ TellsTime system m after
+      → IsVotedSoundly recorded (record { minute = minute_of system; field = i; part = part }) seen m
+      → (after ≡ before) ⊎ TellsTime system m after
   pub whole : (recorded : ℕ → Option ℕ) (i part m : ℕ) (before after : LdvbiFieldReadings)
       → slice_get readings i ≡ Some before → slice_get completed i ≡ Some after
       → part_of system (lines_in before).line_16 ≡ Some part
-      → IsVotedRightly recorded (minute_of system) seen i part m
+      → IsVotedRightly recorded (record { minute = minute_of system; field = i; part = part }) seen m
       → ((n : ℕ) → Shows (slice_get seen i) n → ⊥) → m / minute_of system < 600 → TellsTime system m after

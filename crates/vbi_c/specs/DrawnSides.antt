@@ -5,8 +5,8 @@ use Rattle.vbi_words.specs.Levels.{Slicing}
 use Rattle.vbi_field.specs.Draws.{draw_out, no_words}
 use Rattle.vbi_field.specs.declared.word_row.WordRow.{WordRow}
 use Rattle.vbi_side.specs.declared.lines.Counted.TheVariants.{Pictures}
-use Rattle.vbi_c.specs.declared.judging.Asked.{Asked}
-use Rattle.vbi_c.specs.declared.search.Seek.{Seek}
+use Rattle.vbi_seek.specs.declared.asked.Asked.{Asked}
+use Rattle.vbi_seek.specs.NumberSearch.{Numbers}
 
 -- the bytes of a side of pictures 1, 2 and 3, each on lines 17 and 18 of its first field, between fields without words
 abbrev pub picture_row : ℕ → WordRow
@@ -18,9 +18,13 @@ picture_rows = picture_row 0xF00001 ∷ no_words ∷ picture_row 0xF00002 ∷ no
 abbrev pub drawn_side : System → Slicing → List ℕ
 drawn_side system levels = draw_out (record { system = system; levels = levels; max_fields = 5 }) picture_rows
 
--- a picture is sought on it
-abbrev pub sought_on : System → Slicing → Asked → Seek
-sought_on system levels asked = record {
-  setup = record { system = system; levels = levels };
+-- its picture numbers
+abbrev pub drawn_numbers : System → Slicing → Asked → Numbers
+drawn_numbers system levels asked = record {
+  side = record {
+    setup = record { system = system; levels = levels };
+    bytes = drawn_side system levels;
+    count = 5;
+  };
   judging = record { system = system; counted = Pictures; asked = asked };
 }

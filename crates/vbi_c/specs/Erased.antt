@@ -6,7 +6,7 @@ use Rattle.vbi_words.specs.declared.system.System as words
 use Rattle.vbi_words.specs.Geometry.{width_of}
 pub use Rattle.vbi_near.specs.Recovery.{none_erased}
 use Rattle.vbi_c.specs.declared.erased.LdvbiErased.{LdvbiErased}
-use Rattle.vbi_c.specs.declared.setup.Setup.{Setup}
+use Rattle.vbi_seek.specs.declared.side_bytes.Setup.{Setup}
 use Rattle.vbi_c.specs.declared.status.Refusal.{Refusal}
 use Rattle.vbi_c.specs.declared.status.Refusal.TheVariants.{Erased}
 use Rattle.vbi_c.specs.Statuses.{in_turn}

@@ -1,9 +1,10 @@
 -- The readings of a field's lines 16, 17 and 18, and of each field of a stream, as C sees them.
-use Rattle.std.specs.Prelude.{ℕ, ◌+◌, ◌*◌, List, [], ◌∷◌, take, drop, map}
+use Rattle.std.specs.Prelude.{ℕ, ◌+◌, List, [], ◌∷◌, map}
 use Rattle.std.specs.List.{range_with_len}
 use Rattle.vbi_words.specs.declared.system.System.{System}
-use Rattle.vbi_words.specs.Geometry.{field_bytes, line_at}
-use Rattle.vbi_c.specs.declared.setup.Setup.{Setup}
+use Rattle.vbi_words.specs.Geometry.{line_at}
+pub use Rattle.vbi_seek.specs.FieldLines.{field_in}
+use Rattle.vbi_seek.specs.declared.side_bytes.Setup.{Setup}
 use Rattle.vbi_c.specs.declared.fields.LdvbiFieldReadings.{LdvbiFieldReadings}
 use Rattle.vbi_c.specs.Readings.{line_reading}
 
@@ -19,10 +20,6 @@ rows_reading setup rows = record { lines = map (line_reading setup) rows }
 -- the readings of a field's lines 16, 17 and 18, which are its rows 15, 16 and 17
 abbrev pub field_reading : Setup → List ℕ → LdvbiFieldReadings
 field_reading setup field = rows_reading setup (three_rows setup.system field 15)
-
--- the bytes of a field of a stream, counted from 0
-abbrev pub field_in : System → List ℕ → ℕ → List ℕ
-field_in system stream i = take (field_bytes system) (drop (field_bytes system * i) stream)
 
 -- the readings of the first fields of a stream
 abbrev pub fields_reading : Setup → List ℕ → ℕ → List LdvbiFieldReadings

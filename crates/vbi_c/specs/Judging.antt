@@ -10,17 +10,17 @@ use Rattle.vbi_side.specs.declared.number.Number.{Number}
 use Rattle.vbi_side.specs.declared.pace.Pace as paces
 use Rattle.vbi_side.specs.declared.pace.Pace.TheVariants.{Video, Film}
 use Rattle.vbi_side.specs.declared.sighting.Sightings.{Sightings}
-use Rattle.vbi_side.specs.Found.{IsFound}
 use Rattle.vbi_side.specs.Numbers.{believed, due, AreAnswers, AreRight, IsAnswer}
 use Rattle.vbi_side.specs.Truth.{IsRegular, IsSoundStill}
-use Rattle.vbi_side.specs.Misread.{Lines, Words, numbers_in, IsRead}
+use Rattle.vbi_side.specs.Misread.{Capture, Lines, Words, numbers_in, IsRead}
 use Rattle.vbi_c.specs.declared.fields.LdvbiFieldReadings.{LdvbiFieldReadings}
-use Rattle.vbi_c.specs.declared.judging.Judging.{Judging}
-use Rattle.vbi_c.specs.declared.judging.Asked.{Asked}
-use Rattle.vbi_c.specs.declared.judging.Asked.TheVariants.{Given, Found}
+use Rattle.vbi_seek.specs.declared.asked.Judging.{Judging}
+use Rattle.vbi_seek.specs.declared.asked.Asked.{Asked}
+use Rattle.vbi_seek.specs.declared.asked.Asked.TheVariants.{Given, Found}
 use Rattle.vbi_c.specs.declared.reading.LdvbiReading.{LdvbiReading}
 use Rattle.vbi_c.specs.declared.status.Refusal.{Refusal}
 use Rattle.vbi_c.specs.declared.status.Refusal.TheVariants.{System, Length, Counted, Pace}
+pub use Rattle.vbi_seek.specs.Asked.{IsGiven, IsAskedPace}
 use Rattle.vbi_c.specs.Setups.{system_of}
 use Rattle.vbi_c.specs.Statuses.{in_turn}
 use Rattle.vbi_side.specs.Parts.{part_most, IsPart}
@@ -37,6 +37,10 @@ asked_of number =
     if number == 1 then Some (Given Video)
     else (if number == 2 then Some (Given Film) else (if number == 3 then Some Found else None))
 
+-- both other arrays of a call are as long as its first
+abbrev pub are_as_long : ℕ → ℕ → ℕ → Bool
+are_as_long count first second = first == count && second == count
+
 -- a system, if the lengths fit
 abbrev pub with_lengths : Option words.System → Bool → Result words.System Refusal
 with_lengths system fit = in_turn (ok_or system System) (λ system. if fit then Ok system else Err Length)
@@ -46,10 +50,10 @@ abbrev pub with_pace : Result words.System Refusal → Option side.Counted → O
 with_pace system counted asked = in_turn system (λ system. in_turn (ok_or counted Counted) (λ counted.
     in_turn (ok_or asked Pace) (λ asked. Ok (record { system = system; counted = counted; asked = asked }))))
 
--- what the numbers of a call ask for, with arrays that are both as long as that of the readings
-abbrev pub judging_of : ℕ → ℕ → ℕ → ℕ → ℕ → ℕ → Result Judging Refusal
-judging_of system counted pace count seen numbers =
-    with_pace (with_lengths (system_of system) (seen == count && numbers == count)) (counted_of counted) (asked_of pace)
+-- what the numbers of a call ask for, of arrays whose lengths fit or don't
+abbrev pub judging_of : ℕ → ℕ → ℕ → Bool → Result Judging Refusal
+judging_of system counted pace fit =
+    with_pace (with_lengths (system_of system) fit) (counted_of counted) (asked_of pace)
 
 -- ---- what is answered
 
@@ -76,20 +80,20 @@ lines_in readings = lines_of readings.lines
 abbrev pub seen_in : Judging → LdvbiFieldReadings → Sightings
 seen_in judging readings = numbers_in judging.system judging.counted (lines_in readings)
 
--- a pace that is given is this one
-abbrev pub IsGiven : Asked → paces.Pace → Type 0
-IsGiven (Given given) pace = pace ≡ given
-IsGiven Found pace = Unit {0}
-
--- the pace is the one that is asked for: the one that was given, or the one that is found
-abbrev pub IsAskedPace : Judging → List Sightings → paces.Pace → Type 0
-IsAskedPace judging seen pace =
-    IsGiven judging.asked pace × (judging.asked ≡ Found → IsFound judging.system judging.counted seen pace)
-
 -- a pace as C sees it
 abbrev pub pace_for_c : paces.Pace → ℕ
 pace_for_c Video = 1
 pace_for_c Film = 2
+
+-- the capture that has these readings of a disc
+abbrev pub capture_of : Judging → List LdvbiFieldReadings → (ℕ → Words) → (ℕ → Option ℕ) → Capture
+capture_of judging readings disc recorded = record {
+  system = judging.system;
+  counted = judging.counted;
+  lines = map lines_in readings;
+  disc = disc;
+  recorded = recorded;
+}
 
 -- the numbers are the answers of these fields at the pace that is asked for; a believed one is the number on the disc,
 -- if the disc ran on around its field, and the words misread there weigh less than enough, or if it stood still,
@@ -99,7 +103,7 @@ pub record AreJudged (judging : Judging) (readings : List LdvbiFieldReadings) (s
   pub pace_is : IsAskedPace judging seen pace
   pub answers : AreAnswers pace seen numbers
   pub read : (disc : ℕ → Words) (recorded : ℕ → Option ℕ) (i m n : ℕ) → slice_get numbers i ≡ Some (believed n)
-      → IsRead judging.system judging.counted pace (map lines_in readings) disc recorded i m → n ≡ m
+      → IsRead pace (capture_of judging readings disc recorded) i m → n ≡ m
   pub sound_still : (recorded : ℕ → Option ℕ) (i m n : ℕ) → slice_get numbers i ≡ Some (believed n) → pace ≡ Video
       → IsSoundStill recorded seen i m → n ≡ m
   pub due_sound : (recorded : ℕ → Option ℕ) (i n : ℕ) → slice_get numbers i ≡ Some (due n)

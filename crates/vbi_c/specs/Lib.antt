@@ -12,7 +12,6 @@ pub mod Recovering
 pub mod Record
 pub mod Piling
 pub mod Seeking
-pub mod Searches
 pub mod Chapters
 pub mod Clocks
 pub mod Stops
@@ -21,13 +20,7 @@ pub mod WholeSides
 pub mod CalledWhole
 pub mod CleanSides
 pub mod DrawnSides
-pub mod Telling
-pub mod Leads
-pub mod Neighbours
 pub mod Completing
 pub mod Worked
 pub mod Plans
-pub mod StopSeeking
-pub mod ChapterSeeking
-pub mod ChapterLeads
 pub mod ChapterRuns

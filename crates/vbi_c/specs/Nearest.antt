@@ -4,8 +4,8 @@ use Rattle.vbi_words.specs.Geometry.{line_bytes}
 use Rattle.vbi_near.specs.declared.near.Near.{Near}
 use Rattle.vbi_near.specs.Distances.{Samples, lines_of}
 use Rattle.vbi_near.specs.Nearest.{IsNearest}
-use Rattle.vbi_near.specs.Longer.{IsLonger}
-use Rattle.vbi_c.specs.declared.setup.Setup.{Setup}
+use Rattle.vbi_near.specs.LongerSignal.{IsLonger}
+use Rattle.vbi_seek.specs.declared.side_bytes.Setup.{Setup}
 use Rattle.vbi_c.specs.declared.nearest.LdvbiNear.{LdvbiNear}
 
 -- the nearest word; 0 for none

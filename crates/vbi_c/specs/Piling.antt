@@ -5,9 +5,10 @@ use Rattle.std.specs.List.{list_all, range_with_len}
 use Rattle.vbi_words.specs.Geometry.{line_bytes, line_at}
 use Rattle.vbi_words.specs.declared.system.System as words
 use Rattle.vbi_near.specs.Candidates.{Row, row_of, marks_at}
-use Rattle.vbi_near.specs.Piled.{IsSaidTogether}
+use Rattle.vbi_near.specs.PileRule.{IsSaidTogether}
 use Rattle.vbi_c.specs.declared.erased.LdvbiErased.{LdvbiErased}
-use Rattle.vbi_c.specs.declared.setup.Setup.{Setup}
+use Rattle.vbi_c.specs.declared.piling.Lines.{Lines}
+use Rattle.vbi_seek.specs.declared.side_bytes.Setup.{Setup}
 use Rattle.vbi_c.specs.declared.status.Refusal.{Refusal}
 use Rattle.vbi_c.specs.declared.status.Refusal.TheVariants.{Erased, Line, Known}
 use Rattle.vbi_c.specs.Erased.{is_code_line, is_taken, line_marks}
@@ -37,10 +38,14 @@ abbrev pub refuse_list : ℕ → ℕ → List LdvbiErased → Result Setup Refus
 refuse_list line bytes list asked = in_turn asked (λ setup.
     if is_list_of line (count_in setup.system bytes) list then Ok setup else Err Erased)
 
+-- what a call says of its lines
+abbrev pub lines_as : ℕ → ℕ → ℕ → Lines
+lines_as line known length = record { line = line; known = known; length = length }
+
 -- the setup of a call with lines of one number
-abbrev pub pile_setup : ℕ → ℕ → ℕ → ℕ → ℕ → ℕ → List LdvbiErased → Result Setup Refusal
-pile_setup system black white line known bytes list =
-    refuse_list line bytes list (refuse_known known (refuse_line line (lines_setup system black white bytes)))
+abbrev pub pile_setup : ℕ → ℕ → ℕ → Lines → List LdvbiErased → Result Setup Refusal
+pile_setup system black white lines list = refuse_list lines.line lines.length list
+    (refuse_known lines.known (refuse_line lines.line (lines_setup system black white lines.length)))
 
 -- ---- what is answered
 
@@ -54,11 +59,10 @@ abbrev pub rows_erased : words.System → ℕ → List ℕ → List LdvbiErased 
 rows_erased system line bytes list =
     map (row_erased system line bytes list) (range_with_len 0 (count_in system (length bytes)))
 
--- this is the word that they say together, or 0
-abbrev pub IsWordOf : Setup → ℕ → ℕ → List ℕ → List LdvbiErased → ℕ → Type 0
-IsWordOf setup line known bytes list answer = (said : Option ℕ)
-    × IsSaidTogether setup.system line setup.levels (known == 1) (rows_erased setup.system line bytes list) said
-    × (answer ≡ unwrap_or said 0)
+-- this is the word that rows of lines of this number say together, or 0
+abbrev pub IsWordOf : Setup → ℕ → ℕ → List Row → ℕ → Type 0
+IsWordOf setup line known rows answer = (said : Option ℕ)
+    × IsSaidTogether setup.system line setup.levels (known == 1) rows said × (answer ≡ unwrap_or said 0)
 
 -- ---- as it is found
 

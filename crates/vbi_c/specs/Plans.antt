@@ -1,14 +1,14 @@
 -- The plan of a file, as C asks about it: first the spacing is looked at, then the clock.
-use Rattle.std.specs.Prelude.{◌≡◌, ◌≢◌, ◌↔◌, ℕ, ◌==◌, if◌then◌else◌, List, Option, Some, None, ok_or, Result, Ok}
-use Rattle.vbi_side.specs.declared.number.Number.{Number}
-use Rattle.vbi_side.specs.declared.plan.Capture.{Capture}
-use Rattle.vbi_side.specs.declared.plan.Layout.{Layout}
-use Rattle.vbi_side.specs.declared.plan.Spacing.{Spacing}
-use Rattle.vbi_side.specs.declared.plan.Spacing.TheVariants.{Video, Both, Film, Rising}
-use Rattle.vbi_side.specs.declared.plan.Stretch.{Stretch}
-use Rattle.vbi_side.specs.declared.plan_check.Checked.{Checked}
-use Rattle.vbi_side.specs.Plans.{IsDone, IsFirstFault}
+use Rattle.std.specs.Prelude.{◌≡◌, ◌↔◌, ℕ, ◌==◌, if◌then◌else◌, length, Option, Some, None, IfSome, ok_or, Result, Ok}
+use Rattle.vbi_plan.specs.declared.plan.Layout.{Layout}
+use Rattle.vbi_plan.specs.declared.plan.PlanFault.{PlanFault}
+use Rattle.vbi_plan.specs.declared.plan.PlanRule.{PlanRule}
+use Rattle.vbi_plan.specs.declared.plan.PlanRule.TheVariants.{Disordered, NotThere, Twice, Misplaced, Hidden}
+use Rattle.vbi_plan.specs.declared.plan.Spacing.{Spacing}
+use Rattle.vbi_plan.specs.declared.plan.Spacing.TheVariants.{Video, Both, Film, Rising}
+use Rattle.vbi_plan.specs.Plans.{IsDone, IsFirstFault, Plan}
 use Rattle.vbi_c.specs.declared.clock.LdvbiClock.{LdvbiClock}
+use Rattle.vbi_c.specs.declared.plan.LdvbiChecked.{LdvbiChecked}
 use Rattle.vbi_c.specs.declared.status.Refusal.{Refusal}
 use Rattle.vbi_c.specs.declared.status.Refusal.TheVariants.{Pace, Clock}
 use Rattle.vbi_c.specs.Clocks.{clock_given}
@@ -28,7 +28,20 @@ layout_of spacing clock begin end = in_turn (ok_or (spacing_given spacing) Pace)
     in_turn (ok_or (clock_given clock) Clock) (λ clock.
     Ok (record { clock = clock; spacing = spacing; begin = begin; end = end })))
 
--- what is found of a plan: 0 if it is done, else the rule that its first faulty stretch breaks
-abbrev pub IsChecked : Layout → List Number → List Capture → List Stretch → Checked → Type 0
-IsChecked layout numbers captures plan checked = ((checked.rule ≡ 0) ↔ IsDone layout numbers captures plan)
-    × (checked.rule ≢ 0 → IsFirstFault layout numbers captures plan checked.rule checked.stretch)
+-- the number of a rule
+abbrev pub rule_for_c : PlanRule → ℕ
+rule_for_c Disordered = 1
+rule_for_c NotThere = 2
+rule_for_c Twice = 3
+rule_for_c Misplaced = 4
+rule_for_c Hidden = 5
+
+-- the first fault of a plan of so many stretches, or 0 if it has none
+abbrev pub checked_for_c : ℕ → Option PlanFault → LdvbiChecked
+checked_for_c stretches None = record { stretch = stretches; rule = 0 }
+checked_for_c stretches (Some fault) = record { stretch = fault.stretch; rule = rule_for_c fault.rule }
+
+-- what is found of a plan: no fault if it is done, else its first one
+abbrev pub IsChecked : Plan → LdvbiChecked → Type 0
+IsChecked plan checked = (fault : Option PlanFault) × (checked ≡ checked_for_c (length plan.stretches) fault)
+    × ((fault ≡ None) ↔ IsDone plan) × IfSome fault (IsFirstFault plan)

@@ -5,7 +5,7 @@ use Rattle.vbi_words.specs.declared.outcome.Outcome.TheVariants.{Word, Blank, Un
 use Rattle.vbi_words.specs.declared.outcome.Reading.{Reading}
 use Rattle.vbi_words.specs.Levels.{row_levels}
 use Rattle.vbi_line.specs.OneReading.{reading_of}
-use Rattle.vbi_c.specs.declared.setup.Setup.{Setup}
+use Rattle.vbi_seek.specs.declared.side_bytes.Setup.{Setup}
 use Rattle.vbi_c.specs.declared.reading.LdvbiReading.{LdvbiReading}
 
 -- an outcome with the pass of its reading; the word and the column are 0 if there is none

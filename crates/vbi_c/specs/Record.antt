@@ -5,7 +5,7 @@ use Rattle.vbi_field.specs.declared.readings.FieldReadings.{FieldReadings}
 use Rattle.vbi_field.specs.Stream.{row_readings, rows_in}
 use Rattle.vbi_c.specs.declared.fields.LdvbiFieldReadings.{LdvbiFieldReadings}
 use Rattle.vbi_c.specs.declared.record.LdvbiRecord.{LdvbiRecord}
-use Rattle.vbi_c.specs.declared.setup.Setup.{Setup}
+use Rattle.vbi_seek.specs.declared.side_bytes.Setup.{Setup}
 use Rattle.vbi_c.specs.Readings.{reading_for_c}
 
 -- a record's text, by the field's number, the bytes of its rows and the marks of their erased columns

@@ -5,7 +5,7 @@ use Rattle.std.specs.Prelude.{Result, Ok, Err}
 use Rattle.vbi_words.specs.declared.system.System as words
 use Rattle.vbi_words.specs.declared.system.System.TheVariants.{Ntsc, Pal}
 use Rattle.vbi_words.specs.Geometry.{line_bytes, field_bytes}
-use Rattle.vbi_c.specs.declared.setup.Setup.{Setup}
+use Rattle.vbi_seek.specs.declared.side_bytes.Setup.{Setup}
 use Rattle.vbi_c.specs.declared.status.Refusal.{Refusal}
 use Rattle.vbi_c.specs.declared.status.Refusal.TheVariants.{System, Levels, Length}
 use Rattle.vbi_c.specs.Statuses.{in_turn}

@@ -1,26 +1,26 @@
 -- What the laws of the calls speak of, written down: setups, what is judged, what C is answered, readings, entries of
 -- erased columns, and what fields show.
-use Rattle.std.specs.Prelude.{ℕ, List, [], ◌∷◌, ◌++◌, ◌==◌, if◌then◌else◌, replicate, Option}
+use Rattle.std.specs.Prelude.{ℕ, List, [], ◌∷◌, ◌==◌, if◌then◌else◌}
 use Rattle.vbi_words.specs.declared.system.System.{System}
 use Rattle.vbi_words.specs.declared.system.System.TheVariants.{Ntsc, Pal}
-use Rattle.vbi_near.specs.declared.near.Near.{Near}
 use Rattle.vbi_side.specs.declared.lines.Counted.{Counted}
 use Rattle.vbi_side.specs.declared.number.Number.{Number}
 use Rattle.vbi_side.specs.declared.clock.Clock.{Clock}
 use Rattle.vbi_side.specs.declared.clock.Clock.TheVariants.{Plain}
 use Rattle.vbi_side.specs.declared.pace.Pace.{Pace}
-use Rattle.vbi_side.specs.declared.sighting.Sightings.{Sightings}
 use Rattle.vbi_side.specs.Numbers.{believed, nothing}
-use Rattle.vbi_side.specs.Worked.{field_of, blank}
 use Rattle.vbi_c.specs.declared.code.LdvbiCode.{LdvbiCode}
 use Rattle.vbi_c.specs.declared.erased.LdvbiErased.{LdvbiErased}
 use Rattle.vbi_c.specs.declared.fields.LdvbiFieldReadings.{LdvbiFieldReadings}
-use Rattle.vbi_c.specs.declared.judging.Asked.{Asked}
-use Rattle.vbi_c.specs.declared.judging.Judging.{Judging}
+use Rattle.vbi_seek.specs.declared.asked.Asked.{Asked}
+use Rattle.vbi_seek.specs.declared.asked.Judging.{Judging}
 use Rattle.vbi_c.specs.declared.nearest.LdvbiNear.{LdvbiNear}
 use Rattle.vbi_c.specs.declared.reading.LdvbiReading.{LdvbiReading}
-use Rattle.vbi_c.specs.declared.setup.Setup.{Setup}
+use Rattle.vbi_seek.specs.declared.side_bytes.Setup.{Setup}
+use Rattle.vbi_c.specs.declared.clock.LdvbiClock.{LdvbiClock}
+use Rattle.vbi_c.specs.declared.whole_side.LdvbiSideRule.{LdvbiSideRule}
 use Rattle.vbi_c.specs.declared.whole_side.Siding.{Siding}
+use Rattle.vbi_c.specs.Clocks.{clock_as}
 
 -- black and white of ld-decode's TBC files of NTSC, and of PAL
 abbrev pub ntsc : Setup
@@ -41,18 +41,7 @@ code_as kind first second = record { kind = kind; first = first; second = second
 abbrev pub reading_as : ℕ → ℕ → ℕ → ℕ → LdvbiReading
 reading_as cause pass column word = record { cause = cause; pass = pass; column = column; word = word }
 
--- what is found nearest, if a word is
-abbrev pub near_of : Option ℕ → ℕ → ℕ → ℕ → ℕ → ℕ → Near
-near_of word start distance rival longer shorter = record {
-  word = word;
-  start = start;
-  distance = distance;
-  rival = rival;
-  longer = longer;
-  shorter = shorter;
-}
-
--- the same as C sees it
+-- what is found nearest, as C sees it
 abbrev pub near_as : ℕ → ℕ → ℕ → ℕ → ℕ → LdvbiNear
 near_as word start distance rival longer = record {
   word = word;
@@ -78,23 +67,6 @@ field_read_as line_16 line_17 line_18 = record { lines = lines_read_as line_16 l
 abbrev pub columns_of : ℕ → ℕ → ℕ → ℕ → LdvbiErased
 columns_of field line first last = record { field = field; line = line; first = first; last = last }
 
--- pictures 5, 8 and 9 of video, each on line 17 of its first field, and the last with this weight
-abbrev pub video_ending : ℕ → List Sightings
-video_ending weight = field_of 5 2 0 0 ∷ replicate 5 blank ++ field_of 8 2 0 0 ∷ blank ∷ field_of 9 weight 0 0 ∷ []
-
--- pictures 5, 20 and 35, each further from the next one than is judged together, and the last with this weight
-abbrev pub far_ending : ℕ → List Sightings
-far_ending weight
-    = field_of 5 2 0 0 ∷ replicate 29 blank ++ field_of 20 2 0 0 ∷ replicate 29 blank ++ field_of 35 weight 0 0 ∷ []
-
--- pictures 5, 6 and 7 of film, whose second one lasts three fields, and the last with this weight
-abbrev pub film_ending : ℕ → List Sightings
-film_ending weight = field_of 5 2 0 0 ∷ blank ∷ field_of 6 2 0 0 ∷ blank ∷ blank ∷ field_of 7 weight 0 0 ∷ []
-
--- picture 5 of video on both lines, and picture 6 on line 18 alone
-abbrev pub second_on_18 : List Sightings
-second_on_18 = field_of 5 2 5 2 ∷ blank ∷ field_of 0 0 6 2 ∷ []
-
 -- what a whole side is judged by, with a clock, and with none
 abbrev pub sided_by : System → Counted → Pace → Clock → Siding
 sided_by system counted pace clock =
@@ -102,6 +74,15 @@ sided_by system counted pace clock =
 
 abbrev pub sided_as : System → Counted → Pace → Siding
 sided_as system counted pace = sided_by system counted pace Plain
+
+-- the rule of these numbers, with this clock, of a disc that has its numbers on one field of a picture
+abbrev pub rule_as : ℕ → ℕ → ℕ → LdvbiClock → LdvbiSideRule
+rule_as system counted pace clock =
+    record { system = system; counted = counted; pace = pace; both = 0; clock = clock }
+
+-- the rule of these numbers, of a disc that leaves no number out
+abbrev pub plain_rule : ℕ → ℕ → ℕ → LdvbiSideRule
+plain_rule system counted pace = rule_as system counted pace (clock_as 0 0 0)
 
 -- numbers on one field of each picture, and on both
 abbrev pub on_one : List Number

@@ -21,13 +21,6 @@ pub struct LdvbiClock {
 // As include/ldvbi.h has it.
 const _: () = prove!(size_of::<LdvbiClock>() == 12);
 
-/// None, or it isn't known which.
-pub(crate) const PLAIN: LdvbiClock = LdvbiClock {
-    kind: 0,
-    period: 0,
-    phase: 0,
-};
-
 /// The clock of these numbers, of which C may have made anything.
 pub(crate) fn clock_given(clock: &LdvbiClock) -> Option<Clock>
     ensures { result ≡ clock_given clock.now }

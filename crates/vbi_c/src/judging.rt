@@ -1,10 +1,10 @@
 //! Judging the numbers of fields.
 
-ghost use Rattle.std.specs.Prelude.{◌≡◌, ◌≢◌, ◌<◌, ◌≤◌, ◌==◌, ◌&&◌, length, map, IfOk, Some, None, Ok};
+ghost use Rattle.std.specs.Prelude.{◌≡◌, ◌≢◌, ◌<◌, ◌≤◌, length, map, IfOk, Some, None, Ok};
 ghost use Rattle.vbi_side.specs.declared.pace.Pace as paces;
 ghost use Rattle.vbi_side.specs.Numbers.{IsFirst};
-ghost use Rattle.vbi_c.specs.Judging.{counted_of, asked_of, judging_of, shown_by, seen_in, IsAskedPace, AreJudged};
-ghost use Rattle.vbi_c.specs.Judging.{with_lengths, with_pace};
+ghost use Rattle.vbi_c.specs.Judging.{counted_of, asked_of, judging_of, shown_by, seen_in, AreJudged};
+ghost use Rattle.vbi_c.specs.Judging.{are_as_long, with_lengths, with_pace};
 ghost use Rattle.vbi_c.specs.Setups.{system_of};
 ghost use Rattle.vbi_c.specs.Statuses.{status_of};
 
@@ -12,25 +12,9 @@ use crate::fields::LdvbiFieldReadings;
 use crate::reading::LdvbiReading;
 use crate::setup::system_of;
 use crate::status::{DONE, Refusal};
-use vbi_side::{Counted, Number, Pace, Shown, Sightings, first_of, found_pace, judge, sightings};
+pub(crate) use vbi_seek::{Asked, Judging, pace_for};
+use vbi_side::{Counted, Number, Pace, Shown, Sightings, first_of, judge, sightings};
 use vbi_words::{System, Word24};
-
-/// Which pace is asked for.
-#[derive(Clone, Copy)]
-pub(crate) enum Asked {
-    /// This one.
-    Given(Pace),
-    /// The one that is found by the numbers that are believed at either.
-    Found,
-}
-
-/// What is to be judged, and how.
-#[derive(Clone, Copy)]
-pub(crate) struct Judging {
-    pub(crate) system: System,
-    pub(crate) counted: Counted,
-    pub(crate) asked: Asked,
-}
 
 /// What is counted, by its number: 1 for pictures, 2 for times.
 pub(crate) fn counted_of(number: u32) -> Option<Counted>
@@ -57,7 +41,7 @@ pub(crate) fn asked_of(number: u32) -> Option<Asked>
 
 /// Whether both other arrays of a call are as long as its first.
 pub(crate) fn are_as_long(count: usize, first: usize, second: usize) -> bool
-    ensures { result ≡ (first == count && second == count) }
+    ensures { result ≡ are_as_long count first second }
 {
     first == count && second == count
 }
@@ -97,7 +81,7 @@ pub(crate) fn judging_of(
     pace: u32,
     fit: bool,
 ) -> Result<Judging, Refusal>
-    ensures { result ≡ with_pace (with_lengths (system_of system) fit) (counted_of counted) (asked_of pace) }
+    ensures { result ≡ judging_of system counted pace fit }
 {
     let system = with_lengths(system, fit)?;
     with_pace(system, counted, asked_of(pace))
@@ -132,16 +116,6 @@ pub(crate) fn see_all(judging: &Judging, readings: &[LdvbiFieldReadings], seen: 
     }
 }
 
-/// The pace that is asked for.
-pub(crate) fn pace_for(judging: &Judging, seen: &[Sightings]) -> Pace
-    ensures { IsAskedPace judging.now seen.now result }
-{
-    match judging.asked {
-        Asked::Given(pace) => pace,
-        Asked::Found => found_pace(judging.system, judging.counted, seen),
-    }
-}
-
 /// Judges which number of its disc each field shows, by the fields around it: what is read of each goes to `seen`, what
 /// is answered to `numbers`, both as long as `readings`.
 #[unsafe(no_mangle)]
@@ -154,10 +128,12 @@ pub extern "C" fn ldvbi_judge(
     numbers: &mut [Number],
 ) -> u32
     ensures status { result ≡ status_of (judging_of system counted pace
-        (length readings.now) (length seen.old) (length numbers.old)) }
-    ensures sees { IfOk (judging_of system counted pace (length readings.now) (length seen.old) (length numbers.old))
+        (are_as_long (length readings.now) (length seen.old) (length numbers.old))) }
+    ensures sees { IfOk (judging_of system counted pace
+        (are_as_long (length readings.now) (length seen.old) (length numbers.old)))
         (λ judging. seen.new ≡ map (seen_in judging) readings.now) }
-    ensures judges { IfOk (judging_of system counted pace (length readings.now) (length seen.old) (length numbers.old))
+    ensures judges { IfOk (judging_of system counted pace
+        (are_as_long (length readings.now) (length seen.old) (length numbers.old)))
         (λ judging. (pace : paces.Pace) × AreJudged judging readings.now seen.new numbers.new pace) }
     ensures unwritten { result ≢ 0 → (seen.new ≡ seen.old) × (numbers.new ≡ numbers.old) }
 {

@@ -1,6 +1,6 @@
 //! The code words of LaserDisc lines (IEC 60857 and IEC 60856) for callers in C: the static library that
 //! `include/ldvbi.h` declares, over the reader of `vbi_line`, the nearest words of `vbi_near`, the records of
-//! `vbi_field`, the judge of `vbi_side` and the codes of `vbi_words`.
+//! `vbi_field`, the judge of `vbi_side`, the searches of `vbi_seek` and the codes of `vbi_words`.
 //!
 //! Each export tests the numbers that it is given, and answers a status; after any but 0 all that it could have written
 //! is as it was. Numbers are as wide as C hands them, 32 bits, so that none is cut off before it is tested.
@@ -11,8 +11,6 @@
 
 mod aside;
 pub mod chapter_laws;
-mod chapter_probing;
-mod chapter_seeking;
 mod chapters;
 mod clock;
 mod code;
@@ -22,29 +20,22 @@ mod ends;
 mod erased;
 mod fields;
 mod format;
-mod halving;
 mod judging;
 pub mod laws;
 mod line;
-mod narrowing;
 mod nearest;
-mod neighbours;
 mod one_field;
 mod pace;
 mod piling;
 mod plan;
-mod probing;
 mod reading;
 mod record;
 mod recovering;
 pub mod refusal_laws;
-mod search;
 mod seeking;
 mod setup;
-mod side_bytes;
 mod sizes;
 mod status;
-mod stop_seeking;
 mod stops;
 mod version;
 pub mod whole_laws;
@@ -52,7 +43,6 @@ mod whole_side;
 mod word;
 
 pub use aside::ldvbi_set_aside;
-pub use chapter_seeking::ldvbi_seek_chapter;
 pub use chapters::ldvbi_judge_chapters;
 pub use clock::LdvbiClock;
 pub use code::{LdvbiCode, ldvbi_classify};
@@ -65,22 +55,18 @@ pub use format::ldvbi_format;
 pub use judging::{ldvbi_first_of, ldvbi_judge};
 pub use line::ldvbi_read_line;
 pub use nearest::{LdvbiNear, ldvbi_nearest};
-pub use neighbours::LdvbiNeighbour;
 pub use one_field::ldvbi_judge_field;
 pub use pace::ldvbi_find_pace;
 pub use piling::ldvbi_recover_pile;
-pub use plan::ldvbi_check_plan;
+pub use plan::{
+    DISORDERED, HIDDEN, LdvbiChecked, MISPLACED, NOT_THERE, PLANNED, TWICE, ldvbi_check_plan,
+};
 pub use reading::LdvbiReading;
 pub use record::{LdvbiRecord, ldvbi_recovered_record};
-pub use recovering::{
-    ldvbi_recover_fields, ldvbi_recover_fields_without, ldvbi_recover_rows,
-    ldvbi_recover_rows_without,
-};
-pub use seeking::{LdvbiSought, ldvbi_seek};
+pub use recovering::{ldvbi_recover_fields, ldvbi_recover_rows};
+pub use seeking::{LdvbiSought, ldvbi_next_stop, ldvbi_seek, ldvbi_seek_chapter};
 pub use sizes::{ldvbi_field_bytes, ldvbi_line_bytes, ldvbi_line_samples, ldvbi_lines};
-pub use stop_seeking::{LdvbiPlace, ldvbi_next_stop};
 pub use stops::ldvbi_judge_stops;
+pub use vbi_seek::{FoundField as LdvbiPlace, Neighbour as LdvbiNeighbour};
 pub use version::{ldvbi_abi, ldvbi_version};
-pub use whole_side::{
-    ldvbi_find_both, ldvbi_find_clock, ldvbi_judge_side, ldvbi_judge_side_by_clock,
-};
+pub use whole_side::{LdvbiSideRule, ldvbi_find_both, ldvbi_find_clock, ldvbi_judge_side};

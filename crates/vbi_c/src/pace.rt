@@ -1,12 +1,12 @@
 //! The pace of a capture, found by the numbers that are believed.
 
-ghost use Rattle.std.specs.Prelude.{◌≡◌, ◌≢◌, length, map, IfOk};
+ghost use Rattle.std.specs.Prelude.{◌≡◌, ◌≢◌, ◌==◌, length, map, IfOk};
 ghost use Rattle.vbi_side.specs.declared.pace.Pace as paces;
 ghost use Rattle.vbi_c.specs.Judging.{judging_of, seen_in, IsAskedPace, pace_for_c};
 ghost use Rattle.vbi_c.specs.Statuses.{status_of};
 
 use crate::fields::LdvbiFieldReadings;
-use crate::judging::{are_as_long, judging_of, pace_for, see_all};
+use crate::judging::{judging_of, pace_for, see_all};
 use crate::status::DONE;
 use vbi_side::{Pace, Sightings};
 
@@ -33,16 +33,14 @@ pub extern "C" fn ldvbi_find_pace(
     seen: &mut [Sightings],
     pace: &mut u32,
 ) -> u32
-    ensures status { result ≡ status_of (judging_of system counted 3
-        (length readings.now) (length seen.old) (length readings.now)) }
-    ensures sees { IfOk (judging_of system counted 3 (length readings.now) (length seen.old) (length readings.now))
+    ensures status { result ≡ status_of (judging_of system counted 3 (length seen.old == length readings.now)) }
+    ensures sees { IfOk (judging_of system counted 3 (length seen.old == length readings.now))
         (λ judging. seen.new ≡ map (seen_in judging) readings.now) }
-    ensures finds { IfOk (judging_of system counted 3 (length readings.now) (length seen.old) (length readings.now))
+    ensures finds { IfOk (judging_of system counted 3 (length seen.old == length readings.now))
         (λ judging. (found : paces.Pace) × IsAskedPace judging seen.new found × (pace.new ≡ pace_for_c found)) }
     ensures unwritten { result ≢ 0 → (seen.new ≡ seen.old) × (pace.new ≡ pace.old) }
 {
-    let fit = are_as_long(readings.len(), seen.len(), readings.len());
-    match judging_of(system, counted, FIND, fit) {
+    match judging_of(system, counted, FIND, seen.len() == readings.len()) {
         Ok(judging) => {
             see_all(&judging, readings, seen);
             *pace = pace_for_c(pace_for(&judging, seen));

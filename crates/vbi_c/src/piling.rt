@@ -5,7 +5,7 @@ ghost use Rattle.std.specs.List.{list_all};
 ghost use Rattle.vbi_words.specs.Geometry.{line_bytes, width_of};
 ghost use Rattle.vbi_c.specs.Erased.{is_code_line, is_taken};
 ghost use Rattle.vbi_c.specs.Piling.{is_list_of, refuse_line, refuse_known, refuse_list, pile_setup, IsWordOf};
-ghost use Rattle.vbi_c.specs.Piling.{HasMarks};
+ghost use Rattle.vbi_c.specs.Piling.{HasMarks, lines_as, rows_erased};
 ghost use Rattle.vbi_c.specs.Statuses.{status_of};
 
 use crate::erased::{FIRST_LINE, LAST_LINE, LdvbiErased, is_taken, mark_field};
@@ -88,7 +88,7 @@ fn pile_setup(
     lines: Lines,
     list: &[LdvbiErased],
 ) -> Result<Setup, Refusal>
-    ensures setup { result ≡ pile_setup system black white lines.line lines.known lines.length list.now }
+    ensures setup { result ≡ pile_setup system black white lines list.now }
     ensures lines { IfOk result (λ setup.
         (lines.length ≡ lines.length / line_bytes setup.system * line_bytes setup.system)
         × (lines.length / line_bytes setup.system ≤ 28)) }
@@ -145,7 +145,7 @@ fn word_of(setup: &Setup, line: u32, known: u32, bytes: &[u8], erased: &[LdvbiEr
         × (length bytes.now / line_bytes setup.now.system ≤ 28) }
     requires line { IsTrue (is_code_line line) }
     requires list { IsTrue (is_taken (length bytes.now / line_bytes setup.now.system) erased.now) }
-    ensures { IsWordOf setup.now line known bytes.now erased.now result }
+    ensures { IsWordOf setup.now line known (rows_erased setup.now.system line bytes.now erased.now) result }
 {
     let system = setup.system;
     let count = bytes.len() / system.line_bytes();
@@ -171,9 +171,10 @@ pub extern "C" fn ldvbi_recover_pile(
     erased: &[LdvbiErased],
     word: &mut u32,
 ) -> u32
-    ensures status { result ≡ status_of (pile_setup system black white line known (length bytes.now) erased.now) }
-    ensures recovers { IfOk (pile_setup system black white line known (length bytes.now) erased.now) (λ setup.
-        IsWordOf setup line known bytes.now erased.now word.new) }
+    ensures status { result ≡ status_of (pile_setup system black white (lines_as line known (length bytes.now))
+        erased.now) }
+    ensures recovers { IfOk (pile_setup system black white (lines_as line known (length bytes.now)) erased.now)
+        (λ setup. IsWordOf setup line known (rows_erased setup.system line bytes.now erased.now) word.new) }
     ensures unwritten { result ≢ 0 → word.new ≡ word.old }
 {
     let lines = Lines {

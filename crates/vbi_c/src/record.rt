@@ -64,7 +64,7 @@ fn record_listed(setup: &Setup, number: u32, rows: &[u8], erased: &[LdvbiErased]
 }
 
 /// Writes the record that the document of `extract --recover` has of a field with this number, by its lines 16, 17 and
-/// 18, as `ldvbi_recover_rows_without` takes them: the columns that are erased count for no nearest word. The list is
+/// 18, as `ldvbi_recover_rows` takes them: the columns that are erased count for no nearest word. The list is
 /// one of field 0. Fields are numbered from 1 there; any number is written.
 #[unsafe(no_mangle)]
 pub extern "C" fn ldvbi_recovered_record(

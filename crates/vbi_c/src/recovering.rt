@@ -2,9 +2,9 @@
 
 ghost use Rattle.std.specs.Prelude.{◌≡◌, ◌≢◌, ◌*◌, ◌<◌, length, IfOk, IsTrue};
 ghost use Rattle.vbi_words.specs.Geometry.{line_bytes, field_bytes, width_of};
-ghost use Rattle.vbi_c.specs.Erased.{is_taken, with_erased, erased_of, none_erased};
+ghost use Rattle.vbi_c.specs.Erased.{is_taken, with_erased, erased_of};
 ghost use Rattle.vbi_c.specs.Fields.{field_in};
-ghost use Rattle.vbi_c.specs.Recovering.{recovered_for_c, recovered_reading, AreRecovered, code_bytes, AreAllRecovered};
+ghost use Rattle.vbi_c.specs.Recovering.{recovered_for_c, AreRecovered, code_bytes, AreAllRecovered};
 ghost use Rattle.vbi_c.specs.Setups.{rows_setup, fields_setup};
 ghost use Rattle.vbi_c.specs.Statuses.{status_of};
 
@@ -12,7 +12,6 @@ use crate::erased::{LdvbiErased, mark_field, with_erased};
 use crate::fields::{FIRST_ROW, LdvbiFieldReadings};
 use crate::reading::{LdvbiReading, outcome_for_c};
 use crate::setup::{Setup, fields_setup, rows_setup};
-use crate::side_bytes::SideBytes;
 use crate::status::DONE;
 use vbi_near::{Recovered, recover_rows};
 use vbi_words::System;
@@ -65,23 +64,6 @@ fn code_bytes(system: System, field: &[u8]) -> &[u8]
     &field[FIRST_ROW * line..FIRST_ROW * line + 3 * line]
 }
 
-/// What lines 16, 17 and 18 of a field show, if no column is erased.
-pub(crate) fn recover_whole(setup: &Setup, field: &[u8]) -> LdvbiFieldReadings
-    requires { length field.now ≡ field_bytes setup.now.system }
-    ensures { result ≡ recovered_reading setup.now field.now }
-{
-    recover_listed(setup, code_bytes(setup.system, field), &[])
-}
-
-/// What lines 16, 17 and 18 of a field of a side show, if no column is erased.
-pub(crate) fn recover_field(side: &SideBytes, i: usize) -> LdvbiFieldReadings
-    requires { i < side.now.count }
-    ensures { result ≡ recovered_reading side.now.setup (field_in side.now.setup.system side.now.bytes.now i) }
-{
-    let size = side.setup.system.field_bytes();
-    recover_whole(&side.setup, &side.bytes[size * i..size * i + size])
-}
-
 /// The bytes of a field of a stream, counted from 0.
 fn field_in(system: System, stream: &[u8], count: usize, i: usize) -> &[u8]
     requires whole { length stream.now ≡ count * field_bytes system }
@@ -117,56 +99,10 @@ fn recover_all(
 }
 
 /// What lines 16, 17 and 18 show with the nearest words of worn lines: as `ldvbi_read_rows`, but that words of pass 2
-/// may be missing, and there are words of pass 3.
+/// may be missing, and there are words of pass 3. Columns that are erased count for no nearest word; the list is one of
+/// field 0, and may be empty.
 #[unsafe(no_mangle)]
 pub extern "C" fn ldvbi_recover_rows(
-    system: u32,
-    black: u32,
-    white: u32,
-    bytes: &[u8],
-    readings: &mut LdvbiFieldReadings,
-) -> u32
-    ensures status { result ≡ status_of (rows_setup system black white (length bytes.now)) }
-    ensures recovers { IfOk (rows_setup system black white (length bytes.now)) (λ setup.
-        AreRecovered setup bytes.now (none_erased setup.system) readings.new) }
-    ensures unwritten { result ≢ 0 → readings.new ≡ readings.old }
-{
-    match rows_setup(system, black, white, bytes.len()) {
-        Ok(setup) => {
-            *readings = recover_listed(&setup, bytes, &[]);
-            DONE
-        }
-        Err(refusal) => refusal.status(),
-    }
-}
-
-/// What lines 16, 17 and 18 of each field of a stream show with the nearest words of worn lines. The stream has as many
-/// whole fields as there is room for readings, and no byte more. No other line is looked at.
-#[unsafe(no_mangle)]
-pub extern "C" fn ldvbi_recover_fields(
-    system: u32,
-    black: u32,
-    white: u32,
-    bytes: &[u8],
-    readings: &mut [LdvbiFieldReadings],
-) -> u32
-    ensures status { result ≡ status_of (fields_setup system black white (length bytes.now) (length readings.old)) }
-    ensures recovers { IfOk (fields_setup system black white (length bytes.now) (length readings.old)) (λ setup.
-        AreAllRecovered setup bytes.now (λ field. none_erased setup.system) (length readings.old) readings.new) }
-    ensures unwritten { result ≢ 0 → readings.new ≡ readings.old }
-{
-    match fields_setup(system, black, white, bytes.len(), readings.len()) {
-        Ok(setup) => {
-            recover_all(&setup, bytes, &[], readings);
-            DONE
-        }
-        Err(refusal) => refusal.status(),
-    }
-}
-
-/// As `ldvbi_recover_rows`, but that the columns that are erased count for no nearest word. The list is one of field 0.
-#[unsafe(no_mangle)]
-pub extern "C" fn ldvbi_recover_rows_without(
     system: u32,
     black: u32,
     white: u32,
@@ -189,9 +125,11 @@ pub extern "C" fn ldvbi_recover_rows_without(
     }
 }
 
-/// As `ldvbi_recover_fields`, but that the columns that are erased count for no nearest word.
+/// What lines 16, 17 and 18 of each field of a stream show with the nearest words of worn lines. The stream has as many
+/// whole fields as there is room for readings, and no byte more. No other line is looked at. Columns that are erased
+/// count for no nearest word; the list may be empty.
 #[unsafe(no_mangle)]
-pub extern "C" fn ldvbi_recover_fields_without(
+pub extern "C" fn ldvbi_recover_fields(
     system: u32,
     black: u32,
     white: u32,

@@ -6,10 +6,10 @@ ghost use Rattle.std.specs.Prelude.{unwrap_or};
 ghost use Rattle.vbi_words.specs.declared.system.System.TheVariants.{Ntsc, Pal};
 ghost use Rattle.vbi_side.specs.declared.lines.Counted.TheVariants.{Pictures, Times};
 ghost use Rattle.vbi_side.specs.declared.pace.Pace.TheVariants.{Video, Film};
-ghost use Rattle.vbi_near.specs.Piled.{IsSaidTogether};
-ghost use Rattle.vbi_c.specs.declared.erased.LdvbiErased.{LdvbiErased};
-ghost use Rattle.vbi_c.specs.declared.judging.Asked.TheVariants.{Given, Found};
-ghost use Rattle.vbi_c.specs.declared.setup.Setup.{Setup};
+ghost use Rattle.vbi_near.specs.Candidates.{Row};
+ghost use Rattle.vbi_near.specs.PileRule.{IsSaidTogether};
+ghost use Rattle.vbi_seek.specs.declared.asked.Asked.TheVariants.{Given, Found};
+ghost use Rattle.vbi_seek.specs.declared.side_bytes.Setup.{Setup};
 ghost use Rattle.vbi_c.specs.declared.status.Refusal.TheVariants.{System, Levels, Length, Word, Counted, Pace};
 ghost use Rattle.vbi_c.specs.declared.status.Refusal.TheVariants.{Erased, Line, Known, Clock};
 ghost use Rattle.vbi_c.specs.Chapters.{chapters_status};
@@ -17,7 +17,7 @@ ghost use Rattle.vbi_c.specs.Completing.{completing_of};
 ghost use Rattle.vbi_c.specs.Drawing.{drawing_of};
 ghost use Rattle.vbi_c.specs.Erased.{is_code_line, is_entry, may_follow, is_taken, with_erased, erases, erased_of};
 ghost use Rattle.vbi_c.specs.Judging.{judging_of, one_judging_of, shown_by};
-ghost use Rattle.vbi_c.specs.Piling.{pile_setup, rows_erased, IsWordOf};
+ghost use Rattle.vbi_c.specs.Piling.{lines_as, pile_setup, IsWordOf};
 ghost use Rattle.vbi_c.specs.Seeking.{seek_of};
 ghost use Rattle.vbi_c.specs.Setups.{setup_of, line_setup, rows_setup, fields_setup, lines_setup};
 ghost use Rattle.vbi_c.specs.Statuses.{refusal_status, status_of};
@@ -82,11 +82,11 @@ pub fn worked_words()
 
 /// What is asked of the judge: the system is looked at first, then the lengths, then what is counted, then the pace.
 pub fn worked_judging()
-    ensures taken { (judging_of 1 1 1 5 5 5 ≡ Ok (judged_as Ntsc Pictures (Given Video)))
-        × (judging_of 2 2 3 5 5 5 ≡ Ok (judged_as Pal Times Found)) }
-    ensures order { (judging_of 3 0 0 5 4 4 ≡ Err System) × (judging_of 1 0 0 5 4 5 ≡ Err Length)
-        × (judging_of 1 0 0 5 5 4 ≡ Err Length) × (judging_of 1 0 0 5 5 5 ≡ Err Counted)
-        × (judging_of 1 1 0 5 5 5 ≡ Err Pace) × (judging_of 1 1 4 5 5 5 ≡ Err Pace) }
+    ensures taken { (judging_of 1 1 1 true ≡ Ok (judged_as Ntsc Pictures (Given Video)))
+        × (judging_of 2 2 3 true ≡ Ok (judged_as Pal Times Found)) }
+    ensures order { (judging_of 3 0 0 false ≡ Err System) × (judging_of 1 0 0 false ≡ Err Length)
+        × (judging_of 1 0 0 true ≡ Err Counted) × (judging_of 1 1 0 true ≡ Err Pace)
+        × (judging_of 1 1 4 true ≡ Err Pace) }
     ensures part { map (λ count. one_judging_of 2 2 2 count 96) (96 ∷ 97 ∷ 98 ∷ [])
         ≡ Err Length ∷ Ok (judged_as Pal Times (Given Film)) ∷ Err Length ∷ [] }
     ensures part_order { (one_judging_of 3 0 3 98 5 ≡ Err System) × (one_judging_of 1 0 3 98 5 ≡ Err Length)
@@ -136,24 +136,22 @@ pub fn worked_marks()
 /// Which lines of one number are taken: the setup is looked at first, then the number of the line, then whether
 /// dropouts are known, then the list, whose entries are of these lines alone.
 pub fn worked_piles()
-    ensures taken { (pile_setup 1 16384 51200 16 0 3640 (columns_of 1 16 5 5 ∷ []) ≡ Ok ntsc)
-        × (pile_setup 2 16384 54016 18 1 4540 (columns_of 1 18 5 5 ∷ []) ≡ Ok pal) }
-    ensures order { (pile_setup 1 16384 51200 19 2 0 (columns_of 2 16 5 5 ∷ []) ≡ Err Length)
-        × (pile_setup 1 16384 51200 19 2 3640 (columns_of 2 16 5 5 ∷ []) ≡ Err Line)
-        × (pile_setup 1 16384 51200 18 2 3640 (columns_of 2 16 5 5 ∷ []) ≡ Err Known) }
-    ensures lists { (pile_setup 1 16384 51200 16 1 3640 (columns_of 2 16 5 5 ∷ []) ≡ Err Erased)
-        × (pile_setup 1 16384 51200 16 1 3640 (columns_of 1 17 5 5 ∷ []) ≡ Err Erased)
-        × (pile_setup 2 16384 54016 16 1 3640 (columns_of 1 16 5 5 ∷ []) ≡ Err Length) }
+    ensures taken { (pile_setup 1 16384 51200 (lines_as 16 0 3640) (columns_of 1 16 5 5 ∷ []) ≡ Ok ntsc)
+        × (pile_setup 2 16384 54016 (lines_as 18 1 4540) (columns_of 1 18 5 5 ∷ []) ≡ Ok pal) }
+    ensures order { (pile_setup 1 16384 51200 (lines_as 19 2 0) (columns_of 2 16 5 5 ∷ []) ≡ Err Length)
+        × (pile_setup 1 16384 51200 (lines_as 19 2 3640) (columns_of 2 16 5 5 ∷ []) ≡ Err Line)
+        × (pile_setup 1 16384 51200 (lines_as 18 2 3640) (columns_of 2 16 5 5 ∷ []) ≡ Err Known) }
+    ensures lists { (pile_setup 1 16384 51200 (lines_as 16 1 3640) (columns_of 2 16 5 5 ∷ []) ≡ Err Erased)
+        × (pile_setup 1 16384 51200 (lines_as 16 1 3640) (columns_of 1 17 5 5 ∷ []) ≡ Err Erased)
+        × (pile_setup 2 16384 54016 (lines_as 16 1 3640) (columns_of 1 16 5 5 ∷ []) ≡ Err Length) }
 {}
 
 /// Dropouts are known by 1, and by 0 they aren't.
 pub fn known_by_one()
-    ensures known { (setup : Setup) (line : ℕ) (bytes : List ℕ) (erased : List LdvbiErased) (answer : ℕ)
-        → IsWordOf setup line 1 bytes erased answer → (said : Option ℕ)
-        × IsSaidTogether setup.system line setup.levels true (rows_erased setup.system line bytes erased) said
+    ensures known { (setup : Setup) (line : ℕ) (rows : List Row) (answer : ℕ) → IsWordOf setup line 1 rows answer
+        → (said : Option ℕ) × IsSaidTogether setup.system line setup.levels true rows said
         × (answer ≡ unwrap_or said 0) }
-    ensures unknown { (setup : Setup) (line : ℕ) (bytes : List ℕ) (erased : List LdvbiErased) (answer : ℕ)
-        → IsWordOf setup line 0 bytes erased answer → (said : Option ℕ)
-        × IsSaidTogether setup.system line setup.levels false (rows_erased setup.system line bytes erased) said
+    ensures unknown { (setup : Setup) (line : ℕ) (rows : List Row) (answer : ℕ) → IsWordOf setup line 0 rows answer
+        → (said : Option ℕ) × IsSaidTogether setup.system line setup.levels false rows said
         × (answer ≡ unwrap_or said 0) }
 {}

@@ -1,35 +1,25 @@
-//! Seeking a number in the bytes of a side, of which few fields are read.
-//!
-//! halving.rt tells where it may be, and that what is answered is right rests on none of that: the fields around that
-//! place are read and judged, and the number is answered only of a field that has it by `ldvbi_judge` of the whole
-//! side.
-//!
-//! The number is looked for (`first_among`) from 24 fields before the place to 24 after it (`fields_around`). The place
-//! is 32 fields wide at most, and what is told there is told by 12 more. An answer depends on 48 fields before its own
-//! and as many after it, so 24 + 32 + 12 + 24 + 96 = 188 fields are judged at most (`judge_around`). The very first of
-//! those in which the number is looked for isn't answered unless the side begins there: the number may have begun
-//! before it. 188 and the 812 of halving.rt are the 1,000 of include/ldvbi.h; specs/Seeking.antt has all three.
+//! Seeking a number, a chapter or the next picture stop in the bytes of a side.
 
-ghost use Rattle.std.specs.Prelude.{◌≡◌, ◌≢◌, ℕ, ◌+◌, ◌-◌, ◌<◌, ◌≤◌, ◌⊎◌, length, Some, None, IfOk, IfSome};
-ghost use Rattle.vbi_side.specs.declared.pace.Pace as paces;
-ghost use Rattle.vbi_side.specs.Numbers.{IsFirst};
-ghost use Rattle.vbi_c.specs.Leads.{IsFirstKnown, IsPlaced, IsComplete};
-ghost use Rattle.vbi_c.specs.Searches.{IsPart, IsWindow, IsJudgedAround, among};
-ghost use Rattle.vbi_c.specs.Neighbours.{IsBefore, IsAfter, IsLookedFor, AreAround, AreBeside};
-ghost use Rattle.vbi_c.specs.Seeking.{seek_of, shown_of, probed_most, IsSought, IsSoughtIn};
+ghost use Rattle.std.specs.Prelude.{◌≡◌, ◌≢◌, IfOk};
+ghost use Rattle.vbi_seek.specs.declared.number_search.Sought as numbers;
+ghost use Rattle.vbi_seek.specs.ChapterLeads.{IsChapterComplete};
+ghost use Rattle.vbi_seek.specs.ChapterSearch.{IsChapterSought};
+ghost use Rattle.vbi_seek.specs.FieldLines.{side_in};
+ghost use Rattle.vbi_seek.specs.NumberLeads.{IsComplete};
+ghost use Rattle.vbi_seek.specs.Neighbours.{AreBeside};
+ghost use Rattle.vbi_seek.specs.NumberSearch.{IsSought};
+ghost use Rattle.vbi_seek.specs.StopSearch.{IsNextStop};
+ghost use Rattle.vbi_c.specs.Seeking.{seek_of, sought_pace, sought_for_c};
+ghost use Rattle.vbi_c.specs.Setups.{setup_of};
 ghost use Rattle.vbi_c.specs.Statuses.{status_of};
 
-use crate::halving::{LEFT, place_of};
-use crate::judging::{asked_of, pace_for, with_pace};
-use crate::narrowing::Between;
-use crate::neighbours::{LdvbiNeighbour, first_higher, last_lower, neighbour_at};
+use crate::judging::{asked_of, with_pace};
 use crate::pace::pace_for_c;
-use crate::probing::{NOTHING_SEEN, PROBE, see_from};
-use crate::search::{Looked, Search, Seek};
 use crate::setup::setup_of;
 use crate::status::{DONE, Refusal};
 use std::mem::size_of;
-use vbi_side::{NOTHING, Number, PART, Pace, REACH, first_of, judge};
+use vbi_seek::{FoundField, Neighbour, Seek, Sought, next_stop, seek_chapter, seek_number};
+use vbi_side::{Number, Pace};
 
 /// Where a number was found.
 #[derive(Clone, Copy)]
@@ -44,25 +34,13 @@ pub struct LdvbiSought {
     /// How many fields were read.
     pub looked: u32,
     /// The nearest lower number that is believed of the fields in which the number was looked for.
-    pub before: LdvbiNeighbour,
+    pub before: Neighbour,
     /// The nearest higher one.
-    pub after: LdvbiNeighbour,
+    pub after: Neighbour,
 }
 
 // As include/ldvbi.h has it.
 const _: () = prove!(size_of::<LdvbiSought>() == 56);
-
-/// The number is looked for in this many fields more than it is sought between, before and after them.
-const BESIDE: usize = 24;
-
-/// The fields that are judged: those in which the number is looked for, and all on which their answers depend.
-const AROUND: usize = 2 * BESIDE + LEFT + PROBE + PART - 1;
-
-/// What is answered of a field without a number.
-const NO_NUMBER: Number = Number {
-    number: 0,
-    state: NOTHING,
-};
 
 /// What these numbers ask for, or why they are refused.
 fn seek_of(system: u32, black: u32, white: u32, counted: u32, pace: u32) -> Result<Seek, Refusal>
@@ -73,141 +51,27 @@ fn seek_of(system: u32, black: u32, white: u32, counted: u32, pace: u32) -> Resu
     Ok(Seek { setup, judging })
 }
 
-/// Fields of a side, each counted from its first.
-#[derive(Clone, Copy)]
-struct Around {
-    /// The first of those that are judged.
-    first: usize,
-    /// The first of those in which the number is looked for.
-    from: usize,
-    /// One past the last of those.
-    to: usize,
-    /// One past the last of those that are judged.
-    end: usize,
-}
-
-/// The fields around a place: this many in which the number is looked for, and as many before and after them as their
-/// answers depend on.
-fn fields_around(search: &Search, place: &Between) -> Around
-    requires { IsPart search.now place.now }
-    ensures window { IsWindow search.now.count result }
-    ensures reached { (t : ℕ) → IsPlaced t place.now → AreAround search.now.count t result.from result.to }
-    ensures wide { (result.from + 24 ≤ result.to) ⊎ ((result.from ≡ 0) × (result.to ≡ search.now.count)) }
-    ensures early { (0 < result.from) → result.from < place.now.low }
+/// The pace of a number that was sought, as C sees it.
+fn sought_pace(pace: Option<Pace>) -> u32
+    ensures { result ≡ sought_pace pace }
 {
-    let from = place.low.saturating_sub(BESIDE);
-    let wide = (place.high - place.low).min(LEFT) + PROBE + BESIDE;
-    let to = place.low + (search.count - place.low).min(wide);
-    Around {
-        first: from.saturating_sub(2 * REACH),
-        from,
-        to,
-        end: to + (search.count - to).min(2 * REACH),
+    match pace {
+        Some(pace) => pace_for_c(pace),
+        None => 0,
     }
 }
 
-/// Puts the number of each field that is judged into its place, by what these fields show, and answers the pace at
-/// which they are.
-fn judge_around(
-    search: &Search,
-    around: &Around,
-    numbers: &mut [Number],
-    looked: &mut Looked,
-) -> Pace
-    requires window { IsWindow search.now.count around.now }
-    requires places { length numbers.old ≡ around.now.end - around.now.first }
-    requires room { looked.old.fields ≤ probed_most }
-    ensures counted { looked.new.fields ≡ looked.old.fields + (around.now.end - around.now.first) }
-    ensures judged { IsJudgedAround search.now around.now result numbers.new }
+/// A number that was sought, as C sees it.
+fn sought_for_c(sought: Sought) -> LdvbiSought
+    ensures { result ≡ sought_for_c sought }
 {
-    let mut all_seen = [NOTHING_SEEN; AROUND];
-    let seen = &mut all_seen[..around.end - around.first];
-    see_from(search, around.first, seen, looked);
-    let pace = pace_for(&search.seek.judging, seen);
-    judge(seen, pace, numbers);
-    pace
-}
-
-/// The first field in which the number is looked for that has it, counted from the first of these. None if it is the
-/// very first of these, unless the side begins there: of the field before it it isn't known that it has another number.
-fn first_among(around: &Around, numbers: &[Number], number: u32) -> Option<usize>
-    requires order { (around.now.first ≤ around.now.from) × (around.now.from ≤ around.now.to) }
-    requires inside { around.now.to - around.now.first ≤ length numbers.now }
-    ensures first { IfSome result (λ at. IsFirst (among around.now numbers.now) number (Some at)) }
-    ensures known { IfSome result (λ at. (0 < at) ⊎ (around.now.from ≡ 0)) }
-    ensures none { result ≡ None → IsFirst (among around.now numbers.now) number None
-        ⊎ IsFirst (among around.now numbers.now) number (Some 0) × (0 < around.now.from) }
-{
-    let (from, to) = (around.from - around.first, around.to - around.first);
-    let Some(at) = first_of(&numbers[from..to], number) else {
-        return None;
-    };
-    if at == 0 && around.from > 0 {
-        return None;
-    }
-    Some(at)
-}
-
-/// The nearest lower number and the nearest higher one that are believed of the fields in which the number is looked
-/// for.
-fn neighbours_among(
-    search: &Search,
-    around: &Around,
-    numbers: &[Number],
-) -> (LdvbiNeighbour, LdvbiNeighbour)
-    requires window { IsWindow search.now.count around.now }
-    requires places { length numbers.now ≡ around.now.end - around.now.first }
-    ensures before { (pace : paces.Pace) → IsJudgedAround search.now around.now pace numbers.now
-        → IsBefore pace (shown_of search.now.seek search.now.bytes.now search.now.count) search.now.count
-        around.now.from around.now.to search.now.number result.0 }
-    ensures after { (pace : paces.Pace) → IsJudgedAround search.now around.now pace numbers.now
-        → IsAfter pace (shown_of search.now.seek search.now.bytes.now search.now.count) search.now.count
-        around.now.from around.now.to search.now.number result.1 }
-{
-    let (from, to) = (around.from - around.first, around.to - around.first);
-    let told = &numbers[from..to];
-    let before = last_lower(told, search.number);
-    let after = first_higher(told, search.number);
-    (
-        neighbour_at(told, around.from, search.count, before),
-        neighbour_at(told, around.from, search.count, after),
-    )
-}
-
-/// Looks for the number in the fields around its place.
-fn look_around(search: &Search, place: &Between, mut looked: Looked) -> LdvbiSought
-    requires part { IsPart search.now place.now }
-    requires few { looked.fields ≤ probed_most }
-    ensures sought { IsSoughtIn search.now.seek search.now.bytes.now search.now.count search.now.number result }
-    ensures complete { (t : ℕ) (pace : paces.Pace)
-        → IsFirstKnown search.now.seek search.now.bytes.now search.now.count search.now.number t pace
-        → IsPlaced t place.now → result.field ≡ t }
-    ensures beside { (pace : paces.Pace) × (from to : ℕ)
-        × IsLookedFor search.now.seek search.now.bytes.now search.now.count search.now.number result pace from to
-        × ((t : ℕ) → IsPlaced t place.now → AreAround search.now.count t from to) }
-{
-    let around = fields_around(search, place);
-    let mut all_numbers = [NO_NUMBER; AROUND];
-    let numbers = &mut all_numbers[..around.end - around.first];
-    let pace = judge_around(search, &around, numbers, &mut looked);
-    let (before, after) = neighbours_among(search, &around, numbers);
-    match first_among(&around, numbers, search.number) {
-        Some(at) => LdvbiSought {
-            field: around.from + at,
-            number: numbers[around.from - around.first + at],
-            pace: pace_for_c(pace),
-            looked: looked.fields,
-            before,
-            after,
-        },
-        None => LdvbiSought {
-            field: search.count,
-            number: NO_NUMBER,
-            pace: 0,
-            looked: looked.fields,
-            before,
-            after,
-        },
+    LdvbiSought {
+        field: sought.field,
+        number: sought.number,
+        pace: sought_pace(sought.pace),
+        looked: sought.looked,
+        before: sought.before,
+        after: sought.after,
     }
 }
 
@@ -227,24 +91,69 @@ pub extern "C" fn ldvbi_seek(
     sought: &mut LdvbiSought,
 ) -> u32
     ensures status { result ≡ status_of (seek_of system black white counted pace) }
-    ensures seeks { IfOk (seek_of system black white counted pace) (λ seek.
-        IsSought seek bytes.now number sought.new) }
-    ensures complete { IfOk (seek_of system black white counted pace) (λ seek.
-        IsComplete seek bytes.now number sought.new) }
-    ensures neighbours { IfOk (seek_of system black white counted pace) (λ seek.
-        AreBeside seek bytes.now number sought.new) }
+    ensures seeks { IfOk (seek_of system black white counted pace) (λ seek. (found : numbers.Sought)
+        × IsSought seek bytes.now number found × IsComplete seek bytes.now number found
+        × AreBeside seek bytes.now number found × (sought.new ≡ sought_for_c found)) }
     ensures unwritten { result ≢ 0 → sought.new ≡ sought.old }
 {
     match seek_of(system, black, white, counted, pace) {
         Ok(seek) => {
-            let search = Search {
-                seek,
-                bytes,
-                count: bytes.len() / seek.setup.system.field_bytes(),
-                number,
-            };
-            let (place, looked) = place_of(&search);
-            *sought = look_around(&search, &place, looked);
+            *sought = sought_for_c(seek_number(seek, bytes, number));
+            DONE
+        }
+        Err(refusal) => refusal.status(),
+    }
+}
+
+/// Seeks a chapter in the bytes of a side: a field of which `ldvbi_judge_chapters` believes it, by what
+/// `ldvbi_recover_fields` reads of the whole side, and of none of the 72 fields before it. A last field that is cut is
+/// left out. At most 1,000 fields are read, so if the chapters don't rise along the side it may be missed.
+#[unsafe(no_mangle)]
+pub extern "C" fn ldvbi_seek_chapter(
+    system: u32,
+    black: u32,
+    white: u32,
+    bytes: &[u8],
+    chapter: u32,
+    place: &mut FoundField,
+) -> u32
+    ensures status { result ≡ status_of (setup_of system black white) }
+    ensures seeks { IfOk (setup_of system black white) (λ setup.
+        IsChapterSought (side_in setup bytes.now) chapter place.new) }
+    ensures complete { IfOk (setup_of system black white) (λ setup.
+        IsChapterComplete (side_in setup bytes.now) chapter place.new) }
+    ensures unwritten { result ≢ 0 → place.new ≡ place.old }
+{
+    match setup_of(system, black, white) {
+        Ok(setup) => {
+            *place = seek_chapter(setup, bytes, chapter);
+            DONE
+        }
+        Err(refusal) => refusal.status(),
+    }
+}
+
+/// Seeks the next picture stop in the bytes of a side: the first field from `field` on of which `ldvbi_judge_stops`
+/// believes one, by what `ldvbi_recover_fields` reads of it. No more than `most` fields are read, and none after it. A
+/// last field that is cut is left out.
+#[unsafe(no_mangle)]
+pub extern "C" fn ldvbi_next_stop(
+    system: u32,
+    black: u32,
+    white: u32,
+    bytes: &[u8],
+    field: usize,
+    most: usize,
+    stop: &mut FoundField,
+) -> u32
+    ensures status { result ≡ status_of (setup_of system black white) }
+    ensures finds { IfOk (setup_of system black white) (λ setup.
+        IsNextStop (side_in setup bytes.now) field most stop.new) }
+    ensures unwritten { result ≢ 0 → stop.new ≡ stop.old }
+{
+    match setup_of(system, black, white) {
+        Ok(setup) => {
+            *stop = next_stop(setup, bytes, field, most);
             DONE
         }
         Err(refusal) => refusal.status(),

@@ -5,17 +5,11 @@ ghost use Rattle.vbi_words.specs.Geometry.{line_bytes};
 ghost use Rattle.vbi_c.specs.Setups.{system_of, setup_of, line_setup, rows_setup, fields_setup, lines_setup};
 
 use crate::status::Refusal;
+pub(crate) use vbi_seek::Setup;
 use vbi_words::{Levels, System};
 
 /// This many lines at most have their nearest word searched: the sums of more could pass 32 bits.
 pub(crate) const MOST_LINES: usize = 28;
-
-/// A system and its black and white.
-#[derive(Clone, Copy)]
-pub(crate) struct Setup {
-    pub(crate) system: System,
-    pub(crate) levels: Levels,
-}
 
 /// The system of a number: 1 is NTSC, 2 is PAL.
 pub(crate) fn system_of(number: u32) -> Option<System>

@@ -3,21 +3,39 @@
 ghost use Rattle.std.specs.Prelude.{◌≡◌, ◌≢◌, ◌≤◌, length, IfOk};
 ghost use Rattle.vbi_side.specs.declared.clock.Clock as clocks;
 ghost use Rattle.vbi_side.specs.declared.pace.Pace as paces;
-ghost use Rattle.vbi_side.specs.Verdicts.{IsFinding};
-ghost use Rattle.vbi_c.specs.Clocks.{clock_given, clock_for_c, IsClockFound};
-ghost use Rattle.vbi_c.specs.Judging.{counted_of, with_lengths};
-ghost use Rattle.vbi_c.specs.Setups.{system_of};
-ghost use Rattle.vbi_c.specs.WholeSides.{pace_given, siding_of, siding_by, numbering_of, with_given, both_by};
-ghost use Rattle.vbi_c.specs.WholeSides.{both_for_c, slack_by, may_end_by};
+ghost use Rattle.vbi_whole.specs.Verdicts.{IsFinding};
+ghost use Rattle.vbi_c.specs.Clocks.{clock_for_c, IsClockFound};
+ghost use Rattle.vbi_c.specs.Judging.{are_as_long};
+ghost use Rattle.vbi_c.specs.WholeSides.{pace_given, siding_by, siding_with, numbering_of, both_by};
+ghost use Rattle.vbi_c.specs.WholeSides.{both_for_c, slack_by, may_end_by, judged_by};
 ghost use Rattle.vbi_c.specs.Statuses.{status_of};
+ghost use Rattle.vbi_whole.specs.Gaps.{rule_by};
 
-use crate::clock::{LdvbiClock, PLAIN, clock_for_c, clock_given};
+use crate::clock::{LdvbiClock, clock_for_c, clock_given};
 use crate::judging::{are_as_long, counted_of, with_lengths};
 use crate::status::{DONE, Refusal};
-use vbi_side::{
-    Clock, Finding, Gap, Number, Numbering, Pace, Rule, Sightings, find_clock, is_on_both,
-    judge_whole,
-};
+use std::mem::size_of;
+use vbi_side::{Clock, Number, Pace, Sightings};
+use vbi_whole::{Finding, Gap, Numbering, Rule, Side, find_clock, is_on_both, judge_whole};
+
+/// The rule by which a side is judged, in C's numbers.
+#[derive(Clone, Copy)]
+#[repr(C)]
+pub struct LdvbiSideRule {
+    /// 1 for NTSC, 2 for PAL.
+    pub system: u32,
+    /// 1 for pictures, 2 for times.
+    pub counted: u32,
+    /// 1 for that of video, 2 for that of film.
+    pub pace: u32,
+    /// Whether numbers are on both fields of a picture: 0 says no, 3 that it is to be found, any other number yes.
+    pub both: u32,
+    /// Which numbers the disc leaves out.
+    pub clock: LdvbiClock,
+}
+
+// As include/ldvbi.h has it.
+const _: () = prove!(size_of::<LdvbiSideRule>() == 28);
 
 /// What a side is judged by.
 #[derive(Clone, Copy)]
@@ -37,19 +55,17 @@ fn pace_given(number: u32) -> Option<Pace>
     }
 }
 
-/// What these numbers ask for, if the lengths of the arrays fit, or why they are refused.
-pub(crate) fn siding_of(
-    system: u32,
-    counted: u32,
-    pace: u32,
+/// What a rule with this clock asks for, if the lengths of the arrays fit, or why it is refused.
+pub(crate) fn siding_with(
+    rule: &LdvbiSideRule,
     clock: Option<Clock>,
     fit: bool,
 ) -> Result<Siding, Refusal>
-    ensures { result ≡ with_given (with_lengths (system_of system) fit) (counted_of counted) (pace_given pace) clock }
+    ensures { result ≡ siding_with rule.now clock fit }
 {
-    let system = with_lengths(system, fit)?;
-    let counted = counted_of(counted).ok_or(Refusal::Counted)?;
-    let pace = pace_given(pace).ok_or(Refusal::Pace)?;
+    let system = with_lengths(rule.system, fit)?;
+    let counted = counted_of(rule.counted).ok_or(Refusal::Counted)?;
+    let pace = pace_given(rule.pace).ok_or(Refusal::Pace)?;
     let clock = clock.ok_or(Refusal::Clock)?;
     Ok(Siding {
         numbering: Numbering {
@@ -59,6 +75,13 @@ pub(crate) fn siding_of(
         },
         pace,
     })
+}
+
+/// What a rule asks for, if the lengths of the arrays fit, or why it is refused.
+pub(crate) fn siding_by(rule: &LdvbiSideRule, fit: bool) -> Result<Siding, Refusal>
+    ensures { result ≡ siding_by rule.now fit }
+{
+    siding_with(rule, clock_given(&rule.clock), fit)
 }
 
 /// Whether the disc has its numbers on both fields of a picture: by what is said, or, of 3, by what is found.
@@ -95,9 +118,7 @@ fn slack_by(pace: Pace, both: u32, numbers: &[Number]) -> u64
 impl Siding {
     /// The rule by which numbers go on.
     pub(crate) fn rule(self, both: u32, numbers: &[Number]) -> Rule
-        ensures pace { result.pace ≡ self.pace }
-        ensures slack { result.slack ≡ slack_by self.pace both numbers.now }
-        ensures numbering { result.numbering ≡ self.numbering }
+        ensures { result ≡ rule_by self.pace (slack_by self.pace both numbers.now) self.numbering }
     {
         Rule {
             pace: self.pace,
@@ -114,89 +135,60 @@ impl Siding {
     }
 }
 
-/// The clock to which the believed numbers of a side keep.
+/// The clock to which the believed numbers of a side keep. That of the rule isn't looked at.
 #[unsafe(no_mangle)]
 pub extern "C" fn ldvbi_find_clock(
-    system: u32,
-    counted: u32,
-    pace: u32,
-    both: u32,
+    rule: &LdvbiSideRule,
     numbers: &[Number],
     clock: &mut LdvbiClock,
 ) -> u32
-    ensures status { result ≡ status_of (numbering_of system counted pace) }
-    ensures finds { IfOk (numbering_of system counted pace) (λ siding. (found : clocks.Clock)
-        × IsClockFound siding.pace (slack_by siding.pace both numbers.now) siding.numbering numbers.now found
+    ensures status { result ≡ status_of (numbering_of rule.now) }
+    ensures finds { IfOk (numbering_of rule.now) (λ siding. (found : clocks.Clock)
+        × IsClockFound siding.pace (slack_by siding.pace rule.now.both numbers.now) siding.numbering numbers.now found
         × (clock.new ≡ clock_for_c found)) }
     ensures unwritten { result ≢ 0 → clock.new ≡ clock.old }
 {
-    match siding_of(system, counted, pace, Some(Clock::Plain), true) {
+    match siding_with(rule, Some(Clock::Plain), true) {
         Ok(siding) => {
-            *clock = clock_for_c(siding.clock(both, numbers));
+            *clock = clock_for_c(siding.clock(rule.both, numbers));
             DONE
         }
         Err(refusal) => refusal.status(),
     }
 }
 
-/// Where the numbers and the fields of a side don't go on together, and whether its capture is whole: by the clock, by
-/// what `ldvbi_judge` saw and answered of its fields, and by what `ldvbi_judge_ends` answered of its ends. `gaps` gets
-/// the first gaps, as many as it has room for.
+/// Where the numbers and the fields of a side don't go on together by a rule, and whether its capture is whole: by what
+/// `ldvbi_judge` saw and answered of its fields, and by what `ldvbi_judge_ends` answered of its ends. `gaps` gets the
+/// first gaps, as many as it has room for.
 #[unsafe(no_mangle)]
-pub extern "C" fn ldvbi_judge_side_by_clock(
-    system: u32,
-    counted: u32,
-    pace: u32,
-    both: u32,
+pub extern "C" fn ldvbi_judge_side(
+    rule: &LdvbiSideRule,
     may_end: u32,
-    clock: &LdvbiClock,
     seen: &[Sightings],
     numbers: &[Number],
     ends: &[u32],
     gaps: &mut [Gap],
     side: &mut Finding,
 ) -> u32
-    ensures status { result ≡ status_of (siding_by system counted pace clock.now
-        (length seen.now) (length numbers.now) (length ends.now)) }
-    ensures judges { IfOk (siding_by system counted pace clock.now
-        (length seen.now) (length numbers.now) (length ends.now))
-        (λ siding. IsFinding siding.pace (slack_by siding.pace both numbers.now) siding.numbering (may_end_by may_end)
-        seen.now numbers.now ends.now side.new gaps.old gaps.new) }
+    ensures status { result ≡ status_of (siding_by rule.now
+        (are_as_long (length seen.now) (length numbers.now) (length ends.now))) }
+    ensures judges { IfOk (siding_by rule.now (are_as_long (length seen.now) (length numbers.now) (length ends.now)))
+        (λ siding. IsFinding (judged_by siding rule.now.both seen.now numbers.now ends.now) (may_end_by may_end)
+        side.new gaps.old gaps.new) }
     ensures unwritten { result ≢ 0 → (gaps.new ≡ gaps.old) × (side.new ≡ side.old) }
 {
     let fit = are_as_long(seen.len(), numbers.len(), ends.len());
-    match siding_of(system, counted, pace, clock_given(clock), fit) {
+    match siding_by(rule, fit) {
         Ok(siding) => {
-            let rule = siding.rule(both, numbers);
-            *side = judge_whole(seen, numbers, ends, rule, may_end != 0, gaps);
+            let judged = Side {
+                rule: siding.rule(rule.both, numbers),
+                seen,
+                numbers,
+                ends,
+            };
+            *side = judge_whole(&judged, may_end != 0, gaps);
             DONE
         }
         Err(refusal) => refusal.status(),
     }
-}
-
-/// The same of a disc that leaves no number out, or of which it isn't known which.
-#[unsafe(no_mangle)]
-pub extern "C" fn ldvbi_judge_side(
-    system: u32,
-    counted: u32,
-    pace: u32,
-    both: u32,
-    may_end: u32,
-    seen: &[Sightings],
-    numbers: &[Number],
-    ends: &[u32],
-    gaps: &mut [Gap],
-    side: &mut Finding,
-) -> u32
-    ensures status { result ≡ status_of (siding_of system counted pace
-        (length seen.now) (length numbers.now) (length ends.now)) }
-    ensures judges { IfOk (siding_of system counted pace (length seen.now) (length numbers.now) (length ends.now))
-        (λ siding. IsFinding siding.pace (slack_by siding.pace both numbers.now) siding.numbering (may_end_by may_end)
-        seen.now numbers.now ends.now side.new gaps.old gaps.new) }
-    ensures unwritten { result ≢ 0 → (gaps.new ≡ gaps.old) × (side.new ≡ side.old) }
-{
-    ldvbi_judge_side_by_clock(
-        system, counted, pace, both, may_end, &PLAIN, seen, numbers, ends, gaps, side,
-    )
 }

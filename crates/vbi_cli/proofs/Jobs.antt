@@ -9,7 +9,7 @@ use Rattle.vbi_field.specs.declared.summary.Summary.{Summary}
 use Rattle.vbi_meta.proofs.DocumentReadings.{extracted, extracted_recovered}
 use Rattle.vbi_meta.specs.DocumentValue.{IsConfig, IsOfRun}
 use Rattle.vbi_meta.specs.ReadBack.{ReadsBack, RecoversBack}
-use Rattle.vbi_meta.specs.declared.choosing.Overrides.{Overrides}
+use Rattle.vbi_meta.specs.declared.overrides.Overrides.{Overrides}
 use Rattle.vbi_cli.specs.Jobs.{Counting, Did, ExtractsWords, Settles, Under, UnlessMeta, recovers}
 use Rattle.vbi_cli.specs.declared.command_line.Verb.{Verb}
 use Rattle.vbi_cli.specs.declared.command_line.Verb.TheVariants.{Line, Extract, Show, Draw}

@@ -5,12 +5,12 @@ use Rattle.std.specs.Prelude.{codes, Bool, true, false, not, ◌&&◌}
 use Rattle.vbi_field.specs.ConfigView.{line_bytes, System, ConfigView}
 use Rattle.vbi_words.specs.declared.outcome.Outcome.{Outcome}
 use Rattle.vbi_field.specs.Texts.{Kind, document, recovered_document, report, recovered_report}
-use Rattle.vbi_field.specs.Ran.{Counts, Ran}
+use Rattle.vbi_field.specs.Ran.{Counts, Ran, Use}
 use Rattle.vbi_field.specs.declared.summary.Summary.{Summary}
 use Rattle.vbi_field.specs.declared.summary.RunFault.{RunFault}
 use Rattle.vbi_field.specs.declared.summary.RunFault.TheVariants as run
 use Rattle.vbi_meta.specs.Settings.{IsMetadata, IsUnread, IsSettled, IsRefused, Data}
-use Rattle.vbi_meta.specs.declared.choosing.Overrides.{Overrides}
+use Rattle.vbi_meta.specs.declared.overrides.Overrides.{Overrides}
 use Rattle.vbi_meta.specs.declared.fault.MetaFault.{MetaFault}
 use Rattle.vbi_meta.specs.ReadBack.{ReadsBack, RecoversBack}
 use Rattle.vbi_cli.specs.OneLine as line
@@ -123,7 +123,7 @@ abbrev pub IfMeta : Result Ended AppFault → (MetaFault → Type 0) → Type 0
 IfMeta (Err (app.Meta fault)) P = P fault
 IfMeta _ P = ⊤
 
--- P holds, unless the answer is one of those faults
+-- P holds, unless the answer is a fault of metadata or settings
 abbrev pub UnlessMeta : Result Ended AppFault → Type 0 → Type 0
 UnlessMeta (Err (app.Meta fault)) P = ⊤
 UnlessMeta _ P = P
@@ -145,7 +145,7 @@ module _ {R : Type 0} where
   verb_of (source.Show i recover) = Show
   verb_of (source.Draw i) = Draw
 
-  -- it recovers words
+  -- the command recovers words
   abbrev pub recover_of : Source R → Bool
   recover_of (source.Line i) = false
   recover_of (source.Extract i recover) = recover
@@ -173,13 +173,14 @@ counts_of (source.Extract i recover) o = extracts.counts_of i o
 counts_of (source.Show i recover) o = extracts.counts_of i o
 counts_of (source.Draw i) o = draws.counts_of i o
 
--- what a command did with its fresh source and a fresh outlet, of which the first of two is that before, by its answer
-abbrev pub Does : {R W : Type 0} → (R → Option (List ℕ)) → (W → Option (List ℕ)) → ConfigView
-    → Source R → Source R → Outlet W → Outlet W → Result Ended AppFault → Type 0
-Does remaining contents c s0 s o0 o answer =
-    Did c (remaining (outlets.device_of (counted_of s0))) (remaining (outlets.device_of (counted_of s)))
-    (contents (outlets.device_of (outlets.counted_of o0))) (contents (outlets.device_of (outlets.counted_of o)))
-    (counts_of s o) (verb_of s0) (recover_of s0) answer
+module _ {R W : Type 0} where
+  -- what a command did with its fresh source and a fresh outlet, by its answer
+  abbrev pub Does : ConfigView → Use R (Source R) → Use W (Outlet W) → Result Ended AppFault → Type 0
+  Does c s o answer =
+      Did c (s.told (outlets.device_of (counted_of s.before))) (s.told (outlets.device_of (counted_of s.after)))
+      (o.told (outlets.device_of (outlets.counted_of o.before)))
+      (o.told (outlets.device_of (outlets.counted_of o.after)))
+      (counts_of s.after o.after) (verb_of s.before) (recover_of s.before) answer
 
 -- the bytes that the program's input has yet to give, if they are told: those of the file or of standard input
 abbrev pub input_remaining : {F S : Type 0} → (F → Option (List ℕ)) → (S → Option (List ℕ)) → Input F S

@@ -1,6 +1,6 @@
 -- What the command `line` does, by its answer: z are the bytes fetched, text is what was written, n what was counted.
 use Rattle.std.specs.Prelude.{◌≡◌, ℕ, ◌<◌, List, [], ◌++◌, codes, length, Option, Result, Ok, Err}
-use Rattle.vbi_field.specs.Ran.{IsAtEnd, Counts, HasFailed, IsCalm, IsFirstOf, Ran}
+use Rattle.vbi_field.specs.Ran.{IsAtEnd, Counts, HasFailed, IsCalm, IsFirstOf, Ran, Use}
 use Rattle.vbi_field.specs.ConfigView.{width_of, line_bytes, ConfigView}
 use Rattle.vbi_field.specs.Stream.{row_levels, reading_of}
 use Rattle.vbi_field.specs.CodeTexts.{Outcome, Word, cause_text_of, hex_text_of}
@@ -70,10 +70,12 @@ pub record Answers (c : ConfigView) (input : Option (List ℕ)) (n : Counts) (re
   pub devices : FailsBy result n
   pub came : EndsBy c input z text result
 
--- the run of a fresh intake and a fresh outlet that gave this answer
-abbrev pub RunsLine : {R W : Type 0} → (R → Option (List ℕ)) → (W → Option (List ℕ)) → ConfigView
-    → Intake R → Intake R → Outlet W → Outlet W → Result Outcome LineFault → Type 0
-RunsLine remaining contents c i0 i o0 o result =
-    Ran (remaining (outlets.device_of (intakes.counted_of i0))) (remaining (outlets.device_of (intakes.counted_of i)))
-    (contents (outlets.device_of (outlets.counted_of o0))) (contents (outlets.device_of (outlets.counted_of o)))
-    (counts_of i o) (Answers c (remaining (outlets.device_of (intakes.counted_of i))) (counts_of i o) result)
+module _ {R W : Type 0} where
+  -- the run of a fresh intake and a fresh outlet that gave this answer
+  abbrev pub RunsLine : ConfigView → Use R (Intake R) → Use W (Outlet W) → Result Outcome LineFault → Type 0
+  RunsLine c i o result =
+      let input = i.told (outlets.device_of (intakes.counted_of i.after)) in
+      let n = counts_of i.after o.after in
+      Ran (i.told (outlets.device_of (intakes.counted_of i.before))) input
+      (o.told (outlets.device_of (outlets.counted_of o.before)))
+      (o.told (outlets.device_of (outlets.counted_of o.after))) n (Answers c input n result)

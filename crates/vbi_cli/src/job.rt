@@ -4,6 +4,7 @@ ghost use Rattle.std.specs.Prelude.{◌≡◌, ◌≢◌, IfOk, IfErr, Err, true
 ghost use Rattle.vbi_line.specs.Counted.{IsSameDevice};
 ghost use Rattle.vbi_line.specs.Intake as lines;
 ghost use Rattle.vbi_field.specs.Outlet as outlets;
+ghost use Rattle.vbi_field.specs.Ran.{over};
 ghost use Rattle.vbi_field.specs.RowIntake as row_intakes;
 ghost use Rattle.vbi_meta.specs.DocumentValue.{IsConfig};
 ghost use Rattle.vbi_cli.specs.Jobs.{Settles, Refuses, Under, Counting, Did, IfMeta, UnlessMeta, IsEndedBy};
@@ -45,9 +46,9 @@ pub fn status(ended: &Result<Ended, AppFault>) -> u8
     }
 }
 
-/// Settles the settings from metadata and the job's options, and then does what the job says. The paths in the job
-/// aren't looked at. Memory is taken for the metadata document alone. It doesn't flush. The counts of the two devices
-/// are made here; `settle` and `do_command` say the same of counts that their caller has.
+/// Settles the settings from metadata and the job's options, and then does what the job says: what the program does
+/// between opening its files and flushing its output. The paths in the job aren't looked at. Memory is taken for the
+/// metadata document alone. It doesn't flush.
 pub fn run_job<R: Read, W: Write>(
     alloc: Global,
     job: &Job,
@@ -75,7 +76,7 @@ pub fn run_job<R: Read, W: Write>(
 }
 
 /// What metadata and the job's options settle.
-pub fn settle(alloc: Global, job: &Job, meta: Option<&[u8]>) -> Result<Config, MetaFault>
+fn settle(alloc: Global, job: &Job, meta: Option<&[u8]>) -> Result<Config, MetaFault>
     ensures ok { IfOk result (Settles (option_map (λ b. b.now) meta.entry) job.now.overrides) }
     ensures err { IfErr result (Refuses (option_map (λ b. b.now) meta.entry) job.now.overrides) }
 {
@@ -90,7 +91,7 @@ pub fn settle(alloc: Global, job: &Job, meta: Option<&[u8]>) -> Result<Config, M
 
 /// Does the command of a source. What it fetched and wrote, its answer, and what source and outlet have counted of the
 /// two devices belong together as `Did` says. It doesn't flush.
-pub fn do_command<R: Read, W: Write>(
+fn do_command<R: Read, W: Write>(
     config: &Config,
     source: &mut Source<R>,
     outlet: &mut Outlet<W>,
@@ -99,7 +100,8 @@ pub fn do_command<R: Read, W: Write>(
     requires outlet { outlets.IsFresh outlet.old }
     ensures same_reader { IsSameDevice (sources.counted_of source.old) (sources.counted_of source.new) }
     ensures same_writer { IsSameDevice (outlets.counted_of outlet.old) (outlets.counted_of outlet.new) }
-    ensures did { Does R.remaining W.contents config.now source.old source.new outlet.old outlet.new result }
+    ensures did { Does config.now (over R.remaining source.old source.new)
+        (over W.contents outlet.old outlet.new) result }
 {
     match source {
         Source::Line(intake) => line_job(config, intake, outlet),
@@ -133,8 +135,8 @@ fn line_job<R: Read, W: Write>(
     requires outlet { outlets.IsFresh outlet.old }
     ensures same_reader { IsSameDevice (lines.counted_of intake.old) (lines.counted_of intake.new) }
     ensures same_writer { IsSameDevice (outlets.counted_of outlet.old) (outlets.counted_of outlet.new) }
-    ensures did { Does R.remaining W.contents config.now (source.Line intake.old) (source.Line intake.new)
-        outlet.old outlet.new result }
+    ensures did { Does config.now (over R.remaining (source.Line intake.old) (source.Line intake.new))
+        (over W.contents outlet.old outlet.new) result }
 {
     let outcome = run_line(config, intake, outlet);
     line_end(config.system(), outcome)
@@ -180,8 +182,8 @@ fn text_job<R: Read, W: Write>(
     requires outlet { outlets.IsFresh outlet.old }
     ensures same_reader { IsSameDevice (lines.counted_of intake.old) (lines.counted_of intake.new) }
     ensures same_writer { IsSameDevice (outlets.counted_of outlet.old) (outlets.counted_of outlet.new) }
-    ensures did { Does R.remaining W.contents config.now (source_of text intake.old) (source_of text intake.new)
-        outlet.old outlet.new result }
+    ensures did { Does config.now (over R.remaining (source_of text intake.old) (source_of text intake.new))
+        (over W.contents outlet.old outlet.new) result }
 {
     match text {
         Text::Document => {
@@ -232,8 +234,8 @@ fn draw_job<R: Read, W: Write>(
     requires outlet { outlets.IsFresh outlet.old }
     ensures same_reader { IsSameDevice (row_intakes.counted_of rows.old) (row_intakes.counted_of rows.new) }
     ensures same_writer { IsSameDevice (outlets.counted_of outlet.old) (outlets.counted_of outlet.new) }
-    ensures did { Does R.remaining W.contents config.now (source.Draw rows.old) (source.Draw rows.new)
-        outlet.old outlet.new result }
+    ensures did { Does config.now (over R.remaining (source.Draw rows.old) (source.Draw rows.new))
+        (over W.contents outlet.old outlet.new) result }
 {
     let fields = draw(config, rows, outlet);
     drawing_end(fields)

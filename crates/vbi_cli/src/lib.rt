@@ -1,6 +1,6 @@
 //! What the program `ldvbi` does between its start and its end, over readers and writers that are lent to it: the words
-//! of the command line become a job (`read_words`), metadata and options its settings (`settle`), the command is done
-//! (`do_command`), and its end has a status (`status`). Only words and metadata take memory.
+//! of the command line become a job (`read_words`), the job is done over its devices (`run_job`), and its end has a
+//! status (`status`). Only words and metadata take memory.
 #![tactic(auto)]
 
 mod command_line;
@@ -14,6 +14,5 @@ mod source;
 pub use command_line::{Job, Verb, WordsFault, read_words};
 pub use fault::AppFault;
 pub use input::Input;
-pub use job::{Ended, do_command, run_job, settle, status};
+pub use job::{Ended, run_job, status};
 pub use one_line::{LineFault, run_line};
-pub use source::Source;

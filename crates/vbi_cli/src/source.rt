@@ -13,7 +13,7 @@ use vbi_words::System;
 /// A command with what it reads from: a borrowed reader, whose bytes and failures are counted. The command `draw` reads
 /// rows of words, and each other one lines of samples.
 #[derive(Drop)]
-pub enum Source<'a, R> {
+pub(crate) enum Source<'a, R> {
     /// `line`, with the line's samples.
     Line(Intake<'a, R>),
     /// `extract`.
@@ -37,7 +37,7 @@ pub enum Source<'a, R> {
 impl<'a, R: Read> Source<'a, R> {
     /// The source of a command on lines of this system, which recovers words if it can and is asked to. It has not
     /// called the reader.
-    pub fn new(verb: Verb, recover: bool, system: System, reader: &'a mut R) -> Self
+    pub(crate) fn new(verb: Verb, recover: bool, system: System, reader: &'a mut R) -> Self
         ensures same { name_of (counted_of result) ≡ reader.entry.ghost_name }
         ensures reader { device_of (counted_of result) ≡ reader.old }
         ensures verb { verb_of result ≡ verb }
@@ -59,7 +59,7 @@ impl<'a, R: Read> Source<'a, R> {
     }
 
     /// Gives the borrowed reader back, as the calls have left it.
-    pub fn into_reader(self) -> &'a mut R
+    pub(crate) fn into_reader(self) -> &'a mut R
         ensures same { result.ghost_name ≡ name_of (counted_of self.entry) }
         ensures reader { result.now ≡ device_of (counted_of self.entry) }
     {

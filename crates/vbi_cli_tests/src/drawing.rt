@@ -2,7 +2,7 @@
 
 use crate::asserts::ends;
 use crate::known::{drawn_fields, front};
-use crate::runs::{Asked, NTSC, Ran, job, run_between};
+use crate::runs::{DeviceCalls, NTSC, Ran, job, run_between};
 use std::alloc::Global;
 use std::test::Fail;
 use vbi_cli::{AppFault, Ended, Verb};
@@ -158,7 +158,7 @@ fn ends_at_a_write_fault_and_asks_no_more(rt: HostRuntime) -> Result<(), Fail> {
         let ran = run_draw(alloc, None, Tape::new(text), paper);
         let written = u64::from(room);
         ends(&ran, Err(AppFault::Write { written }), 1, (text, room))?;
-        let asked = Asked {
+        let asked = DeviceCalls {
             reads,
             writes: written + 1,
             flushes: 0,

@@ -3,7 +3,7 @@
 use std::alloc::{AllocError, Global};
 use vbi_words::System;
 
-/// So many bytes of some, or all of fewer.
+/// The first bytes of some, this many, or all of fewer.
 pub(crate) fn front(bytes: &[u8], count: usize) -> &[u8] {
     let (front, _) = bytes.split_at(count.min(bytes.len()));
     front
@@ -47,7 +47,7 @@ pub(crate) fn repeated(alloc: Global, part: &[u8], times: usize) -> Result<Vec<u
     Ok(bytes)
 }
 
-/// So many bytes of a stream of black NTSC lines.
+/// The first bytes of a stream of black NTSC lines, this many.
 pub(crate) fn black_stream(alloc: Global, bytes: usize) -> Result<Vec<u8>, AllocError> {
     let line = black_line(alloc)?;
     let mut stream = repeated(alloc, line.as_slice(), bytes / 1820)?;
@@ -55,15 +55,16 @@ pub(crate) fn black_stream(alloc: Global, bytes: usize) -> Result<Vec<u8>, Alloc
     Ok(stream)
 }
 
-/// Where each half cell of a drawn word ends, in columns from the word's start: the whole part of its number, from 1,
-/// by 315/22.
+/// Where each half cell of a drawn NTSC word ends, in columns from the word's start: the whole part of its number, from
+/// 1, by 315/22.
 static NTSC_ENDS: [usize; 48] = [
     14, 28, 42, 57, 71, 85, 100, 114, 128, 143, 157, 171, 186, 200, 214, 229, 243, 257, 272, 286,
     300, 315, 329, 343, 357, 372, 386, 400, 415, 429, 443, 458, 472, 486, 501, 515, 529, 544, 558,
     572, 587, 601, 615, 630, 644, 658, 672, 687,
 ];
 
-/// The same by 709379/40000.
+/// Where each half cell of a drawn PAL word ends, in columns from the word's start: the whole part of its number, from
+/// 1, by 709379/40000.
 static PAL_ENDS: [usize; 48] = [
     17, 35, 53, 70, 88, 106, 124, 141, 159, 177, 195, 212, 230, 248, 266, 283, 301, 319, 336, 354,
     372, 390, 407, 425, 443, 461, 478, 496, 514, 532, 549, 567, 585, 602, 620, 638, 656, 673, 691,

@@ -8,7 +8,7 @@
 //! line of 910 samples (NTSC) or 1135 (PAL), of two bytes each.
 
 use crate::known::{drawn_line, front, push_samples, stored_line};
-use crate::runs::Asked;
+use crate::runs::DeviceCalls;
 use std::alloc::{AllocError, Global};
 use std::test::Fail;
 use vbi_cli::{LineFault, run_line};
@@ -21,17 +21,17 @@ use vbi_words::{Levels, Word24};
 
 /// What a run of `run_line` answers, what the intake and the outlet counted, and what the devices were asked.
 #[derive(Clone, Copy, Debug, PartialEq, Eq)]
-struct Done {
+struct LineRun {
     answer: Result<Outcome, LineFault>,
     fetched: u64,
     read_failures: u64,
     written: u64,
     write_failures: u64,
-    asked: Asked,
+    asked: DeviceCalls,
 }
 
 /// Runs `run_line` between two devices.
-fn run_counted(config: &Config, mut tape: Tape, paper: &mut Paper) -> Done {
+fn run_counted(config: &Config, mut tape: Tape, paper: &mut Paper) -> LineRun {
     let mut intake = Intake::new(&mut tape, config.system());
     let mut outlet = Outlet::new(paper);
     let answer = run_line(config, &mut intake, &mut outlet);
@@ -40,12 +40,12 @@ fn run_counted(config: &Config, mut tape: Tape, paper: &mut Paper) -> Done {
     let written = outlet.written();
     let write_failures = outlet.failures();
     let paper = outlet.into_writer();
-    let asked = Asked {
+    let asked = DeviceCalls {
         reads: intake.into_reader().asked,
         writes: paper.asked,
         flushes: paper.flushed,
     };
-    Done {
+    LineRun {
         answer,
         fetched,
         read_failures,
@@ -110,13 +110,13 @@ fn ends_at_a_read_fault_and_asks_no_more(rt: HostRuntime) -> Result<(), Fail> {
             ..Tape::new(front(line.as_slice(), bytes))
         };
         let [fetched, read_failures, reads] = counts;
-        let done = Done {
+        let done = LineRun {
             answer: Err(fault),
             fetched,
             read_failures,
             written: 0,
             write_failures: 0,
-            asked: Asked {
+            asked: DeviceCalls {
                 reads,
                 writes: 0,
                 flushes: 0,
@@ -153,13 +153,13 @@ fn ends_at_a_write_fault_and_asks_no_more(rt: HostRuntime) -> Result<(), Fail> {
         };
         let written = u64::from(room);
         let [write_failures, writes] = counts;
-        let done = Done {
+        let done = LineRun {
             answer: Err(LineFault::Write { written }),
             fetched: 1820,
             read_failures: 0,
             written,
             write_failures,
-            asked: Asked {
+            asked: DeviceCalls {
                 reads: 1,
                 writes,
                 flushes: 0,
@@ -199,13 +199,13 @@ fn answers_the_word_of_the_stored_line_however_it_comes(rt: HostRuntime) -> Resu
             ..Paper::new(rt.alloc())
         };
         let [reads, writes] = counts;
-        let done = Done {
+        let done = LineRun {
             answer: Ok(word),
             fetched: 1820,
             read_failures: read_interrupts as u64,
             written: 7,
             write_failures: interrupts as u64,
-            asked: Asked {
+            asked: DeviceCalls {
                 reads,
                 writes,
                 flushes: 0,
@@ -232,13 +232,13 @@ fn answers(
     input.extend_from_slice(b"rest")?;
     let tape = Tape::failing(input.as_slice(), line.len());
     let mut paper = Paper::new(alloc);
-    let done = Done {
+    let done = LineRun {
         answer: Ok(outcome),
         fetched: line.len() as u64,
         read_failures: 0,
         written: text.len() as u64,
         write_failures: 0,
-        asked: Asked {
+        asked: DeviceCalls {
             reads: 1,
             writes: 1,
             flushes: 0,

@@ -48,13 +48,13 @@ pub(crate) fn job(verb: Verb, overrides: Overrides) -> Job {
 
 /// How often the devices of a job were asked, and how often its writer was flushed.
 #[derive(Clone, Copy, Debug, PartialEq, Eq)]
-pub(crate) struct Asked {
+pub(crate) struct DeviceCalls {
     pub(crate) reads: u64,
     pub(crate) writes: u64,
     pub(crate) flushes: u64,
 }
 
-pub(crate) const NEVER: Asked = Asked {
+pub(crate) const NEVER: DeviceCalls = DeviceCalls {
     reads: 0,
     writes: 0,
     flushes: 0,
@@ -67,7 +67,7 @@ pub(crate) struct Ran {
     /// How many bytes of the input weren't read.
     pub(crate) left: usize,
     pub(crate) written: Vec<u8>,
-    pub(crate) asked: Asked,
+    pub(crate) asked: DeviceCalls,
 }
 
 /// Does a job between two devices.
@@ -79,7 +79,7 @@ pub(crate) fn run_between(
     mut paper: Paper,
 ) -> Ran {
     let ended = run_job(alloc, job, meta, &mut tape, &mut paper);
-    let asked = Asked {
+    let asked = DeviceCalls {
         reads: tape.asked,
         writes: paper.asked,
         flushes: paper.flushed,

@@ -6,7 +6,7 @@ use crate::known::{
     BLACK, HEAD, REPORT_BLACK, REPORT_HEAD, REPORT_TAIL, SECOND_BLACK, SECOND_REPORT_BLACK, TAIL,
     black_stream, front, joined,
 };
-use crate::runs::{Asked, NTSC, Ran, job, run_between};
+use crate::runs::{DeviceCalls, NTSC, Ran, job, run_between};
 use std::alloc::{AllocError, Global};
 use std::test::Fail;
 use vbi_cli::{AppFault, Ended, Verb};
@@ -37,7 +37,7 @@ fn wanted(alloc: Global, verb: Verb, fields: u32, tail: &str) -> Result<Vec<u8>,
 
 /// A run over a stream, and what comes of it.
 #[derive(Clone, Copy)]
-struct Row {
+struct StreamRow {
     limit: Option<u32>,
     /// The bytes of the stream.
     bytes: usize,
@@ -53,7 +53,7 @@ struct Row {
     reads: u64,
 }
 
-const EMPTY: Row = Row {
+const EMPTY: StreamRow = StreamRow {
     limit: None,
     bytes: 0,
     fault: None,
@@ -65,23 +65,23 @@ const EMPTY: Row = Row {
 };
 
 /// A run that ends by a fault, after one whole field.
-const FAULTY: Row = Row {
+const FAULTY: StreamRow = StreamRow {
     status: 1,
     fields: 1,
     tails: ["", ""],
     ..EMPTY
 };
 
-static ROWS: [Row; 10] = [
+static ROWS: [StreamRow; 10] = [
     EMPTY,
-    Row {
+    StreamRow {
         bytes: 478_660,
         fields: 1,
         tails: [TAIL, REPORT_TAIL],
         reads: 264,
         ..EMPTY
     },
-    Row {
+    StreamRow {
         bytes: 480_480,
         ended: Ok(Ended::CutField),
         status: 3,
@@ -94,7 +94,7 @@ static ROWS: [Row; 10] = [
         ..EMPTY
     },
     // At the limit the end is asked for once, as anywhere.
-    Row {
+    StreamRow {
         limit: Some(1),
         bytes: 478_659,
         ended: Ok(Ended::CutField),
@@ -106,7 +106,7 @@ static ROWS: [Row; 10] = [
         reads: 264,
         ..EMPTY
     },
-    Row {
+    StreamRow {
         limit: Some(2),
         bytes: 957_320,
         fields: 2,
@@ -114,7 +114,7 @@ static ROWS: [Row; 10] = [
         reads: 527,
         ..EMPTY
     },
-    Row {
+    StreamRow {
         bytes: 957_320,
         fault: Some(479_660),
         ended: Err(AppFault::ReadField {
@@ -125,7 +125,7 @@ static ROWS: [Row; 10] = [
         ..FAULTY
     },
     // In place of the end that is asked for at the limit, also where a byte came first.
-    Row {
+    StreamRow {
         limit: Some(1),
         bytes: 957_320,
         fault: Some(478_660),
@@ -136,7 +136,7 @@ static ROWS: [Row; 10] = [
         reads: 264,
         ..FAULTY
     },
-    Row {
+    StreamRow {
         limit: Some(1),
         bytes: 957_320,
         fault: Some(478_665),
@@ -148,14 +148,14 @@ static ROWS: [Row; 10] = [
         ..FAULTY
     },
     // Where less than a line follows the last field that is allowed, its end is read too.
-    Row {
+    StreamRow {
         limit: Some(1),
         bytes: 480_479,
         ended: Err(AppFault::TooManyFields),
         reads: 265,
         ..FAULTY
     },
-    Row {
+    StreamRow {
         limit: Some(1),
         bytes: 480_480,
         ended: Err(AppFault::TooManyFields),
@@ -223,7 +223,7 @@ fn ends_at_a_write_fault_and_asks_no_more(rt: HostRuntime) -> Result<(), Fail> {
         let written = u64::from(room);
         let fault = AppFault::Write { written };
         ends(&ran, Err(fault), 1, (verb, room))?;
-        let asked = Asked {
+        let asked = DeviceCalls {
             reads,
             writes: written + 1,
             flushes: 0,

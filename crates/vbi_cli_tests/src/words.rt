@@ -23,7 +23,7 @@ pub(crate) fn read(alloc: Global, texts: &[&str]) -> Result<Job, WordsFault> {
     read_words(alloc, words.as_slice())
 }
 
-/// The same of the program's name, a command, and the words after it.
+/// What the program makes of its name, a command, and the words after it.
 pub(crate) fn read_after(alloc: Global, command: &str, texts: &[&str]) -> Result<Job, WordsFault> {
     let mut words = owned(alloc, &["ldvbi", command])?;
     for text in texts {

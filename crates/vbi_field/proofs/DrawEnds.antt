@@ -9,6 +9,7 @@ use Rattle.vbi_field.specs.ConfigView.{ConfigView, longest_row}
 use Rattle.vbi_field.specs.RowIntake as intakes
 use Rattle.vbi_field.specs.RowIntake.{HasNoNewline, Fetches, TakesRow, TakesByte, RowIntake}
 use Rattle.vbi_field.specs.WordRows.{newline, rows_of, row_words, word_row_of}
+use Rattle.vbi_field.specs.Ran.{over}
 use Rattle.vbi_field.specs.Draws.{draw_out, Draws, RunsDrawing, counts_of}
 use Rattle.vbi_field.specs.declared.row_intake.NextRow.TheVariants.{Malformed, Failed}
 use Rattle.vbi_field.specs.declared.row_intake.NextByte.TheVariants as bytes
@@ -24,7 +25,7 @@ module _ {R W : Type 0} {remaining : R → Option (List ℕ)} {contents : W → 
   -- the run ends with these bytes, and nothing more is written
   ends_here : (j : RowIntake R) (b : List ℕ) → Fetches remaining i j b → (result : Result ℕ DrawFault)
       → Draws c (remaining (device_of (intakes.counted_of j))) (counts_of j o) result (g.z ++ b) (draw_out c g.rows)
-      → RunsDrawing remaining contents c i0 j o0 o result
+      → RunsDrawing c (over remaining i0 j) (over contents o0 o) result
   ends_here j b f result says =
       let all = fetches_more g j b f in
       let wrote = g.wrote in
@@ -41,14 +42,14 @@ module _ {R W : Type 0} {remaining : R → Option (List ℕ)} {contents : W → 
   -- the reader ended after whole rows
   ended : (j : RowIntake R) → Fetches remaining i j [] → NoError (intakes.counted_of i) (intakes.counted_of j)
       → IsAtEnd (remaining (device_of (intakes.counted_of j))) → done ≤ c.max_fields
-      → RunsDrawing remaining contents c i0 j o0 o (Ok done)
+      → RunsDrawing c (over remaining i0 j) (over contents o0 o) (Ok done)
   ended j f calm end few = grind arith
 
   -- the reader failed
   read_failed : (j : RowIntake R) (b : List ℕ) → Fetches remaining i j b → HasNoNewline b
       → HasCause (intakes.counted_of i) (intakes.counted_of j)
       → (done + 1 ≤ c.max_fields) ⊎ ((done + 1 ≡ c.max_fields + 1) × (b ≡ []))
-      → RunsDrawing remaining contents c i0 j o0 o (Err (faults.Read (done + 1)))
+      → RunsDrawing c (over remaining i0 j) (over contents o0 o) (Err (faults.Read (done + 1)))
   read_failed j b f plain cause few = ends_here j b f (Err (faults.Read (done + 1))) (record {
     devices = (has_failed i.device j.device g.calm_reads cause, g.calm_writes);
     came = record {
@@ -67,7 +68,7 @@ module _ {R W : Type 0} {remaining : R → Option (List ℕ)} {contents : W → 
 
   -- a byte followed the last row that is allowed
   pub too_many : (j : RowIntake R) (byte : ℕ) → TakesByte remaining i j (bytes.Byte byte) → done ≡ c.max_fields
-      → RunsDrawing remaining contents c i0 j o0 o (Err faults.TooManyFields)
+      → RunsDrawing c (over remaining i0 j) (over contents o0 o) (Err faults.TooManyFields)
   too_many j byte t last = ends_here j (byte ∷ []) t.fetches (Err faults.TooManyFields) (record {
     devices = (t.got ∙ g.calm_reads, g.calm_writes);
     came = record {
@@ -90,7 +91,7 @@ module _ {R W : Type 0} {remaining : R → Option (List ℕ)} {contents : W → 
     bad : rows_of b ≡ b ∷ [] → row_words b ≡ None
         → ((front : List ℕ) × (b ≡ front ++ newline ∷ [])) ⊎
         (IsAtEnd (remaining (device_of (intakes.counted_of j))) ⊎ (length b ≡ longest_row))
-        → RunsDrawing remaining contents c i0 j o0 o (Err (faults.Row (done + 1)))
+        → RunsDrawing c (over remaining i0 j) (over contents o0 o) (Err (faults.Row (done + 1)))
     bad one malformed read_to = ends_here j b f (Err (faults.Row (done + 1))) (record {
       devices = (calm ∙ g.calm_reads, g.calm_writes);
       came = record {
@@ -113,20 +114,20 @@ module _ {R W : Type 0} {remaining : R → Option (List ℕ)} {contents : W → 
         ⊎
         (((b ≡ row) × (0 < length row) × IsAtEnd (remaining (device_of (intakes.counted_of j))))
         ⊎ ((b ≡ row) × (length row ≡ longest_row)))
-        → RunsDrawing remaining contents c i0 j o0 o (Err (faults.Row (done + 1)))
+        → RunsDrawing c (over remaining i0 j) (over contents o0 o) (Err (faults.Row (done + 1)))
     bad_as row plain none (inl e) = grind (arith, bad, rows_of-line, row_words-line)
     bad_as row plain none (inr (inl e)) = grind (arith, bad, rows_of-part, row_words-part)
     bad_as row plain none (inr (inr e)) = grind (arith, bad, rows_of-part, row_words-part)
 
   pub bad_row : (j : RowIntake R) (t : TakesRow remaining i j Malformed) → done < c.max_fields
-      → RunsDrawing remaining contents c i0 j o0 o (Err (faults.Row (done + 1)))
+      → RunsDrawing c (over remaining i0 j) (over contents o0 o) (Err (faults.Row (done + 1)))
   bad_row j t few = bad_as j t.bytes t.fetches t.caused few t.got.row t.got.plain t.got.malformed t.got.read_to
 
   pub row_read_failed : (j : RowIntake R) (t : TakesRow remaining i j Failed) → done < c.max_fields
-      → RunsDrawing remaining contents c i0 j o0 o (Err (faults.Read (done + 1)))
+      → RunsDrawing c (over remaining i0 j) (over contents o0 o) (Err (faults.Read (done + 1)))
   row_read_failed j t few = read_failed j t.bytes t.fetches t.got t.caused (inl (omega arith))
 
   pub byte_read_failed : (j : RowIntake R) → TakesByte remaining i j bytes.Failed → (n : ℕ) → n ≡ c.max_fields
       → done ≡ n
-      → RunsDrawing remaining contents c i0 j o0 o (Err (faults.Read (n + 1)))
+      → RunsDrawing c (over remaining i0 j) (over contents o0 o) (Err (faults.Read (n + 1)))
   byte_read_failed j t n max last = grind (arith, read_failed)

@@ -13,6 +13,7 @@ use Rattle.vbi_field.specs.Outlet as outlets
 use Rattle.vbi_field.specs.RowIntake as intakes
 use Rattle.vbi_field.specs.RowIntake.{IsFresh, HasNoNewline, Fetches, TakesRow, RowIntake}
 use Rattle.vbi_field.specs.WordRows.{newline, AreRows, rows_of, row_words, word_row_of, WordRow}
+use Rattle.vbi_field.specs.Ran.{over}
 use Rattle.vbi_field.specs.Draws.{draw_out, drawn_field_of, EndsRow, RunsDrawing}
 use Rattle.vbi_field.specs.declared.row_intake.NextRow.TheVariants.{Row, LastRow}
 use Rattle.vbi_field.specs.declared.drawing.DrawFault.{DrawFault}
@@ -111,7 +112,7 @@ module _ {R W : Type 0} {remaining : R → Option (List ℕ)} {contents : W → 
     -- the writer failed
     write_failed : (p : Outlet W) (r : Result ℕ DrawFault) → outlets.WrotePart contents o p (drawn_field_of c words)
         → HasCause (outlets.counted_of o) (outlets.counted_of p) → IsErrAnd r (λ e. e ≡ faults.Write p.written)
-        → RunsDrawing remaining contents c i0 j o0 p r
+        → RunsDrawing c (over remaining i0 j) (over contents o0 p) r
     write_failed p (Ok n) part cause e = absurd e
     write_failed p (Err fault) part cause e =
         let base = draw_out c g.rows in
@@ -151,7 +152,7 @@ module _ {R W : Type 0} {remaining : R → Option (List ℕ)} {contents : W → 
 
       -- the field is written, and the row was the last
       last_row : IsAtEnd (remaining (device_of (intakes.counted_of j)))
-          → RunsDrawing remaining contents c i0 j o0 p (Ok (done + 1))
+          → RunsDrawing c (over remaining i0 j) (over contents o0 p) (Ok (done + 1))
       last_row end = grind (arith, fetches_more, wrote_more, fetched_more, written_more, well_formed_more, rows_count)
 
       -- the field is written, and rows may follow
@@ -191,7 +192,7 @@ module _ {R W : Type 0} {remaining : R → Option (List ℕ)} {contents : W → 
       (p : Outlet W) where
     pub row_failed : (r : Result ℕ DrawFault) → outlets.WrotePart contents o p (drawn_field_of c words)
         → HasCause (outlets.counted_of o) (outlets.counted_of p)
-        → IsErrAnd r (λ e. e ≡ faults.Write p.written) → RunsDrawing remaining contents c i0 j o0 p r
+        → IsErrAnd r (λ e. e ≡ faults.Write p.written) → RunsDrawing c (over remaining i0 j) (over contents o0 p) r
     row_failed = search (rules, write_failed, line_one, line_is)
 
     pub row_drawn : (line : List ℕ) → outlets.Wrote contents o p (drawn_field_of c words)
@@ -206,10 +207,10 @@ module _ {R W : Type 0} {remaining : R → Option (List ℕ)} {contents : W → 
       (few : done < c.max_fields) (p : Outlet W) where
     pub last_row_failed : (r : Result ℕ DrawFault) → outlets.WrotePart contents o p (drawn_field_of c words)
         → HasCause (outlets.counted_of o) (outlets.counted_of p)
-        → IsErrAnd r (λ e. e ≡ faults.Write p.written) → RunsDrawing remaining contents c i0 j o0 p r
+        → IsErrAnd r (λ e. e ≡ faults.Write p.written) → RunsDrawing c (over remaining i0 j) (over contents o0 p) r
     last_row_failed = search (rules, write_failed, rows_of-part, row_words-part)
 
     pub last_row_drawn : outlets.Wrote contents o p (drawn_field_of c words)
         → NoError (outlets.counted_of o) (outlets.counted_of p)
-        → RunsDrawing remaining contents c i0 j o0 p (Ok (done + 1))
+        → RunsDrawing c (over remaining i0 j) (over contents o0 p) (Ok (done + 1))
     last_row_drawn wrote no_error = grind (arith, last_row, rows_of-part, row_words-part)

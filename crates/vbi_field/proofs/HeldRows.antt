@@ -9,14 +9,14 @@ use Rattle.vbi_field.specs.Shown.{joined_rows}
 use Rattle.std.proofs.Math.Nat.{eq-or-lt_of_le, mul-le-mul_right}
 use Rattle.vbi_field.specs.ConfigView.{height_of, line_bytes, field_bytes, System, ConfigView, Ntsc, Pal}
 use Rattle.vbi_field.specs.Stream.{line_at, rows_at, rows_in}
-use Rattle.vbi_field.specs.Progress.{HoldsRows, HoldsOn, IsHeld, MovesOneRow, Progress}
+use Rattle.vbi_field.specs.Progress.{HoldsRows, HoldsOn, IsKept, MovesOneRow, Progress}
 use Rattle.vbi_field.proofs.Growing.{line_at-more, line_at-new}
 
 module _ (c : ConfigView) (z b : List ℕ) (i row : ℕ) (held now : List ℕ)
     (long : length z ≡ (i * height_of c.system + row) * line_bytes c.system)
     (whole : length b ≡ line_bytes c.system) where
   placed : (r at : ℕ) → (r < row → line_at c.system held 0 at ≡ line_at c.system z i r)
-      → IsHeld c.system r at row b held now → r < row + 1
+      → IsKept r row b (line_at c.system held 0 at) (line_at c.system now 0 at) → r < row + 1
       → line_at c.system now 0 at ≡ line_at c.system (z ++ b) i r
   placed r at before kept less = go (eq-or-lt_of_le {n = r} {m = row} (omega arith))
     where
@@ -96,7 +96,7 @@ module _ (s : System) (held b : List ℕ) (r : ℕ) (small : r ≤ 2) (room : 3 
       ∙ drop-drop k m held
       ∙ ap (λ n. drop n held) (sym e))
 
-  held_at : (row q : ℕ) → row ≡ 15 + r → IsHeld s (15 + q) q row b held spliced
+  held_at : (row q : ℕ) → row ≡ 15 + r → IsKept (15 + q) row b (line_at s held 0 q) (line_at s spliced 0 q)
   held_at row q is = grind (arith, here, cases_lt, before, behind)
 
   pub put_on : (row : ℕ) → row ≡ 15 + r → HoldsOn s row b held spliced

@@ -12,7 +12,7 @@ use Rattle.vbi_line.specs.declared.intake.Filled.{Filled}
 use Rattle.vbi_line.specs.declared.intake.Filled.TheVariants.{Full, Ended}
 use Rattle.vbi_line.specs.declared.intake.Intake.{Intake}
 use Rattle.vbi_field.specs.Extracts.{Runs, TakesLine, PutsTail, AnswersAtLimit, EndsAtLimit}
-use Rattle.vbi_field.specs.Ran.{EndsInside, RunFault, Summary, Read, TooManyFields}
+use Rattle.vbi_field.specs.Ran.{EndsInside, RunFault, Summary, Read, TooManyFields, over}
 use Rattle.vbi_field.specs.Stream.{fields_of, rest_of, cut_of, looks_of}
 use Rattle.vbi_field.specs.Feed.{selected}
 use Rattle.vbi_field.specs.Texts.{text_before_tail, whole_text, Kind}
@@ -58,7 +58,7 @@ module _ {t : Kind} {R W : Type 0} {remaining : R → Option (List ℕ)} {conten
       {fields rest looked : ℕ} → fields ≡ p.fields
       → rest ≡ p.row * line_bytes c.system + n → k * line_bytes c.system + n ≤ allowed_bytes c
       → looked ≡ i'.line.looked → (r : Result Summary RunFault) → PutsTail t contents o o' fields rest looked r
-      → Runs t remaining contents c i0 i' o0 o' r
+      → Runs t c (over remaining i0 i') (over contents o0 o') r
   ended {i'} {o'} n row {fields} {rest} {looked} fs rs within ls r tail = by r tail
     where
       b : List ℕ
@@ -84,7 +84,7 @@ module _ {t : Kind} {R W : Type 0} {remaining : R → Option (List ℕ)} {conten
       document_is = grind (arith, begun_is, b, short, is_fields, is_rest)
 
       by : (r : Result Summary RunFault) → PutsTail t contents o o' fields rest looked r
-          → Runs t remaining contents c i0 i' o0 o' r
+          → Runs t c (over remaining i0 i') (over contents o0 o') r
       by (Ok s) tail =
           let got = row.got in
           let says = tail.ok in
@@ -130,7 +130,7 @@ module _ {t : Kind} {R W : Type 0} {remaining : R → Option (List ℕ)} {conten
   pub read_fault : {i' : Intake R} {came : RunFault} (row : TakesLine remaining i i' (Err came))
       → k ≤ c.max_fields * height_of c.system → (r : Result Summary RunFault)
       → IsErrAnd r (λ e. e ≡ Read (p.fields + 1) (p.row * line_bytes c.system + length (intakes.held_of i')))
-      → Runs t remaining contents c i0 i' o0 o r
+      → Runs t c (over remaining i0 i') (over contents o0 o) r
   read_fault row last (Ok s) is = absurd is
   read_fault {i'} row last (Err fault) is =
       let b : List ℕ = row.bytes in
@@ -164,7 +164,7 @@ module _ {t : Kind} {R W : Type 0} {remaining : R → Option (List ℕ)} {conten
   pub too_many : {i' : Intake R} {came : Result Filled RunFault} (row : TakesLine remaining i i' came)
       → k ≡ c.max_fields * height_of c.system → 0 < length row.bytes → length row.bytes ≤ line_bytes i.line.system
       → NoError (intakes.counted_of i) (intakes.counted_of i')
-      → Runs t remaining contents c i0 i' o0 o (Err TooManyFields)
+      → Runs t c (over remaining i0 i') (over contents o0 o) (Err TooManyFields)
   too_many row last some few no_error =
       let b : List ℕ = row.bytes in
       let kept = row.fetches.kept in
@@ -195,12 +195,13 @@ module _ {t : Kind} {R W : Type 0} {remaining : R → Option (List ℕ)} {conten
   -- the answer after all fields that are allowed
   pub at_limit : {i' : Intake R} {o' : Outlet W} (r : Result Summary RunFault) → k ≡ c.max_fields * height_of c.system
       → EndsAtLimit t remaining contents p.fields (p.row * line_bytes c.system) i i' o o' r
-      → Runs t remaining contents c i0 i' o0 o' r
+      → Runs t c (over remaining i0 i') (over contents o0 o') r
   at_limit {i'} {o'} r last e = by e.got e.takes e.fault e.answers
     where
       by : (came : Result Filled RunFault) → TakesLine remaining i i' came
           → IfErr came (λ f. f ≡ Read (p.fields + 1) (p.row * line_bytes c.system + length (intakes.held_of i')))
-          → AnswersAtLimit t contents o o' p.fields i'.line.looked came r → Runs t remaining contents c i0 i' o0 o' r
+          → AnswersAtLimit t contents o o' p.fields i'.line.looked came r
+          → Runs t c (over remaining i0 i') (over contents o0 o') r
       by (Ok (Ended n)) row fault (inl (none, tail)) =
           let at = g.at in
           let all = all_fields c.system p.fields p.row c.max_fields at.inside (g.rows ∙ last) in

@@ -1,7 +1,7 @@
 -- A run whose writer failed, and a fault that is passed on.
 use Rattle.std.proofs.Common.{◌≡◌, ℕ, ◌+◌, ◌≤◌, ◌<◌, inl, List, [], ◌++◌, length, refl, sym, ◌∙◌, arith, zero-le}
 use Rattle.std.specs.Prelude.{Option, Result, Ok, Err, IsErrAnd}
-use Rattle.vbi_field.specs.Ran.{Consumes, Appends, RunFault, Summary, Write}
+use Rattle.vbi_field.specs.Ran.{Consumes, Appends, RunFault, Summary, Write, over}
 use Rattle.std.proofs.KnownBytes.{Appends-trans, Appends-nil, Consumes-nil}
 use Rattle.std.proofs.lemmas.List.{length-append}
 use Rattle.std.proofs.Math.Nat.{zero-div}
@@ -31,7 +31,7 @@ module _ (t : Kind) {R W : Type 0} (remaining : R → Option (List ℕ)) (conten
       → fault ≡ Write o'.written
       → length z ≤ allowed_bytes c → i.line.looked ≡ looks_of c z
       → EndsWithin t c (remaining (device_of (intakes.counted_of i))) z (base ++ part)
-      → Runs t remaining contents c i0 i o0 o' (Err fault)
+      → Runs t c (over remaining i0 i) (over contents o0 o') (Err fault)
   write_fault i o o' z base part fault consumed fetched appended written reads writes wrote cause is within looks inside
       =
       let w = wrote.written in
@@ -56,7 +56,7 @@ module _ (t : Kind) {R W : Type 0} (remaining : R → Option (List ℕ)) (conten
       → HasCause (outlets.counted_of o0) (outlets.counted_of o)
       → outlets.written_of o < outlets.written_of o0 + length text
       → (r : Result Summary RunFault) → IsErrAnd r (λ e. e ≡ Write o.written)
-      → Runs t remaining contents c i0 i0 o0 o r
+      → Runs t c (over remaining i0 i0) (over contents o0 o) r
   head_fault o text fresh clean is puts cause short (Ok s) fails = absurd fails
   head_fault o text fresh clean is puts cause short (Err fault) fails =
       let begun : text ≡ text_before_tail t c [] = is

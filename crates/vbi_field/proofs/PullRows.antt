@@ -2,7 +2,7 @@
 use Rattle.std.proofs.Common.{◌≡◌, ℕ, ◌+◌, ◌*◌, ◌≤◌, ◌<◌, inl, inr, Bool, true, false, List, ◌++◌, length, take}
 use Rattle.std.proofs.Common.{drop, sym, ap, ◌∙◌, arith, subst, cond, zero-le, add-zero, append_assoc, refl}
 use Rattle.std.specs.Prelude.{Option, Result, Ok, Err, IsErrAnd, IsTrue, ◌↔◌}
-use Rattle.vbi_field.specs.Ran.{Summary, EndsInside, RunFault, Write, Consumes, Appends}
+use Rattle.vbi_field.specs.Ran.{Summary, EndsInside, RunFault, Write, Consumes, Appends, over}
 use Rattle.std.proofs.KnownBytes.{Appends-trans, Consumes-trans}
 use Rattle.std.proofs.lemmas.List.{length-append, length-drop, length-take-le, take-append-drop}
 use Rattle.std.proofs.Math.Nat.{le_of_eq, le_trans, zero-mul, mul-le-mul_right}
@@ -159,7 +159,7 @@ module _ {t : Kind} {R W : Type 0} {remaining : R → Option (List ℕ)} {conten
         → IsProgress c (g.z ++ row.bytes) p' → ExtendsInPart t contents c o o' g.z (g.z ++ row.bytes)
         → HasCause (outlets.counted_of o) (outlets.counted_of o')
         → k + 1 ≤ c.max_fields * height_of c.system → (r : Result Summary RunFault)
-        → IsErrAnd r (λ e. e ≡ Write o'.written) → Runs t remaining contents c i0 i' o0 o' r
+        → IsErrAnd r (λ e. e ≡ Write o'.written) → Runs t c (over remaining i0 i') (over contents o0 o') r
     entry_fault o' p' next first after added cause limit (Ok s) fails = absurd fails
     entry_fault o' p' next first after added cause limit (Err fault) fails =
         let z : List ℕ = g.z ++ row.bytes in

@@ -2,7 +2,7 @@
 -- one microsecond, IEC 60857 and IEC 60856; no sync and no colour burst), in ld-decode's TBC format.
 use Rattle.std.specs.Prelude.{◌≡◌, ℕ, ◌+◌, ◌≤◌, ◌⊎◌, List, [], ◌∷◌, ◌++◌, length, Option, None, Result, Ok, Err, ◌==◌}
 use Rattle.std.specs.Prelude.{if◌then◌else◌, slice_index_or}
-use Rattle.vbi_field.specs.Ran.{IsAtEnd, Counts, HasFailed, IsCalm, Ran, EndsInside}
+use Rattle.vbi_field.specs.Ran.{IsAtEnd, Counts, HasFailed, IsCalm, Ran, EndsInside, Use}
 use Rattle.vbi_field.specs.ConfigView.{ConfigView, longest_row, height_of}
 use Rattle.vbi_field.specs.Outlet.{device_of, failures_of, Outlet, counted_of, written_of}
 use Rattle.vbi_field.specs.RowIntake as intakes
@@ -154,11 +154,12 @@ counts_of i o = record {
   writer = failures_of (counted_of o);
 }
 
--- the run of a fresh intake of rows and a fresh outlet that gave this answer
-abbrev pub RunsDrawing : {R W : Type 0} → (R → Option (List ℕ)) → (W → Option (List ℕ)) → ConfigView
-    → intakes.RowIntake R → intakes.RowIntake R → Outlet W → Outlet W → Result ℕ DrawFault → Type 0
-RunsDrawing remaining contents c i0 i o0 o result =
-    Ran (remaining (device_of (intakes.counted_of i0))) (remaining (device_of (intakes.counted_of i)))
-    (contents (device_of (counted_of o0)))
-    (contents (device_of (counted_of o)))
-    (counts_of i o) (Draws c (remaining (device_of (intakes.counted_of i))) (counts_of i o) result)
+module _ {R W : Type 0} where
+  -- the run of a fresh intake of rows and a fresh outlet that gave this answer
+  abbrev pub RunsDrawing : ConfigView → Use R (intakes.RowIntake R) → Use W (Outlet W) → Result ℕ DrawFault → Type 0
+  RunsDrawing c i o result =
+      let input = i.told (device_of (intakes.counted_of i.after)) in
+      let n = counts_of i.after o.after in
+      Ran (i.told (device_of (intakes.counted_of i.before))) input
+      (o.told (device_of (counted_of o.before))) (o.told (device_of (counted_of o.after)))
+      n (Draws c input n result)

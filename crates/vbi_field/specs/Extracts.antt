@@ -3,7 +3,7 @@
 use Rattle.std.specs.Prelude.{◌≡◌, ℕ, ◌+◌, ◌<◌, ◌≤◌, ◌⊎◌, List, [], ◌++◌, length, take, Option, Result, Ok, Err}
 use Rattle.std.specs.Prelude.{OnOk, IfOk, OnErr, IfErr}
 use Rattle.vbi_field.specs.Ran.{IsAtEnd, Counts, HasFailed, IsCalm, Ran, EndsInside, Summary, RunFault, Read, Write}
-use Rattle.vbi_field.specs.Ran.{TooManyFields, Failed}
+use Rattle.vbi_field.specs.Ran.{TooManyFields, Failed, Use}
 use Rattle.vbi_field.specs.ConfigView.{line_bytes, field_bytes, ConfigView, allowed_bytes}
 use Rattle.vbi_field.specs.Outlet.{device_of, failures_of, NoError, HasCause, Outlet}
 use Rattle.vbi_line.specs.declared.intake.Intake.{Intake}
@@ -84,13 +84,15 @@ counts_of i o = record {
   writer = failures_of (outlets.counted_of o);
 }
 
--- the run of a fresh intake and a fresh outlet that gave this answer
-abbrev pub Runs : {R W : Type 0} → Kind → (R → Option (List ℕ)) → (W → Option (List ℕ)) → ConfigView
-    → Intake R → Intake R → Outlet W → Outlet W → Result Summary RunFault → Type 0
-Runs t remaining contents c i0 i o0 o result =
-    Ran (remaining (device_of (counted_of i0))) (remaining (device_of (counted_of i)))
-    (contents (device_of (outlets.counted_of o0))) (contents (device_of (outlets.counted_of o)))
-    (counts_of i o) (Extracts t c (remaining (device_of (counted_of i))) (counts_of i o) result)
+module _ {R W : Type 0} where
+  -- the run of a fresh intake and a fresh outlet that gave this answer
+  abbrev pub Runs : Kind → ConfigView → Use R (Intake R) → Use W (Outlet W) → Result Summary RunFault → Type 0
+  Runs t c i o result =
+      let input = i.told (device_of (counted_of i.after)) in
+      let n = counts_of i.after o.after in
+      Ran (i.told (device_of (counted_of i.before))) input
+      (o.told (device_of (outlets.counted_of o.before))) (o.told (device_of (outlets.counted_of o.after)))
+      n (Extracts t c input n result)
 
 -- ---- what a run does with the next line of a reader
 
@@ -102,7 +104,7 @@ module _ {R : Type 0} (remaining : R → Option (List ℕ)) (old new : Intake R)
     pub at_end : IsAtEnd (remaining (device_of (counted_of new)))
     pub no_error : NoError (counted_of old) (counted_of new)
 
-  -- these bytes were got, by the answer: a whole line, the rest, or less than a line before a fault of the reader
+  -- what bytes were got, by the answer: a whole line, the rest, or less than a line before a fault of the reader
   abbrev pub Got : List ℕ → Result Filled RunFault → Type 0
   Got bytes (Ok Full) = (length bytes ≡ line_bytes (line_of old).system) × NoError (counted_of old) (counted_of new)
   Got bytes (Ok (Ended count)) = GotRest bytes count

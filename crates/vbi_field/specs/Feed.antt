@@ -92,7 +92,7 @@ module _ {W : Type 0} (o o' : Outlet W) where
   IsFeedFault Failed = Unit {0}
   IsFeedFault (Read field offset) = ⊥
 
-  -- so does the end, which never answers `TooManyFields` either
+  -- the end answers `Write` if the writer failed, and never `Read` or `TooManyFields`
   abbrev pub IsEndFault : RunFault → Type 0
   IsEndFault TooManyFields = ⊥
   IsEndFault fault = IsFeedFault fault

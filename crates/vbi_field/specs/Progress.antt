@@ -27,20 +27,21 @@ pub record IsLineOf (c : ConfigView) (b : List ℕ) (row : ℕ) (reading : Optio
   pub whole : length b ≡ line_bytes c.system
   pub shows : 15 ≤ row → row ≤ 17 → reading ≡ Some (reading_of c.system (row_levels c.levels b))
 
--- one row b more after z: inside a field, or at its end with the field's readings
-abbrev pub AdvancesOver : ConfigView → List ℕ → List ℕ → Progress → Option FieldReadings → Progress → Type 0
-AdvancesOver c z b old None new = IsProgress c (z ++ b) new × (new.fields ≡ old.fields)
-AdvancesOver c z b old (Some readings) new =
-    IsProgress c (z ++ b) new × (old.row + 1 ≡ height_of c.system) × (readings ≡ readings_at c (z ++ b) old.fields)
+-- z is one row longer than before: inside a field, or at its end with the field's readings
+abbrev pub AdvancesOver : ConfigView → List ℕ → Progress → Option FieldReadings → Progress → Type 0
+AdvancesOver c z old None new = IsProgress c z new × (new.fields ≡ old.fields)
+AdvancesOver c z old (Some readings) new =
+    IsProgress c z new × (old.row + 1 ≡ height_of c.system) × (readings ≡ readings_at c z old.fields)
 
 -- a row with this reading leads to this, whatever stream z came before it and whatever the bytes b of the row are
 pub record Advances (c : ConfigView) (old : Progress) (reading : Option Reading) (result : Option FieldReadings)
     (new : Progress) : Type 0 where
-  pub over : (z b : List ℕ) → IsProgress c z old → IsLineOf c b old.row reading → AdvancesOver c z b old result new
+  pub over : (z b : List ℕ) → IsProgress c z old → IsLineOf c b old.row reading → AdvancesOver c (z ++ b) old result new
 
--- in the place of row r: the reading, if it is of this row, and else what was there
-abbrev pub IsKept : ℕ → ℕ → Option Reading → Option Reading → Option Reading → Type 0
-IsKept r row reading was now = (row ≡ r → now ≡ reading) × (row ≢ r → now ≡ was)
+module _ {A : Type 0} where
+  -- in the place of row r: what belongs to a row, if it is of this one, and else what was there
+  abbrev pub IsKept : ℕ → ℕ → A → A → A → Type 0
+  IsKept r row its was now = (row ≡ r → now ≡ its) × (row ≢ r → now ≡ was)
 
 -- the reading of a row is put in its place, if it has one
 pub record TakesReading (row : ℕ) (reading : Option Reading) (was now : PartialReadings) : Type 0 where
@@ -56,23 +57,17 @@ pub record HoldsRows (c : ConfigView) (z : List ℕ) (i rows : ℕ) (held : List
   pub second : 16 < rows → line_at c.system held 0 1 ≡ line_at c.system z i 16
   pub third : 17 < rows → line_at c.system held 0 2 ≡ line_at c.system z i 17
 
--- in the place of row r: the bytes, if they are of this row, and else what was there
-abbrev pub IsHeld : System → ℕ → ℕ → ℕ → List ℕ → List ℕ → List ℕ → Type 0
-IsHeld system r place row b was now =
-    (row ≡ r → line_at system now 0 place ≡ b)
-    × (row ≢ r → line_at system now 0 place ≡ line_at system was 0 place)
-
 -- a whole row is put in its place, if it has one
 pub record HoldsOn (system : System) (row : ℕ) (b was now : List ℕ) : Type 0 where
   pub long : length now ≡ length was
-  pub first : IsHeld system 15 0 row b was now
-  pub second : IsHeld system 16 1 row b was now
-  pub third : IsHeld system 17 2 row b was now
+  pub first : IsKept 15 row b (line_at system was 0 0) (line_at system now 0 0)
+  pub second : IsKept 16 row b (line_at system was 0 1) (line_at system now 0 1)
+  pub third : IsKept 17 row b (line_at system was 0 2) (line_at system now 0 2)
 
--- if rows are kept and this one is the last of its field, those of the field are held
-abbrev pub HoldsField : Bool → ConfigView → List ℕ → ℕ → ℕ → List ℕ → Type 0
-HoldsField keeps c z i row held =
-    IsTrue keeps → row + 1 ≡ height_of c.system → rows_in c.system held ≡ rows_at c z i
+-- if rows are kept and the last row of z is the last of its field, those of the field are held
+abbrev pub HoldsField : Bool → ConfigView → List ℕ → Progress → List ℕ → Type 0
+HoldsField keeps c z before held =
+    IsTrue keeps → before.row + 1 ≡ height_of c.system → rows_in c.system held ≡ rows_at c z before.fields
 
 -- one row further: inside the field, or at its end
 abbrev pub MovesOneRow : ConfigView → Progress → Progress → Type 0

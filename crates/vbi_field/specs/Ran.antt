@@ -9,6 +9,16 @@ pub use Rattle.vbi_field.specs.declared.summary.Summary.{Summary}
 pub use Rattle.vbi_field.specs.declared.summary.RunFault.{RunFault}
 pub use Rattle.vbi_field.specs.declared.summary.RunFault.TheVariants.{Read, Write, TooManyFields, Failed}
 
+-- a device as a call uses it: how its bytes are told, and what holds it before the call and after
+pub record Use (D H : Type 0) : Type 0 where
+  pub told : D → Option (List ℕ)
+  pub before : H
+  pub after : H
+
+-- the use of a device that tells its bytes so
+abbrev pub over : {D H : Type 0} → (D → Option (List ℕ)) → H → H → Use D H
+over told before after = record { told = told; before = before; after = after }
+
 -- a device that failed for good: its one error was its last answer, or its last seventeen answers or more were
 -- interruptions
 pub record HasFailed (f : Failures) : Type 0 where

@@ -22,7 +22,7 @@ pub record FieldRecovered : Type 0 where
   pub second : Near
   pub third : Near
 
--- these are those of rows of which these columns are erased
+-- the readings of three rows, what the rows show, and their nearest words, where these columns are erased
 pub record RowsRecover (system : System) (slicing : Slicing) (rows : FieldRows) (marks : List Bool)
     (field : FieldRecovered) : Type 0 where
   pub first_reads : IsReading system (row_levels slicing rows.first) field.readings.first
@@ -33,7 +33,7 @@ pub record RowsRecover (system : System) (slicing : Slicing) (rows : FieldRows) 
   pub second : IsNearRow system slicing (row_of rows.second (marks_at system marks 1)) field.second
   pub third : IsNearRow system slicing (row_of rows.third (marks_at system marks 2)) field.third
 
--- the same as a function; the law `one_field` shows that it meets `RowsRecover`, and that nothing else does
+-- what `RowsRecover` says, as a function; the law `one_field` shows that it meets that, and that nothing else does
 abbrev pub recovered_without : System → Slicing → FieldRows → List Bool → FieldRecovered
 recovered_without system slicing rows marks = record {
   readings = row_readings system slicing rows;
@@ -43,7 +43,7 @@ recovered_without system slicing rows marks = record {
   third = near_of system slicing (row_of rows.third (marks_at system marks 2));
 }
 
--- those of rows of which no column is erased
+-- what three rows of which no column is erased are read as and show
 abbrev pub recovered_of : ConfigView → FieldRows → FieldRecovered
 recovered_of c rows = recovered_without c.system c.levels rows (none_erased c.system)
 

@@ -38,7 +38,7 @@ field_lines_of number readings first second third =
     codes "field " ++ decimal number ++ codes " " ++ format_text_of (format_of_lines words)
     ++ codes "\n16 " ++ first ++ codes "\n17 " ++ second ++ codes "\n18 " ++ third ++ codes "\n"
 
--- those of a field that is read so
+-- the four lines of a field with these readings
 abbrev pub report_entry_of : ℕ → FieldReadings → List ℕ
 report_entry_of number readings = field_lines_of number readings (shown_of readings.first.outcome)
     (shown_of readings.second.outcome) (shown_of readings.third.outcome)

@@ -34,7 +34,7 @@ module _ {R : Type 0} where
     pub fetched : fetched_of i ≡ 0
     pub failures : (failures_of (counted_of i)).all ≡ 0
 
-  -- these are the next bytes of the reader, and all that was taken
+  -- the bytes are the next ones of the reader, and all that was taken
   pub record Fetches (remaining : R → Option (List ℕ)) (old new : RowIntake R) (bytes : List ℕ) : Type 0 where
     pub consumed : Consumes (remaining (device_of (counted_of old))) (remaining (device_of (counted_of new))) bytes
     pub fetched : fetched_of new ≡ fetched_of old + length bytes

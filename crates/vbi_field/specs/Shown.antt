@@ -8,8 +8,8 @@ use Rattle.vbi_near.specs.declared.near.Near.{Near}
 use Rattle.vbi_near.specs.declared.recovery.Recovered.{Recovered}
 use Rattle.vbi_near.specs.Candidates.{Row, given_samples}
 use Rattle.vbi_near.specs.Nearest.{IsNearest, IsFirst}
-use Rattle.vbi_near.specs.Longer.{IsLonger}
-use Rattle.vbi_near.specs.Shorter.{IsShorter}
+use Rattle.vbi_near.specs.LongerSignal.{IsLonger}
+use Rattle.vbi_near.specs.ShorterSignal.{IsShorter}
 use Rattle.vbi_near.proofs.SomeNear.{some_near}
 use Rattle.vbi_near.proofs.SomeRecovered.{some_recovered}
 use Rattle.vbi_field.specs.Stream.{Reading, FieldReadings, FieldRows}

@@ -36,7 +36,7 @@ pub record FieldRows : Type 0 where
   pub second : List ℕ
   pub third : List ℕ
 
--- those of field i
+-- the bytes of field i's rows 15, 16 and 17
 abbrev pub rows_at : ConfigView → List ℕ → ℕ → FieldRows
 rows_at c z i = record {
   first = line_at c.system z i 15;
@@ -60,7 +60,7 @@ row_readings system slicing rows = record {
   third = reading_of system (row_levels slicing rows.third);
 }
 
--- the same by a run's settings; those of `rows_at` are `readings_at`
+-- the readings of these rows by a run's settings; of `rows_at` they are `readings_at`
 abbrev pub readings_of : ConfigView → FieldRows → FieldReadings
 readings_of c rows = row_readings c.system c.levels rows
 

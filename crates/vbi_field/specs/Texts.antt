@@ -106,7 +106,7 @@ IsTextBetween t c z longer text = text_before_tail t c z ++ text ≡ text_before
 abbrev pub joined_entry_of : Kind → ConfigView → ℕ → FieldRows → List ℕ
 joined_entry_of t c before rows = (if before == 0 then [] else t.joint) ++ t.entry c (before + 1) rows
 
--- the same by the readings
+-- what is written for a field when it is whole, by its readings
 abbrev pub joined_reading_of : ReadingKind → ℕ → FieldReadings → List ℕ
 joined_reading_of t before readings = (if before == 0 then [] else t.joint) ++ t.entry (before + 1) readings
 

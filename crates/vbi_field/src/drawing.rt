@@ -6,6 +6,7 @@ ghost use Rattle.vbi_field.specs.ConfigView.{most_rows};
 ghost use Rattle.vbi_field.specs.Outlet as outlets;
 ghost use Rattle.vbi_field.specs.Outlet.{written_of, Wrote, WrotePart};
 ghost use Rattle.vbi_field.specs.RowIntake as intakes;
+ghost use Rattle.vbi_field.specs.Ran.{over};
 ghost use Rattle.vbi_field.specs.Draws.{drawn_field_of, word_at, RunsDrawing};
 
 use crate::config::Config;
@@ -21,14 +22,14 @@ use vbi_words::{LONGEST_LINE, Word24, draw_line};
 /// Why drawing stopped. Rows are counted from 1.
 #[derive(Clone, Copy, Debug, PartialEq, Eq)]
 pub enum DrawFault {
-    /// This row is malformed.
+    /// A row is malformed.
     Row {
-        /// Its number.
+        /// The number of the malformed row.
         number: u32,
     },
-    /// The reader failed before this row was read whole.
+    /// The reader failed before a row was read whole.
     Read {
-        /// Its number.
+        /// The number of the unfinished row.
         number: u32,
     },
     /// The writer failed.
@@ -127,7 +128,8 @@ pub fn draw<R: Read, W: Write>(
     requires outlet { outlets.IsFresh outlet.old }
     ensures same_reader { IsSameDevice (intakes.counted_of rows.old) (intakes.counted_of rows.new) }
     ensures same_writer { IsSameDevice (outlets.counted_of outlet.old) (outlets.counted_of outlet.new) }
-    ensures run { RunsDrawing R.remaining W.contents config.now rows.old rows.new outlet.old outlet.new result }
+    ensures run { RunsDrawing config.now (over R.remaining rows.old rows.new)
+        (over W.contents outlet.old outlet.new) result }
 {
     let mut bytes = [0u8; LONGEST_LINE];
     let line = &mut bytes[..config.line_bytes()];

@@ -29,7 +29,7 @@ pub(crate) struct PartialReadings {
 impl PartialReadings {
     ghost use Rattle.vbi_field.specs.Progress.{TakesReading, all_of};
 
-    /// Those of a field of which none of these rows is whole.
+    /// The readings of a field of which none of the three rows is whole.
     fn none() -> Self
         ensures { result ≡ record { first = None; second = None; third = None } }
     {
@@ -149,7 +149,7 @@ impl Progress {
         ensures fault { IfErr result (λ e. e ≡ RunFault.Write (written_of outlet.new)) }
         ensures adds { (z b : List ℕ) → IsProgress config.now z self.old
             → IsLineOf config.now b self.old.row reading
-            → HoldsField K.KEEPS config.now (z ++ b) self.old.fields self.old.row held.now
+            → HoldsField K.KEEPS config.now (z ++ b) self.old held.now
             → AddsRow K.kind W.contents config.now outlet.old outlet.new z b self.new result }
     {
         if let Some(readings) = self.advance(config, reading) {

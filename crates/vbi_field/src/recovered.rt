@@ -152,7 +152,7 @@ struct FieldTexts {
     nears: ArrayString<256>,
 }
 
-/// Those of a field, by the readings of its rows, their bytes and the marks of their erased columns.
+/// What a record tells of a field, by the readings of its rows, their bytes and the marks of their erased columns.
 fn field_texts(
     config: &Config,
     readings: &FieldReadings,

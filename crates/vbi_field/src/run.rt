@@ -8,6 +8,7 @@ ghost use Rattle.vbi_words.specs.Geometry.{height_of, line_bytes};
 ghost use Rattle.vbi_line.specs.Counted.{failures_of, IsSameDevice};
 ghost use Rattle.vbi_line.specs.Intake as intakes;
 ghost use Rattle.vbi_line.specs.Intake.{fetched_of, held_of, line_of, IsFresh};
+ghost use Rattle.vbi_field.specs.Ran.{over};
 ghost use Rattle.vbi_field.specs.Extracts.{Runs, TakesLine, EndsAtLimit};
 ghost use Rattle.vbi_field.specs.Texts.{document, recovered_document, report, recovered_report};
 ghost use Rattle.vbi_field.specs.Progress.{HoldsOn};
@@ -123,7 +124,8 @@ fn run<K: Kind, R: Read, W: Write>(
     requires outlet { outlets.IsFresh outlet.old }
     ensures same_reader { IsSameDevice (intakes.counted_of intake.old) (intakes.counted_of intake.new) }
     ensures same_writer { IsSameDevice (outlets.counted_of outlet.old) (outlets.counted_of outlet.new) }
-    ensures run { Runs K.kind R.remaining W.contents config.now intake.old intake.new outlet.old outlet.new result }
+    ensures run { Runs K.kind config.now (over R.remaining intake.old intake.new)
+        (over W.contents outlet.old outlet.new) result }
 {
     put(outlet, K::head(config).as_str())?;
     let mut progress = Progress::new();
@@ -157,7 +159,8 @@ pub fn extract<R: Read, W: Write>(
     requires outlet { outlets.IsFresh outlet.old }
     ensures same_reader { IsSameDevice (intakes.counted_of intake.old) (intakes.counted_of intake.new) }
     ensures same_writer { IsSameDevice (outlets.counted_of outlet.old) (outlets.counted_of outlet.new) }
-    ensures run { Runs document R.remaining W.contents config.now intake.old intake.new outlet.old outlet.new result }
+    ensures run { Runs document config.now (over R.remaining intake.old intake.new)
+        (over W.contents outlet.old outlet.new) result }
 {
     run::<Document, R, W>(config, intake, outlet, &mut [])
 }
@@ -174,8 +177,8 @@ pub fn extract_recovered<R: Read, W: Write>(
     requires outlet { outlets.IsFresh outlet.old }
     ensures same_reader { IsSameDevice (intakes.counted_of intake.old) (intakes.counted_of intake.new) }
     ensures same_writer { IsSameDevice (outlets.counted_of outlet.old) (outlets.counted_of outlet.new) }
-    ensures run { Runs recovered_document R.remaining W.contents config.now intake.old intake.new outlet.old outlet.new
-        result }
+    ensures run { Runs recovered_document config.now (over R.remaining intake.old intake.new)
+        (over W.contents outlet.old outlet.new) result }
 {
     let mut held = [0; HELD_SIZE];
     run::<RecoveredDocument, R, W>(config, intake, outlet, &mut held[..3 * config.line_bytes()])
@@ -193,7 +196,8 @@ pub fn show<R: Read, W: Write>(
     requires outlet { outlets.IsFresh outlet.old }
     ensures same_reader { IsSameDevice (intakes.counted_of intake.old) (intakes.counted_of intake.new) }
     ensures same_writer { IsSameDevice (outlets.counted_of outlet.old) (outlets.counted_of outlet.new) }
-    ensures run { Runs report R.remaining W.contents config.now intake.old intake.new outlet.old outlet.new result }
+    ensures run { Runs report config.now (over R.remaining intake.old intake.new)
+        (over W.contents outlet.old outlet.new) result }
 {
     run::<Report, R, W>(config, intake, outlet, &mut [])
 }
@@ -208,8 +212,8 @@ pub fn show_recovered<R: Read, W: Write>(
     requires outlet { outlets.IsFresh outlet.old }
     ensures same_reader { IsSameDevice (intakes.counted_of intake.old) (intakes.counted_of intake.new) }
     ensures same_writer { IsSameDevice (outlets.counted_of outlet.old) (outlets.counted_of outlet.new) }
-    ensures run { Runs recovered_report R.remaining W.contents config.now intake.old intake.new outlet.old outlet.new
-        result }
+    ensures run { Runs recovered_report config.now (over R.remaining intake.old intake.new)
+        (over W.contents outlet.old outlet.new) result }
 {
     let mut held = [0; HELD_SIZE];
     run::<RecoveredReport, R, W>(config, intake, outlet, &mut held[..3 * config.line_bytes()])

@@ -3,7 +3,7 @@
 use crate::feeding::feeds_chunks;
 use crate::fields::config;
 use crate::known::{HEAD, PAL_HEAD, PAL_WORDS, TAIL, WORDS};
-use crate::runs::{Verb, drew, undisturbed, whole, writes};
+use crate::runs::{StreamText, drew, undisturbed, whole, writes};
 use std::test::Fail;
 use vbi_test_devices::{Paper, Tape, same};
 use vbi_words::System;
@@ -26,7 +26,7 @@ fn drawn_words_come_back(rt: HostRuntime) -> Result<(), Fail> {
         let ended = whole(1, None, 3 * system.width() as u64);
         let texts = [head, record, TAIL];
         let wanted = undisturbed(field, ended, &texts);
-        writes(alloc, Verb::Extract, &config, field, wanted)?;
+        writes(alloc, StreamText::Extract, &config, field, wanted)?;
         feeds_chunks(alloc, config, field, 1821, wanted)?;
     }
     Ok(())

@@ -14,7 +14,7 @@ use crate::known::{
     BLACK, CUT, CUT_END, HEAD, PAL_HEAD, PAL_REPORT_HEAD, PAL_WORDS, REPORT_BLACK, REPORT_HEAD,
     REPORT_SECOND_BLACK, REPORT_TAIL, REPORT_WORDS, SECOND_BLACK, TAIL, WORDS,
 };
-use crate::runs::{Ended, Verb, undisturbed, whole, writes, writes_by_any_reads};
+use crate::runs::{Ended, StreamText, undisturbed, whole, writes, writes_by_any_reads};
 use std::alloc::Global;
 use std::test::Fail;
 use vbi_field::{Config, Outlet, extract};
@@ -37,9 +37,9 @@ fn writes_both(
 ) -> Result<(), Fail> {
     let Texts(document, report) = texts;
     let document = undisturbed(stream, ended, document);
-    writes(alloc, Verb::Extract, config, stream, document)?;
+    writes(alloc, StreamText::Extract, config, stream, document)?;
     let report = undisturbed(stream, ended, report);
-    writes(alloc, Verb::Show, config, stream, report)
+    writes(alloc, StreamText::Show, config, stream, report)
 }
 
 /// The heads of a document and of a report with the usual levels.
@@ -268,7 +268,7 @@ fn reads_of_any_length_give_one_document(rt: HostRuntime) -> Result<(), Fail> {
     let wanted = undisturbed(stream.as_slice(), whole(1, None, 2730), &texts);
     writes_by_any_reads(
         rt.alloc(),
-        Verb::Extract,
+        StreamText::Extract,
         &config,
         stream.as_slice(),
         wanted,

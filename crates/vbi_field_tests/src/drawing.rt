@@ -9,7 +9,7 @@
 //! columns, which were worked out by hand. They change with the law `worked_columns` of vbi_words.
 
 use crate::fields::config;
-use crate::runs::{Drawn, Failures, NO_FAILURE, ONE_ERROR, drew, interruptions};
+use crate::runs::{Drawn, FailureCounts, NO_FAILURE, ONE_ERROR, drew, interruptions};
 use std::alloc::Global;
 use std::test::Fail;
 use vbi_field::{Config, DrawFault};
@@ -161,7 +161,7 @@ fn a_write_fault_has_its_count(rt: HostRuntime) -> Result<(), Fail> {
             read_failures: NO_FAILURE,
             asked: 21,
             written: 1000,
-            write_failures: Failures { all, errors: 1 },
+            write_failures: FailureCounts { all, errors: 1 },
         };
         same(drew(&config, words, &mut paper), answer, piece)?;
         let taken = (paper.taken.len(), paper.asked, paper.flushed);

@@ -2,7 +2,7 @@
 //! once for each, and once more for its end or its error; a writer of one byte a write once for each, and once more
 //! where it fails. No run asks again after these.
 
-use crate::faults::End::{Cut, Read, TooMany, Whole};
+use crate::faults::ReaderEnd::{Cut, Read, TooMany, Whole};
 use crate::fields::{NONE, config, field, front, two_fields};
 use crate::known::{
     BLACK, HEAD, PAL_HEAD, PAL_RECOVERED_HEAD, PAL_REPORT_HEAD, RECOVERED_BLACK, RECOVERED_HEAD,
@@ -10,7 +10,8 @@ use crate::known::{
     SECOND_RECOVERED_BLACK, TAIL,
 };
 use crate::runs::{
-    Done, Ended, NO_FAILURE, ONE_ERROR, VERBS, Verb, answers, interruptions, total, whole,
+    Ended, NO_FAILURE, ONE_ERROR, RunCounts, StreamText, VERBS, answers, interruptions, total,
+    whole,
 };
 use std::test::Fail;
 use vbi_field::{RunFault, Summary};
@@ -19,7 +20,7 @@ use vbi_words::System::{self, Ntsc, Pal};
 
 /// How a run over black fields ends.
 #[derive(Clone, Copy, Debug)]
-enum End {
+enum ReaderEnd {
     /// Whole, after so many fields.
     Whole(u32),
     /// Whole, after the first byte of the first field.
@@ -39,7 +40,7 @@ const PAL_FIELD: usize = 710_510;
 
 /// The system, the limit of fields, the bytes of the stream, after how many of them the reader fails, how the run ends,
 /// and how often the reader is asked.
-static READERS: [(System, u32, usize, Option<usize>, End, u64); 22] = [
+static READERS: [(System, u32, usize, Option<usize>, ReaderEnd, u64); 22] = [
     (Ntsc, 5, 0, None, Whole(0), 1),
     (Ntsc, 5, 1, None, Cut, 2),
     (Ntsc, 5, FIELD, None, Whole(1), 478_661),
@@ -75,19 +76,29 @@ static CUTS: [&str; 2] = [
 static LASTS: [&str; 3] = ["fields 0 cut none\n", REPORT_TAIL, "fields 2 cut none\n"];
 
 /// The head, the records of two black fields and, where the run is whole, the tail that stand after a run.
-fn texts_of(verb: Verb, system: System, end: End) -> [&'static str; 4] {
+fn texts_of(verb: StreamText, system: System, end: ReaderEnd) -> [&'static str; 4] {
     let head = match (verb, system) {
-        (Verb::Extract, Ntsc) => HEAD,
-        (Verb::Extract, Pal) => PAL_HEAD,
-        (Verb::ExtractRecovered, Ntsc) => RECOVERED_HEAD,
-        (Verb::ExtractRecovered, Pal) => PAL_RECOVERED_HEAD,
-        (Verb::Show | Verb::ShowRecovered, Ntsc) => REPORT_HEAD,
-        (Verb::Show | Verb::ShowRecovered, Pal) => PAL_REPORT_HEAD,
+        (StreamText::Extract, Ntsc) => HEAD,
+        (StreamText::Extract, Pal) => PAL_HEAD,
+        (StreamText::ExtractRecovered, Ntsc) => RECOVERED_HEAD,
+        (StreamText::ExtractRecovered, Pal) => PAL_RECOVERED_HEAD,
+        (StreamText::Show | StreamText::ShowRecovered, Ntsc) => REPORT_HEAD,
+        (StreamText::Show | StreamText::ShowRecovered, Pal) => PAL_REPORT_HEAD,
     };
     let (first, second, tails, cut) = match verb {
-        Verb::Extract => (BLACK, SECOND_BLACK, [TAIL; 3], CUTS[0]),
-        Verb::ExtractRecovered => (RECOVERED_BLACK, SECOND_RECOVERED_BLACK, [TAIL; 3], CUTS[0]),
-        Verb::Show | Verb::ShowRecovered => (REPORT_BLACK, REPORT_SECOND_BLACK, LASTS, CUTS[1]),
+        StreamText::Extract => (BLACK, SECOND_BLACK, [TAIL; 3], CUTS[0]),
+        StreamText::ExtractRecovered => (
+            RECOVERED_BLACK,
+            SECOND_RECOVERED_BLACK,
+            [TAIL; 3],
+            CUTS[0],
+        ),
+        StreamText::Show | StreamText::ShowRecovered => (
+            REPORT_BLACK,
+            REPORT_SECOND_BLACK,
+            LASTS,
+            CUTS[1],
+        ),
     };
     match end {
         Cut => [head, cut, "", ""],
@@ -100,7 +111,7 @@ fn texts_of(verb: Verb, system: System, end: End) -> [&'static str; 4] {
     }
 }
 
-fn result_of(system: System, end: End) -> Ended {
+fn result_of(system: System, end: ReaderEnd) -> Ended {
     match end {
         Cut => whole(0, Some(1), 0),
         Whole(fields) => {
@@ -140,7 +151,7 @@ fn no_reader_is_asked_again_after_its_end_or_an_error(rt: HostRuntime) -> Result
                 fault,
                 ..Tape::new(stream)
             };
-            let done = Done {
+            let done = RunCounts {
                 result: result_of(system, end),
                 fetched: asked.min(had as u64),
                 read_failures: match end {
@@ -159,12 +170,15 @@ fn no_reader_is_asked_again_after_its_end_or_an_error(rt: HostRuntime) -> Result
 }
 
 /// The bytes of the head and of all texts of a black field's document and report.
-static WRITERS: [(Verb, u32, u32); 2] = [(Verb::Extract, 135, 247), (Verb::Show, 44, 120)];
+static WRITERS: [(StreamText, u32, u32); 2] = [
+    (StreamText::Extract, 135, 247),
+    (StreamText::Show, 44, 120),
+];
 
 /// How a run over black fields ends where the writer takes so many bytes, and then fails; the head has `head` of them.
-fn unwritten(room: u32, head: u32) -> Done {
+fn unwritten(room: u32, head: u32) -> RunCounts {
     let written = u64::from(room);
-    Done {
+    RunCounts {
         result: Err(RunFault::Write { written }),
         fetched: if room < head { 0 } else { 478_660 },
         read_failures: NO_FAILURE,
@@ -195,7 +209,7 @@ fn no_writer_is_asked_again_after_it_failed_at_any_byte(rt: HostRuntime) -> Resu
             ..Paper::failing(rt.alloc(), bytes as usize)
         };
         let mut tape = Tape::new(stream.as_slice());
-        let done = Done {
+        let done = RunCounts {
             result: whole(1, None, 2730),
             write_failures: NO_FAILURE,
             ..unwritten(bytes, head)
@@ -218,7 +232,7 @@ fn a_record_is_written_before_the_next_field_is_read(rt: HostRuntime) -> Result<
         };
         let done = unwritten(150, 135);
         let wanted = done.with(&[HEAD, BLACK]);
-        answers(Verb::Extract, &config, &mut tape, &mut paper, wanted)?;
+        answers(StreamText::Extract, &config, &mut tape, &mut paper, wanted)?;
     }
     Ok(())
 }
@@ -258,7 +272,7 @@ fn sixteen_interruptions_in_a_row_are_borne(rt: HostRuntime) -> Result<(), Fail>
             interrupts,
             ..Paper::new(rt.alloc())
         };
-        let done = Done {
+        let done = RunCounts {
             result,
             fetched,
             read_failures: interruptions(reads),
@@ -267,7 +281,7 @@ fn sixteen_interruptions_in_a_row_are_borne(rt: HostRuntime) -> Result<(), Fail>
         };
         let texts = [HEAD, BLACK, TAIL];
         let wanted = done.with(&texts);
-        answers(Verb::Extract, &config, &mut tape, &mut paper, wanted)?;
+        answers(StreamText::Extract, &config, &mut tape, &mut paper, wanted)?;
     }
     Ok(())
 }

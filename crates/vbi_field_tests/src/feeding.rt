@@ -3,8 +3,8 @@
 use crate::fields::{DRAWN, NONE, config, field, front};
 use crate::known::{BLACK, CUT, CUT_END, HEAD, PAL_HEAD, TAIL, WORDS};
 use crate::runs::{
-    Ended, Failures, NO_FAILURE, ONE_ERROR, Wanted, failures_of_writes, total, undisturbed, whole,
-    wrote,
+    Ended, FailureCounts, NO_FAILURE, ONE_ERROR, Wanted, failures_of_writes, total, undisturbed,
+    whole, wrote,
 };
 use std::alloc::Global;
 use std::test::Fail;
@@ -148,7 +148,7 @@ const WRITE: RunFault = RunFault::Write { written: 150 };
 
 /// The bytes that come beside a black field, those after which the writer fails, the fault, the writer's failures, the
 /// bytes written one by one, and how often the writer was asked for these, in all calls.
-static FAULTS: [(usize, Option<usize>, RunFault, Failures, u64, u64); 3] = [
+static FAULTS: [(usize, Option<usize>, RunFault, FailureCounts, u64, u64); 3] = [
     (0, Some(150), WRITE, ONE_ERROR, 150, 151),
     (1, None, RunFault::TooManyFields, NO_FAILURE, 227, 227),
     // Too many fields as well, after the record that isn't written.

@@ -28,7 +28,7 @@ pub(crate) enum Line {
     /// A drawn word of which five columns are turned over, the fourth to the eighth of a cell: of its third in NTSC,
     /// 210 to 214, of its fourth in PAL, 299 to 303.
     Torn(u32),
-    /// So many black columns, so many white ones, and black ones to the end.
+    /// This many black columns, this many white ones, and black ones to the end.
     Run(usize, usize),
 }
 
@@ -122,7 +122,7 @@ pub(crate) fn two_fields(
     Ok(stream)
 }
 
-/// So many bytes of a stream, or all of a shorter one.
+/// The first bytes of a stream, this many, or all of a shorter one.
 pub(crate) fn front(stream: &[u8], count: usize) -> &[u8] {
     let (front, _) = stream.split_at(count.min(stream.len()));
     front

@@ -12,7 +12,7 @@ pub(crate) const PAL_HEAD: &str = "{\"version\":2,\"videoParameters\":{\"system\
 pub(crate) const BLACK: &str = "{\"seqNo\":1,\"vbi\":{\"vbiData\":[0,0,0]},\
     \"vbiCause\":[\"blank\",\"blank\",\"blank\"],\"vbiPass\":[0,0,0]}";
 
-/// That of a second one, and what joins it to the first: 94 bytes.
+/// The record of a second field of black samples, and what joins it to the first: 94 bytes.
 pub(crate) const SECOND_BLACK: &str = ",\n{\"seqNo\":2,\"vbi\":{\"vbiData\":[0,0,0]},\
     \"vbiCause\":[\"blank\",\"blank\",\"blank\"],\"vbiPass\":[0,0,0]}";
 

@@ -11,7 +11,7 @@ use crate::known::{
     TAIL,
 };
 use crate::runs::{
-    Done, Ended, NO_FAILURE, ONE_ERROR, Verb, answers, undisturbed, whole, writes,
+    Ended, NO_FAILURE, ONE_ERROR, RunCounts, StreamText, answers, undisturbed, whole, writes,
     writes_by_any_reads,
 };
 use std::test::Fail;
@@ -104,10 +104,22 @@ fn a_worn_field_has_its_record_and_its_part_of_the_report(rt: HostRuntime) -> Re
         let (head, report_head) = heads(system);
         let document = [head, record, TAIL];
         let wanted = undisturbed(stream, ended, &document);
-        writes(rt.alloc(), Verb::ExtractRecovered, &config, stream, wanted)?;
+        writes(
+            rt.alloc(),
+            StreamText::ExtractRecovered,
+            &config,
+            stream,
+            wanted,
+        )?;
         let report = [report_head, part, REPORT_TAIL];
         let wanted = undisturbed(stream, ended, &report);
-        writes(rt.alloc(), Verb::ShowRecovered, &config, stream, wanted)?;
+        writes(
+            rt.alloc(),
+            StreamText::ShowRecovered,
+            &config,
+            stream,
+            wanted,
+        )?;
     }
     Ok(())
 }
@@ -121,7 +133,13 @@ fn recovers(
     texts: &[&str],
 ) -> Result<(), Fail> {
     let wanted = undisturbed(stream, ended, texts);
-    writes(rt.alloc(), Verb::ExtractRecovered, config, stream, wanted)
+    writes(
+        rt.alloc(),
+        StreamText::ExtractRecovered,
+        config,
+        stream,
+        wanted,
+    )
 }
 
 #[test]
@@ -154,7 +172,13 @@ fn reads_of_any_length_give_one_recovered_document(rt: HostRuntime) -> Result<()
     let stream = worn.as_slice();
     let texts = [RECOVERED_HEAD, WORN_RECORD, TAIL];
     let wanted = undisturbed(stream, whole(1, None, 2730), &texts);
-    writes_by_any_reads(rt.alloc(), Verb::ExtractRecovered, &config, stream, wanted)
+    writes_by_any_reads(
+        rt.alloc(),
+        StreamText::ExtractRecovered,
+        &config,
+        stream,
+        wanted,
+    )
 }
 
 #[test]
@@ -168,7 +192,7 @@ fn faults_are_those_of_extract(rt: HostRuntime) -> Result<(), Fail> {
         ..Tape::new(stream.as_slice())
     };
     let mut paper = Paper::new(rt.alloc());
-    let unread = Done {
+    let unread = RunCounts {
         result: Err(RunFault::Read {
             field: 1,
             offset: 478_659,
@@ -178,12 +202,12 @@ fn faults_are_those_of_extract(rt: HostRuntime) -> Result<(), Fail> {
         written: RECOVERED_HEAD.len() as u64,
         write_failures: NO_FAILURE,
     };
-    let (verb, wanted) = (Verb::ExtractRecovered, unread.with(&texts));
+    let (verb, wanted) = (StreamText::ExtractRecovered, unread.with(&texts));
     answers(verb, &config, &mut tape, &mut paper, wanted)?;
 
     let mut tape = Tape::new(stream.as_slice());
     let mut paper = Paper::failing(rt.alloc(), 150);
-    let unwritten = Done {
+    let unwritten = RunCounts {
         result: Err(RunFault::Write { written: 150 }),
         fetched: 478_660,
         read_failures: NO_FAILURE,

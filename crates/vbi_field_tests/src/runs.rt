@@ -15,25 +15,25 @@ pub(crate) type Ended = Result<Summary, RunFault>;
 
 /// How often a device failed, and how often of these by an error, which is no interruption.
 #[derive(Clone, Copy, Debug, PartialEq, Eq)]
-pub(crate) struct Failures {
+pub(crate) struct FailureCounts {
     pub(crate) all: u64,
     pub(crate) errors: u64,
 }
 
-pub(crate) const NO_FAILURE: Failures = Failures { all: 0, errors: 0 };
+pub(crate) const NO_FAILURE: FailureCounts = FailureCounts { all: 0, errors: 0 };
 
-pub(crate) const ONE_ERROR: Failures = Failures { all: 1, errors: 1 };
+pub(crate) const ONE_ERROR: FailureCounts = FailureCounts { all: 1, errors: 1 };
 
-/// So many interruptions and no error.
-pub(crate) fn interruptions(count: usize) -> Failures {
-    Failures {
+/// This many interruptions and no error.
+pub(crate) fn interruptions(count: usize) -> FailureCounts {
+    FailureCounts {
         all: count as u64,
         errors: 0,
     }
 }
 
-pub(crate) fn failures_of_writes(outlet: &Outlet<Paper>) -> Failures {
-    Failures {
+pub(crate) fn failures_of_writes(outlet: &Outlet<Paper>) -> FailureCounts {
+    FailureCounts {
         all: outlet.failures(),
         errors: outlet.errors(),
     }
@@ -41,42 +41,47 @@ pub(crate) fn failures_of_writes(outlet: &Outlet<Paper>) -> Failures {
 
 /// How a run ended, and its counts.
 #[derive(Clone, Copy, Debug, PartialEq, Eq)]
-pub(crate) struct Done {
+pub(crate) struct RunCounts {
     pub(crate) result: Ended,
     pub(crate) fetched: u64,
-    pub(crate) read_failures: Failures,
+    pub(crate) read_failures: FailureCounts,
     pub(crate) written: u64,
-    pub(crate) write_failures: Failures,
+    pub(crate) write_failures: FailureCounts,
 }
 
 #[derive(Clone, Copy, Debug)]
-pub(crate) enum Verb {
+pub(crate) enum StreamText {
     Extract,
     ExtractRecovered,
     Show,
     ShowRecovered,
 }
 
-pub(crate) static VERBS: [Verb; 4] = [
-    Verb::Extract,
-    Verb::Show,
-    Verb::ExtractRecovered,
-    Verb::ShowRecovered,
+pub(crate) static VERBS: [StreamText; 4] = [
+    StreamText::Extract,
+    StreamText::Show,
+    StreamText::ExtractRecovered,
+    StreamText::ShowRecovered,
 ];
 
-pub(crate) fn ran<R: Read>(verb: Verb, config: &Config, reader: &mut R, paper: &mut Paper) -> Done {
+pub(crate) fn ran<R: Read>(
+    verb: StreamText,
+    config: &Config,
+    reader: &mut R,
+    paper: &mut Paper,
+) -> RunCounts {
     let mut intake = Intake::new(reader, config.system());
     let mut outlet = Outlet::new(paper);
     let result = match verb {
-        Verb::Extract => extract(config, &mut intake, &mut outlet),
-        Verb::ExtractRecovered => extract_recovered(config, &mut intake, &mut outlet),
-        Verb::Show => show(config, &mut intake, &mut outlet),
-        Verb::ShowRecovered => show_recovered(config, &mut intake, &mut outlet),
+        StreamText::Extract => extract(config, &mut intake, &mut outlet),
+        StreamText::ExtractRecovered => extract_recovered(config, &mut intake, &mut outlet),
+        StreamText::Show => show(config, &mut intake, &mut outlet),
+        StreamText::ShowRecovered => show_recovered(config, &mut intake, &mut outlet),
     };
-    Done {
+    RunCounts {
         result,
         fetched: intake.fetched(),
-        read_failures: Failures {
+        read_failures: FailureCounts {
             all: intake.failures(),
             errors: intake.errors(),
         },
@@ -90,10 +95,10 @@ pub(crate) fn ran<R: Read>(verb: Verb, config: &Config, reader: &mut R, paper: &
 pub(crate) struct Drawn {
     pub(crate) result: Result<u32, DrawFault>,
     pub(crate) fetched: u64,
-    pub(crate) read_failures: Failures,
+    pub(crate) read_failures: FailureCounts,
     pub(crate) asked: u64,
     pub(crate) written: u64,
-    pub(crate) write_failures: Failures,
+    pub(crate) write_failures: FailureCounts,
 }
 
 /// Draws the fields of a text of words.
@@ -104,7 +109,7 @@ pub(crate) fn drew(config: &Config, mut words: Tape, paper: &mut Paper) -> Drawn
     Drawn {
         result,
         fetched: rows.fetched(),
-        read_failures: Failures {
+        read_failures: FailureCounts {
             all: rows.failures(),
             errors: rows.errors(),
         },
@@ -154,12 +159,12 @@ pub(crate) fn total(texts: &[&str]) -> u64 {
 /// What a run has to answer, and the texts that it has to begin, or to write if it ends well.
 #[derive(Clone, Copy)]
 pub(crate) struct Wanted<'a> {
-    pub(crate) done: Done,
+    pub(crate) done: RunCounts,
     pub(crate) texts: &'a [&'a str],
 }
 
-impl Done {
-    /// The same, with what is written.
+impl RunCounts {
+    /// What a run has to answer, with the texts that it writes.
     pub(crate) fn with<'a>(self, texts: &'a [&'a str]) -> Wanted<'a> {
         Wanted { done: self, texts }
     }
@@ -167,7 +172,7 @@ impl Done {
 
 /// Fails if a run between two devices ends otherwise, or if what was written doesn't begin these texts.
 pub(crate) fn answers<R: Read + Drop>(
-    verb: Verb,
+    verb: StreamText,
     config: &Config,
     reader: &mut R,
     paper: &mut Paper,
@@ -179,7 +184,7 @@ pub(crate) fn answers<R: Read + Drop>(
 
 /// What a run answers that takes all of a stream and writes these texts, and whose devices don't fail.
 pub(crate) fn undisturbed<'a>(stream: &[u8], ended: Ended, texts: &'a [&'a str]) -> Wanted<'a> {
-    let done = Done {
+    let done = RunCounts {
         result: ended,
         fetched: stream.len() as u64,
         read_failures: NO_FAILURE,
@@ -192,7 +197,7 @@ pub(crate) fn undisturbed<'a>(stream: &[u8], ended: Ended, texts: &'a [&'a str])
 /// Fails if a run over a stream ends otherwise, a device fails, or other texts than these are written.
 pub(crate) fn writes(
     alloc: Global,
-    verb: Verb,
+    verb: StreamText,
     config: &Config,
     stream: &[u8],
     wanted: Wanted,
@@ -202,10 +207,11 @@ pub(crate) fn writes(
     answers(verb, config, &mut tape, &mut paper, wanted)
 }
 
-/// The same of reads of some lengths: a byte, an odd number of bytes, and a line of NTSC and a byte.
+/// Fails where a run writes otherwise by reads of some length: a byte, an odd number of bytes, and a line of NTSC and a
+/// byte.
 pub(crate) fn writes_by_any_reads(
     alloc: Global,
-    verb: Verb,
+    verb: StreamText,
     config: &Config,
     stream: &[u8],
     wanted: Wanted,

@@ -14,7 +14,7 @@ state_of (First level run cells bits) = first level run (lowest_bits cells bits)
 state_of (Second level run cells bits) = second level run (lowest_bits cells bits)
 state_of (Tail bits) = tail (lowest_bits 24 bits)
 
--- there is no bit beyond the cells that are counted
+-- a decoder has no bit beyond the cells that it has counted
 abbrev pub IsSound : Decoder → Type 0
 IsSound (Lead run) = Unit {0}
 IsSound (First level run cells bits) = (cells < 24) × (bits < 2 ^ cells)

@@ -19,7 +19,7 @@ pub record Line : Type 0 where
 abbrev pub IsFull : Line → Type 0
 IsFull l = length l.held ≡ line_bytes l.system
 
--- the same system, passes and count
+-- a line keeps its system, its passes and its count
 pub record KeepsPasses (old new : Line) : Type 0 where
   pub system : new.system ≡ old.system
   pub cursors : new.cursors ≡ old.cursors
@@ -32,7 +32,7 @@ pub record IsCleared (old new : Line) : Type 0 where
   pub cursors : new.cursors ≡ []
   pub looked : new.looked ≡ old.looked
 
--- the same system and bytes
+-- a line keeps its system and its bytes
 pub record KeepsBytes (old new : Line) : Type 0 where
   pub system : new.system ≡ old.system
   pub held : new.held ≡ old.held

@@ -27,7 +27,7 @@ unpacked words width = map (packed_level words) (range_with_len 0 width)
 abbrev pub packed_levels : Inside → List Bool
 packed_levels p = unpacked p.words p.width
 
--- there is room for the longest line, and no bit past the width is set
+-- packed words have room for the longest line, and no bit past the width is set
 pub record IsPacked (p : Inside) : Type 0 where
   pub words : length p.words ≡ 18
   pub width : p.width ≤ 1152

@@ -66,7 +66,7 @@ pub(crate) enum Decoder {
     Tail(u32),
 }
 
-/// These bits with one more at the end.
+/// Some bits with one more at the end.
 #[tactic(auto, using(crate::proofs::Steps::steps))]
 pub(crate) fn with_bit(cells: u32, bits: u32, bit: bool) -> u32
     requires cells { cells < 24 }

@@ -1,27 +1,19 @@
 //! Lines by their shapes, and what each reader has to report of them.
 
-use crate::lines::{at_once, by_bits, by_intake, drawn, in_place, levels_of, plain, reading, set};
+use crate::lines::{
+    NumberedOutcome, at_once, by_bits, by_intake, drawn, in_place, levels_of, plain, reading, set,
+};
 use std::fmt::Debug;
 use std::test::Fail;
 use vbi_test_devices::same;
 use vbi_words::{Levels, System, Word24};
 
-/// An outcome, its word as a number.
-#[derive(Clone, Copy, Debug, PartialEq, Eq)]
-pub(crate) enum Answer {
-    Word(u32),
-    Blank,
-    Unfinished,
-    Change(u16),
-    Hold(u16),
-}
-
 /// How the levels of a line begin; the rest is low.
 #[derive(Clone, Copy, Debug)]
 pub(crate) enum Shape {
-    /// So many lows, and then so many highs.
+    /// This many lows, and then this many highs.
     Run(usize, usize),
-    /// So many lows, and then runs, the first of them high: the length of each, and how many they are.
+    /// This many lows, and then runs, the first of them high: the length of each, and how many they are.
     Runs(usize, usize, usize),
     /// The drawn row of a word.
     Drawn(u32),
@@ -37,7 +29,7 @@ pub(crate) enum Turned {
     Low(usize, usize),
 }
 
-/// So many lows, and then so many runs of a length, the first of them high; the rest is low.
+/// This many lows, and then this many runs of a length, the first of them high; the rest is low.
 fn runs(levels: Levels, low: usize, length: usize, count: usize) -> [u16; 1135] {
     let mut samples = [levels.black(); 1135];
     let mut column = low;
@@ -82,8 +74,8 @@ fn samples_of(system: System, shape: Shape) -> [u16; 1135] {
 fn shows(
     system: System,
     samples: &[u16; 1135],
-    outcome: Answer,
-    expected: (Answer, u8),
+    outcome: NumberedOutcome,
+    expected: (NumberedOutcome, u8),
     row: impl Debug + Drop,
 ) -> Result<(), Fail> {
     let levels = levels_of(system);
@@ -104,12 +96,12 @@ fn shows(
 }
 
 /// A line, and its outcome, which is its reading as well.
-pub(crate) type Clear = (System, Shape, Answer);
+pub(crate) type Clear = (System, Shape, NumberedOutcome);
 
 /// The reading of an outcome that is taken as it is.
-fn as_it_is(outcome: Answer) -> (Answer, u8) {
+fn as_it_is(outcome: NumberedOutcome) -> (NumberedOutcome, u8) {
     match outcome {
-        Answer::Word(_) => (outcome, 1),
+        NumberedOutcome::Word(_) => (outcome, 1),
         _ => (outcome, 0),
     }
 }
@@ -131,7 +123,7 @@ pub(crate) fn are_clear(rows: &[Clear]) -> Result<(), Fail> {
 
 /// A line with columns that are turned over, its outcome, and the word of the second pass, or 0 where the reading is
 /// the outcome.
-pub(crate) type Glitch = (System, Shape, Turned, Answer, u32);
+pub(crate) type Glitch = (System, Shape, Turned, NumberedOutcome, u32);
 
 /// Fails where one of these lines is read as something else.
 pub(crate) fn are_read(rows: &[Glitch]) -> Result<(), Fail> {
@@ -145,7 +137,7 @@ pub(crate) fn are_read(rows: &[Glitch]) -> Result<(), Fail> {
         }
         let expected = match word {
             0 => as_it_is(outcome),
-            _ => (Answer::Word(word), 2),
+            _ => (NumberedOutcome::Word(word), 2),
         };
         shows(system, &samples, outcome, expected, (system, shape, turned))?;
     }

@@ -39,18 +39,18 @@ fn the_stored_line_is_text() -> Result<(), Fail> {
     Ok(())
 }
 
-type Answer = Result<Filled, IntakeFault>;
+type NumberedOutcome = Result<Filled, IntakeFault>;
 
-const FULL: Answer = Ok(Filled::Full);
+const FULL: NumberedOutcome = Ok(Filled::Full);
 
-const READ: Answer = Err(IntakeFault::Read);
+const READ: NumberedOutcome = Err(IntakeFault::Read);
 
 /// What a call of `fill_line` answers, how many bytes are then held and fetched, and how many failures and errors are
 /// counted.
-type Call = (Answer, usize, u64, u64);
+type Call = (NumberedOutcome, usize, u64, u64);
 
 /// An answer, beside the counts after it.
-fn with_counts<R: Read>(answer: Answer, intake: &Intake<R>) -> Call {
+fn with_counts<R: Read>(answer: NumberedOutcome, intake: &Intake<R>) -> Call {
     (answer, intake.held(), intake.failures(), intake.errors())
 }
 
@@ -148,7 +148,7 @@ fn the_last_byte_may_come_after_the_end() -> Result<(), Fail> {
 
 /// What a call of `fill_line` answers, the passes over the line and the looks at it; and the bytes held and fetched
 /// when it is cleared.
-fn cleared(mut reader: Tape) -> (Answer, (usize, u64), (usize, u64)) {
+fn cleared(mut reader: Tape) -> (NumberedOutcome, (usize, u64), (usize, u64)) {
     let mut intake = Intake::new(&mut reader, System::Ntsc);
     let answer = intake.fill_line();
     let passes = (intake.passes(), intake.looked());
@@ -164,7 +164,7 @@ fn a_cleared_line_holds_nothing() -> Result<(), Fail> {
 }
 
 /// A system, the bytes of a reader, the answer, and how often the reader is asked, which has a byte for each read.
-static SYSTEMS: [(System, usize, Answer, u64); 8] = [
+static SYSTEMS: [(System, usize, NumberedOutcome, u64); 8] = [
     (System::Ntsc, 0, Ok(Filled::Ended(0)), 1),
     (System::Ntsc, 1819, Ok(Filled::Ended(1819)), 1820),
     (System::Ntsc, 1820, FULL, 1820),

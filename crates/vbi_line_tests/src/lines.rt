@@ -3,7 +3,6 @@
 ghost use Rattle.std.specs.Prelude.{◌≡◌, []};
 ghost use Rattle.vbi_line.specs.Line.{IsFull};
 
-use crate::cases::Answer;
 use byteorder::{ByteOrder, LittleEndian};
 use std::test::Fail;
 use vbi_line::{
@@ -12,6 +11,16 @@ use vbi_line::{
 };
 use vbi_test_devices::same;
 use vbi_words::{Levels, Outcome, Reading, System, Word24, drawn_sample};
+
+/// An outcome, its word as a number.
+#[derive(Clone, Copy, Debug, PartialEq, Eq)]
+pub(crate) enum NumberedOutcome {
+    Word(u32),
+    Blank,
+    Unfinished,
+    Change(u16),
+    Hold(u16),
+}
 
 /// The usual levels of a system's lines.
 pub(crate) fn levels_of(system: System) -> Levels {
@@ -61,51 +70,63 @@ pub(crate) fn line_of(system: System, samples: &[u16; 1135]) -> LineBuf
     line
 }
 
-fn in_numbers(outcome: Outcome) -> Answer {
+fn in_numbers(outcome: Outcome) -> NumberedOutcome {
     match outcome {
-        Outcome::Word(word) => Answer::Word(word.value()),
-        Outcome::Blank => Answer::Blank,
-        Outcome::Unfinished => Answer::Unfinished,
-        Outcome::Change(column) => Answer::Change(column),
-        Outcome::Hold(column) => Answer::Hold(column),
+        Outcome::Word(word) => NumberedOutcome::Word(word.value()),
+        Outcome::Blank => NumberedOutcome::Blank,
+        Outcome::Unfinished => NumberedOutcome::Unfinished,
+        Outcome::Change(column) => NumberedOutcome::Change(column),
+        Outcome::Hold(column) => NumberedOutcome::Hold(column),
     }
 }
 
-fn with_pass(reading: Reading) -> (Answer, u8) {
+fn with_pass(reading: Reading) -> (NumberedOutcome, u8) {
     (in_numbers(reading.outcome), reading.pass)
 }
 
 /// The outcome of a line of these samples.
-pub(crate) fn plain(system: System, levels: Levels, samples: &[u16; 1135]) -> Answer {
+pub(crate) fn plain(system: System, levels: Levels, samples: &[u16; 1135]) -> NumberedOutcome {
     in_numbers(read_line(&mut line_of(system, samples), system, levels))
 }
 
 /// The outcome of the packed levels of a line of these samples.
-pub(crate) fn by_bits(system: System, levels: Levels, samples: &[u16; 1135]) -> Answer {
+pub(crate) fn by_bits(system: System, levels: Levels, samples: &[u16; 1135]) -> NumberedOutcome {
     let packed = slice_lanes(&mut line_of(system, samples), levels);
     in_numbers(read_packed(&packed, system))
 }
 
 /// The reading of a line of these samples, and its pass.
-pub(crate) fn reading(system: System, levels: Levels, samples: &[u16; 1135]) -> (Answer, u8) {
+pub(crate) fn reading(
+    system: System,
+    levels: Levels,
+    samples: &[u16; 1135],
+) -> (NumberedOutcome, u8) {
     with_pass(read_twice(&mut line_of(system, samples), system, levels))
 }
 
 /// The reading of the line's bytes where they lie, and its pass.
-pub(crate) fn in_place(system: System, levels: Levels, samples: &[u16; 1135]) -> (Answer, u8) {
+pub(crate) fn in_place(
+    system: System,
+    levels: Levels,
+    samples: &[u16; 1135],
+) -> (NumberedOutcome, u8) {
     let bytes = bytes_of(samples);
     let packed = slice_bytes(&bytes[..2 * system.width()], system, levels);
     with_pass(read_packed_twice(&packed, system))
 }
 
-/// The same by one call.
-pub(crate) fn at_once(system: System, levels: Levels, samples: &[u16; 1135]) -> (Answer, u8) {
+/// The reading of the line's bytes where they lie, and its pass, by one call.
+pub(crate) fn at_once(
+    system: System,
+    levels: Levels,
+    samples: &[u16; 1135],
+) -> (NumberedOutcome, u8) {
     let bytes = bytes_of(samples);
     with_pass(read_bytes_twice(&bytes[..2 * system.width()], system, levels))
 }
 
 /// The outcome of an intake that is filled with the bytes of a line.
-fn intake_outcome(system: System, levels: Levels, mut line: &[u8]) -> Option<Answer> {
+fn intake_outcome(system: System, levels: Levels, mut line: &[u8]) -> Option<NumberedOutcome> {
     let mut intake = Intake::new(&mut line, system);
     let Ok(Filled::Full) = intake.fill_line() else {
         return None;
@@ -114,7 +135,11 @@ fn intake_outcome(system: System, levels: Levels, mut line: &[u8]) -> Option<Ans
 }
 
 /// The reading of an intake that is filled with the bytes of a line, and its pass.
-fn intake_reading(system: System, levels: Levels, mut line: &[u8]) -> Option<(Answer, u8)> {
+fn intake_reading(
+    system: System,
+    levels: Levels,
+    mut line: &[u8],
+) -> Option<(NumberedOutcome, u8)> {
     let mut intake = Intake::new(&mut line, system);
     let Ok(Filled::Full) = intake.fill_line() else {
         return None;
@@ -127,7 +152,7 @@ pub(crate) fn by_intake(
     system: System,
     levels: Levels,
     samples: &[u16; 1135],
-) -> Option<(Answer, (Answer, u8))> {
+) -> Option<(NumberedOutcome, (NumberedOutcome, u8))> {
     let bytes = bytes_of(samples);
     let line = &bytes[..2 * system.width()];
     let outcome = intake_outcome(system, levels, line)?;
@@ -136,11 +161,11 @@ pub(crate) fn by_intake(
 }
 
 /// A system, the sample in the high columns of the drawn row of 82CFFF, and its reading by the system's usual levels.
-static MIDWAY: [(System, u16, (Answer, u8)); 4] = [
-    (System::Ntsc, 33792, (Answer::Blank, 0)),
-    (System::Ntsc, 33793, (Answer::Word(0x82CFFF), 1)),
-    (System::Pal, 35200, (Answer::Blank, 0)),
-    (System::Pal, 35201, (Answer::Word(0x82CFFF), 1)),
+static MIDWAY: [(System, u16, (NumberedOutcome, u8)); 4] = [
+    (System::Ntsc, 33792, (NumberedOutcome::Blank, 0)),
+    (System::Ntsc, 33793, (NumberedOutcome::Word(0x82CFFF), 1)),
+    (System::Pal, 35200, (NumberedOutcome::Blank, 0)),
+    (System::Pal, 35201, (NumberedOutcome::Word(0x82CFFF), 1)),
 ];
 
 #[test]

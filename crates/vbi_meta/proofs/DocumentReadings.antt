@@ -24,7 +24,7 @@ use Rattle.vbi_field.specs.Shown.{as_readings, reading_as, joined_rows}
 use Rattle.vbi_meta.specs.DocumentValue.{IsOfRun, object_of, whole_of}
 use Rattle.vbi_meta.specs.DocumentValue.{document_value, near_value, nears_value, recovered_value}
 use Rattle.vbi_meta.specs.ReadBack.{IsReadAs, field_in, word_of, HasLine, HasReading}
-use Rattle.vbi_meta.specs.ReadBack.{ReadsWord, HasReadings, ReadsBack, nearest_of, count_in, HasNearest}
+use Rattle.vbi_meta.specs.ReadBack.{ReadsWord, HasReadings, ReadsBack, nearest_of, count_in, HasNearest, LinePlace}
 use Rattle.vbi_meta.specs.ReadBack.{HasField, ShowsWord, HasRecovered, RecoversBack, RuleSays, HasSaid, FollowsRule}
 use Rattle.vbi_meta.specs.ReadBack.{FollowsLines}
 use Rattle.vbi_meta.proofs.DocumentReads.{document_is_read, recovered_is_read}
@@ -56,8 +56,11 @@ module _ (c : ConfigView) (z text : List ℕ) (is : read text ≡ Some (document
       → HasReading text i k reading
   has_same_reading i k reading inside line reads = grind (arith, only_reading, has_reading)
 
-  reads_word : (i k word : ℕ) → word_of k (field_in text i) ≡ Some word → 0 < word → ReadsWord c z text i k word
-  reads_word i k word e some =
+  reads_word : (place : LinePlace) (word : ℕ) → word_of place.k (field_in text place.i) ≡ Some word → 0 < word
+      → ReadsWord c z text place word
+  reads_word place word e some =
+      let i : ℕ = place.i in
+      let k : ℕ = place.k in
       let of = is_of_line c z text 2 (readings_at c z) (readings_at c z) none is i k word e in
       let levels = row_levels c.levels (line_at c.system z i (15 + k)) in
       let reading = reading_at c z i (15 + k) in
@@ -65,7 +68,7 @@ module _ (c : ConfigView) (z text : List ℕ) (is : read text ≡ Some (document
       = ap (λ (r : Reading). value_of r.outcome) (sym (row_of c z i k of.line)) ∙ of.same in
       record {
         field = of.field;
-        line = of.line;
+        place = of.line;
         pass = reading.pass;
         found = let there = has_reading i k of.field of.line in there.pass;
         reads = word_of_value c.system levels reading.outcome reading.pass word (is_reading c.system levels) same some;
@@ -186,26 +189,28 @@ module _ (c : ConfigView) (z text : List ℕ) (is : read text ≡ Some (recovere
         };
       }
 
-  shows_word : (i k word : ℕ) → word_of k (field_in text i) ≡ Some word → 0 < word → ShowsWord c z text i k word
-  shows_word i k word e some =
-      let of = is_of_line c z text 3 shown_at causes_at nears_at is i k word e in
-      let here = field_at i in
+  shows_word : (place : LinePlace) (word : ℕ) → word_of place.k (field_in text place.i) ≡ Some word → 0 < word
+      → ShowsWord c z text place word
+  shows_word place word e some =
+      let of = is_of_line c z text 3 shown_at causes_at nears_at is place.i place.k word e in
+      let here = field_at place.i in
       record {
         field = of.field;
-        line = of.line;
-        pass = (line_of k (shown_at i)).pass;
-        found = let there = has_line_of i k of.field of.line in there.pass;
+        place = of.line;
+        pass = (line_of place.k (shown_at place.i)).pass;
+        found = let there = has_line_of place.i place.k of.field of.line in there.pass;
         recovered = here;
-        recovers = recovers i;
-        shows = by here.shown (recovers i).shown of.line of.same;
+        recovers = recovers place.i;
+        shows = by here.shown (recovers place.i).shown of.line of.same;
       }
     where
       by : (shown : List Recovered)
-          → IsRecovered c.system c.levels (joined_rows (rows_at c z i)) (none_erased c.system) shown → k < 3
-          → value_of (line_of k (as_readings shown)).outcome ≡ word
-          → slice_get shown k ≡ Some (record { outcome = Word word; pass = (line_of k (as_readings shown)).pass })
+          → IsRecovered c.system c.levels (joined_rows (rows_at c z place.i)) (none_erased c.system) shown → place.k < 3
+          → value_of (line_of place.k (as_readings shown)).outcome ≡ word
+          → slice_get shown place.k
+          ≡ Some (record { outcome = Word word; pass = (line_of place.k (as_readings shown)).pass })
       by shown (first, second, third, both, seen, three) line same =
-          shows-at shown _ _ _ k word three line same some
+          shows-at shown _ _ _ place.k word three line same some
 
   pub has_recovered : HasRecovered c z text
   has_recovered = record {

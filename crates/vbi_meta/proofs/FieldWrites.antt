@@ -8,10 +8,10 @@ use Rattle.vbi_words.specs.Geometry.{line_at}
 use Rattle.vbi_words.specs.Levels.{Slicing, row_levels}
 use Rattle.vbi_words.specs.Readings.{IsReading}
 use Rattle.vbi_near.specs.declared.recovery.Recovered.{Recovered}
-use Rattle.vbi_near.specs.Candidates.{Row, Candidates, row_of, marks_at}
+use Rattle.vbi_near.specs.Candidates.{Line, Candidates, row_of, marks_at}
 use Rattle.vbi_near.specs.Distances.{unit_of}
 use Rattle.vbi_near.specs.Recovery.{Seen, AreSeen, IsRecovered, alone, are_open, stands_by, stands_of, said_by, row_at}
-use Rattle.vbi_near.specs.Recovery.{recovered_of}
+use Rattle.vbi_near.specs.Recovery.{recovered_of, field_line}
 use Rattle.vbi_field.specs.Recovered.{FieldRecovered, RowsRecover, cause_line}
 use Rattle.vbi_field.specs.Shown.{as_readings, joined_rows}
 use Rattle.vbi_field.specs.Stream.{FieldRows}
@@ -30,7 +30,7 @@ pub record AreShort (rows : FieldRows) : Type 0 where
 -- ---- what three rows show
 
 module _ (system : System) (slicing : Slicing) (rows : List ℕ) (marks : List Bool) (first second third : Seen)
-    (both : Candidates) (seen : AreSeen system slicing rows marks first second third both) where
+    (both : Candidates) (seen : AreSeen (field_line system slicing rows marks) first second third both) where
   abbrev unit : ℕ
   unit = unit_of slicing
 
@@ -42,20 +42,20 @@ module _ (system : System) (slicing : Slicing) (rows : List ℕ) (marks : List B
       → AreWords (said_by (if opened then stands_by unit second.near third.near both else alone) unit near both)
   pair-words true e near says =
       by_words (stands_by unit second.near third.near both) unit near both says
-      (of_both system 17 slicing (row_at system rows marks 1) (row_at system rows marks 2) both (seen.pair e))
+      (of_both (field_line system slicing rows marks 1) (row_at system rows marks 2) both (seen.pair e))
   pair-words false e near says = alone_words unit near both says
 
   three-shown : AreShown (as_readings (recovered_of unit first second third both))
   three-shown =
-      let row : ℕ → Row = row_at system rows marks in
+      let line : ℕ → Line = field_line system slicing rows marks in
       let stands = stands_of unit second third both in
       let opened = are_open unit second third in
       record {
-        first = line_shown system 16 slicing (row 0) first alone both (short 0) seen.line_16
+        first = line_shown (line 0) first alone both (short 0) seen.line_16
             (alone_words unit first.near both);
-        second = line_shown system 17 slicing (row 1) second stands both (short 1) seen.line_17
+        second = line_shown (line 1) second stands both (short 1) seen.line_17
             (pair-words opened refl second.near);
-        third = line_shown system 18 slicing (row 2) third stands both (short 2) seen.line_18
+        third = line_shown (line 2) third stands both (short 2) seen.line_18
             (pair-words opened refl third.near);
       }
 

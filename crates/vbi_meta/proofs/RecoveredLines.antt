@@ -10,22 +10,25 @@ use Rattle.vbi_words.specs.declared.outcome.Outcome.TheVariants.{Word, Blank, Un
 use Rattle.vbi_words.specs.Levels.{Slicing, samples_of, row_levels}
 use Rattle.vbi_words.specs.Words.{IsWord}
 use Rattle.vbi_line.proofs.OneReading.{is_outcome}
-use Rattle.vbi_near.specs.declared.lines.Nears.{Nears}
+use Rattle.vbi_near.specs.declared.near.Nears.{Nears}
 use Rattle.vbi_near.specs.declared.margins.Margins.{Margins}
 use Rattle.vbi_near.specs.declared.margins.MarginSet.{MarginSet}
 use Rattle.vbi_near.specs.declared.near.Near.{Near}
 use Rattle.vbi_near.specs.declared.recovery.Recovered.{Recovered}
-use Rattle.vbi_near.specs.declared.said.Stand.{Stand}
-use Rattle.vbi_near.specs.declared.said.Stand.TheVariants.{Alone, Apart, Together}
-use Rattle.vbi_near.specs.Candidates.{Row, Candidates, HasNear, HasNearIf, AreOf, AreOfBoth, given_samples}
+use Rattle.vbi_near.specs.declared.word_rule.Stand.{Stand}
+use Rattle.vbi_near.specs.declared.word_rule.Stand.TheVariants.{Alone, Apart, Together}
+use Rattle.vbi_near.specs.Candidates.{Row, Line, Lines, Candidates, HasNear, HasNearIf, AreOf, AreOfBoth}
+use Rattle.vbi_near.specs.Candidates.{given_samples, given_line, given_pair}
 use Rattle.vbi_near.specs.Distances.{Samples, most_of, off_by, row_distance, distance_of, known_but, unit_of}
-use Rattle.vbi_near.specs.Levelled.{levelled_unit}
+use Rattle.vbi_near.specs.LevelledLines.{levelled_unit}
 use Rattle.vbi_near.specs.LineCodes.{codes_of, is_beyond_79999}
 use Rattle.vbi_near.specs.Margins.{levelled_margins, given_margins}
 use Rattle.vbi_near.specs.Pictures.{IsPlace}
 use Rattle.vbi_near.specs.Recovery.{Seen, Stands, IsSeen, alone, own_of, is_open, is_confirmed, stays, recovered_as}
 use Rattle.vbi_near.specs.Recovery.{said_by, shown_in}
-use Rattle.vbi_near.specs.Said.{is_clear, is_close, said_of, unless_beyond, recovered_by, first_said, said_in}
+use Rattle.vbi_near.specs.WordRule.{is_clear, is_close, word_in, code_in, said_of, unless_beyond, recovered_by}
+use Rattle.vbi_near.specs.WordRule.{first_said}
+use Rattle.vbi_near.specs.WordRule.{said_in}
 use Rattle.vbi_near.proofs.Chosen.{code-place}
 use Rattle.vbi_near.proofs.Most.{most_of-fits}
 use Rattle.vbi_near.proofs.OneSeen.{open_asked}
@@ -107,18 +110,17 @@ first-words : (a b : Option ℕ) → AreWords a → AreWords b → AreWords (fir
 first-words None b is are = are
 first-words (Some word) b is are = is
 
-said-words : (system : System) (number : ℕ) (slicing : Slicing) (lines : List Samples) (near : Nears)
-    → HasNear system number slicing lines near → (unit : ℕ) (margins : Margins) (count : ℕ)
+said-words : (lines : Lines) (near : Nears) → HasNear lines near → (unit : ℕ) (margins : Margins) (count : ℕ)
     → AreWords (said_of unit margins count near)
-said-words system number slicing lines near has unit margins count =
+said-words lines near has unit margins count =
+    let other = is_clear unit margins.other margins.ends count (word_in near) in
     if-words (is_some near.code.word && is_close unit near
-    && is_clear unit margins.code margins.ends count near.blank near.code_halved near.code) near.code.word
-    (if is_clear unit margins.other margins.ends count near.blank near.word_halved near.word then near.word.word
-    else None)
-    (place-words system near.code.word near.code.start
-    (code-place (codes_of system number) system near.code.word near.code.start has.code.place))
-    (if-words (is_clear unit margins.other margins.ends count near.blank near.word_halved near.word) near.word.word None
-    (place-words system near.word.word near.word.start has.nearest.place) none-words)
+    && is_clear unit margins.code margins.ends count (code_in near)) near.code.word
+    (if other then near.word.word else None)
+    (place-words lines.system near.code.word near.code.start
+    (code-place (codes_of lines.system lines.number) lines.system near.code.word near.code.start has.code.place))
+    (if-words other near.word.word None (place-words lines.system near.word.word near.word.start has.nearest.place)
+    none-words)
 
 -- nearest words that there may not be say words, by whatever margins
 abbrev pub SaysWords : ℕ → Option Nears → Type 0
@@ -128,11 +130,11 @@ unless-words : (said : Option ℕ) → AreWords said → AreWords (unless_beyond
 unless-words None are = are
 unless-words (Some word) are = if-words (is_beyond_79999 word) None (Some word) none-words are
 
-says-words : (system : System) (number : ℕ) (slicing : Slicing) (can : Bool) (lines : List Samples)
-    (near : Option Nears) (unit : ℕ) → HasNearIf system number slicing can lines near → SaysWords unit near
-says-words system number slicing can lines None unit none margins count = none-words
-says-words system number slicing can lines (Some near) unit (can_be, has) margins count =
-    unless-words (said_of unit margins count near) (said-words system number slicing lines near has unit margins count)
+says-words : (lines : Lines) (can : Bool) (near : Option Nears) (unit : ℕ) → HasNearIf lines can near
+    → SaysWords unit near
+says-words lines can None unit none margins count = none-words
+says-words lines can (Some near) unit (can_be, has) margins count =
+    unless-words (said_of unit margins count near) (said-words lines near has unit margins count)
 
 in-words : (margins : MarginSet) (stand : Stand) (unit : ℕ) (near both : Option Nears) → SaysWords unit near
     → SaysWords unit both → AreWords (said_in margins stand unit near both)
@@ -145,20 +147,17 @@ pub record SayWords (unit : ℕ) (near : Candidates) : Type 0 where
   pub levelled : SaysWords levelled_unit near.levelled
   pub given : SaysWords unit (Some near.given)
 
-pub of_line : (system : System) (number : ℕ) (slicing : Slicing) (row : Row) (near : Candidates)
-    → AreOf system number slicing row near → SayWords (unit_of slicing) near
-of_line system number slicing row near are = record {
-  levelled = says-words system number _ _ _ near.levelled levelled_unit are.levelled;
-  given = says-words system number slicing true (given_samples row ∷ []) (Some near.given) (unit_of slicing)
-      (refl, are.given);
+pub of_line : (line : Line) (near : Candidates) → AreOf line near → SayWords (unit_of line.slicing) near
+of_line line near are = record {
+  levelled = says-words _ _ near.levelled levelled_unit are.levelled;
+  given = says-words (given_line line) true (Some near.given) (unit_of line.slicing) (refl, are.given);
 }
 
-pub of_both : (system : System) (number : ℕ) (slicing : Slicing) (row other : Row) (near : Candidates)
-    → AreOfBoth system number slicing row other near → SayWords (unit_of slicing) near
-of_both system number slicing row other near are = record {
-  levelled = says-words system number _ _ _ near.levelled levelled_unit are.levelled;
-  given = says-words system number slicing true (given_samples row ∷ given_samples other ∷ []) (Some near.given)
-      (unit_of slicing) (refl, are.given);
+pub of_both : (line : Line) (other : Row) (near : Candidates) → AreOfBoth line other near
+    → SayWords (unit_of line.slicing) near
+of_both line other near are = record {
+  levelled = says-words _ _ near.levelled levelled_unit are.levelled;
+  given = says-words (given_pair line other) true (Some near.given) (unit_of line.slicing) (refl, are.given);
 }
 
 pub alone_words : (unit : ℕ) (near both : Candidates) → SayWords unit near → AreWords (said_by alone unit near both)
@@ -192,19 +191,18 @@ stays-pass (Hold c) pass confirms e = cc
 abbrev IsLineShown : Recovered → Type 0
 IsLineShown line = IsShown (reading_as line)
 
-own-shown : (system : System) (number : ℕ) (slicing : Slicing) (row : Row) (seen : Seen) (unit : ℕ)
-    → length (row_levels slicing row.bytes) < 2 ^ 64 → IsSeen system number slicing row seen
-    → IsLineShown (own_of unit seen)
-own-shown system number slicing row seen unit short is =
-    let levels = row_levels slicing row.bytes in
+own-shown : (line : Line) (seen : Seen) (unit : ℕ) → length (row_levels line.slicing line.row.bytes) < 2 ^ 64
+    → IsSeen line seen → IsLineShown (own_of unit seen)
+own-shown line seen unit short is =
+    let levels = row_levels line.slicing line.row.bytes in
     let o = seen.reading.outcome in
     let confirms : ℕ → Bool = is_confirmed unit seen.near seen.stretched in
     either IsLineShown (stays o seen.reading.pass confirms)
     (record { outcome = o; pass = seen.reading.pass }) (record { outcome = seen.plain; pass = 0 })
-    (λ same. subst IsShown (sym is.reading) (reading_shown system levels short))
+    (λ same. subst IsShown (sym is.reading) (reading_shown line.system levels short))
     (λ falls. subst (λ (plain : Outcome). IsShown (record { outcome = plain; pass = 0 }))
     (sym (is.plain (stays-pass o seen.reading.pass confirms falls)))
-    (outcome_shown system levels short _ 0 (is_outcome system levels) (lit< tt)))
+    (outcome_shown line.system levels short _ 0 (is_outcome line.system levels) (lit< tt)))
 
 as-shown : (own : Recovered) (said : Option ℕ) → IsLineShown own → AreWords said
     → IsLineShown (recovered_as own said)
@@ -212,15 +210,15 @@ as-shown own None shown words = shown
 as-shown own (Some word) shown words = word_shown word 3 (words word refl) (lit< tt)
 
 -- however it stands to another
-pub line_shown : (system : System) (number : ℕ) (slicing : Slicing) (row : Row) (seen : Seen) (stands : Stands)
-    (both : Candidates) → length (row_levels slicing row.bytes) < 2 ^ 64 → IsSeen system number slicing row seen
-    → (SayWords (unit_of slicing) seen.near → AreWords (said_by stands (unit_of slicing) seen.near both))
-    → IsLineShown (shown_in stands (unit_of slicing) seen both)
-line_shown system number slicing row seen stands both short is words =
-    let unit = unit_of slicing in
+pub line_shown : (line : Line) (seen : Seen) (stands : Stands) (both : Candidates)
+    → length (row_levels line.slicing line.row.bytes) < 2 ^ 64 → IsSeen line seen
+    → (SayWords (unit_of line.slicing) seen.near → AreWords (said_by stands (unit_of line.slicing) seen.near both))
+    → IsLineShown (shown_in stands (unit_of line.slicing) seen both)
+line_shown line seen stands both short is words =
+    let unit = unit_of line.slicing in
     let own : Recovered = own_of unit seen in
-    let shown = own-shown system number slicing row seen unit short is in
+    let shown = own-shown line seen unit short is in
     either IsLineShown (is_open own.outcome) (recovered_as own (said_by stands unit seen.near both)) own
-    (λ opened. as-shown own (said_by stands unit seen.near both) shown (words (of_line system number slicing row
-    seen.near (is.near (open_asked system number slicing row seen unit is opened)))))
+    (λ opened. as-shown own (said_by stands unit seen.near both) shown (words (of_line line seen.near
+    (is.near (open_asked line seen unit is opened)))))
     (λ closed. shown)

@@ -76,7 +76,7 @@ near_value slicing line near =
     ∷ [])
     else null
 
--- those of a field's lines
+-- the nearest words of a field's lines
 abbrev pub nears_value : Slicing → FieldReadings → FieldRecovered → Data
 nears_value slicing lines field = array_of (
     near_value slicing lines.first field.first
@@ -120,7 +120,7 @@ abbrev pub document_value : ConfigView → List ℕ → Data
 document_value c z =
     document_with 2 (λ i. field_value (i + 1) (readings_at c z i)) c (fields_of c z) (rest_of c z)
 
--- the same with recovered words
+-- the document of a stream with recovered words
 abbrev pub recovered_value : ConfigView → List ℕ → Data
 recovered_value c z =
     document_with 3 (λ i. recovered_field_value c.levels (i + 1) (recovered_of c (rows_at c z i))) c (fields_of c z)

@@ -62,7 +62,7 @@ pub record HasLine (text : List ℕ) (i k : ℕ) (line other : Reading) : Type 0
   pub cause : cause_of k (field_in text i) ≡ Some (cause_text_of other.outcome)
   pub pass : pass_of k (field_in text i) ≡ Some line.pass
 
--- it has those of one reading
+-- for line 16 + k of field i the text has the word or 0, the pass and the cause of one reading
 abbrev pub HasReading : List ℕ → ℕ → ℕ → Reading → Type 0
 HasReading text i k reading = HasLine text i k reading reading
 
@@ -79,14 +79,19 @@ pub record HasFields (c : ConfigView) (z text : List ℕ) : Type 0 where
   pub nothing : (i : ℕ) → fields_of c z ≤ i → field_in text i ≡ None
   pub cut : HasCut text (fields_of c z) (rest_of c z)
 
--- line 16 + k of field i is there and is read as this word, in the pass that is found: in pass 1 its levels show the
--- word, in pass 2 they show none, and the smoothed levels show it
-pub record ReadsWord (c : ConfigView) (z text : List ℕ) (i k word : ℕ) : Type 0 where
-  pub field : i < fields_of c z
-  pub line : k < 3
+-- a line's place in a stream: its field, counted from 0, and k for line 16 + k
+pub record LinePlace : Type 0 where
+  pub i : ℕ
+  pub k : ℕ
+
+-- this line is there and is read as this word, in the pass that is found: in pass 1 its levels show the word, in pass 2
+-- they show none, and the smoothed levels show it
+pub record ReadsWord (c : ConfigView) (z text : List ℕ) (line : LinePlace) (word : ℕ) : Type 0 where
+  pub field : line.i < fields_of c z
+  pub place : line.k < 3
   pub pass : ℕ
-  pub found : pass_of k (field_in text i) ≡ Some pass
-  pub reads : RowReads c z i (15 + k) (record { outcome = Word word; pass = pass })
+  pub found : pass_of line.k (field_in text line.i) ≡ Some pass
+  pub reads : RowReads c z line.i (15 + line.k) (record { outcome = Word word; pass = pass })
 
 -- What is found in the text is how the lines of the stream are read, by the relation between a row's levels and its
 -- reading. Line 16 + k is row 15 + k.
@@ -98,9 +103,10 @@ pub record HasReadings (c : ConfigView) (z text : List ℕ) : Type 0 where
   pub lines : (i k : ℕ) (reading : Reading) → i < fields_of c z → k < 3 → RowReads c z i (15 + k) reading
       → HasReading text i k reading
   -- a number other than 0 among the words is the word of that line, in pass 1 or 2
-  pub words : (i k word : ℕ) → word_of k (field_in text i) ≡ Some word → 0 < word → ReadsWord c z text i k word
+  pub words : (line : LinePlace) (word : ℕ) → word_of line.k (field_in text line.i) ≡ Some word → 0 < word
+      → ReadsWord c z text line word
 
--- The same in short: a number among the words stands at one of these lines.
+-- What `HasReadings` says, in short: a number among the words stands at one of the lines.
 pub record FollowsLines (c : ConfigView) (z text : List ℕ) : Type 0 where
   pub fields : HasFields c z text
   pub each : (i k : ℕ) → i < fields_of c z → k < 3
@@ -137,21 +143,21 @@ pub record HasShown (c : ConfigView) (text : List ℕ) (i k : ℕ) (shown readin
   pub line : HasLine text i k shown (cause_line shown reading)
   pub nearest : HasNearest c (nearest_of k (field_in text i)) shown near
 
--- those of the three lines of field i
+-- the text has what the three lines of field i show
 pub record HasField (c : ConfigView) (text : List ℕ) (i : ℕ) (field : FieldRecovered) : Type 0 where
   pub first : HasShown c text i 0 (as_readings field.shown).first field.readings.first field.first
   pub second : HasShown c text i 1 (as_readings field.shown).second field.readings.second field.second
   pub third : HasShown c text i 2 (as_readings field.shown).third field.readings.third field.third
 
--- line 16 + k of field i is there and shows this word, in the pass that is found
-pub record ShowsWord (c : ConfigView) (z text : List ℕ) (i k word : ℕ) : Type 0 where
-  pub field : i < fields_of c z
-  pub line : k < 3
+-- this line is there and shows this word, in the pass that is found
+pub record ShowsWord (c : ConfigView) (z text : List ℕ) (line : LinePlace) (word : ℕ) : Type 0 where
+  pub field : line.i < fields_of c z
+  pub place : line.k < 3
   pub pass : ℕ
-  pub found : pass_of k (field_in text i) ≡ Some pass
+  pub found : pass_of line.k (field_in text line.i) ≡ Some pass
   pub recovered : FieldRecovered
-  pub recovers : FieldRecovers c z i recovered
-  pub shows : slice_get recovered.shown k ≡ Some (record { outcome = Word word; pass = pass })
+  pub recovers : FieldRecovers c z line.i recovered
+  pub shows : slice_get recovered.shown line.k ≡ Some (record { outcome = Word word; pass = pass })
 
 -- What is found in the text is what the lines of the stream show, by the rule of recovery.
 pub record HasRecovered (c : ConfigView) (z text : List ℕ) : Type 0 where
@@ -162,7 +168,8 @@ pub record HasRecovered (c : ConfigView) (z text : List ℕ) : Type 0 where
   pub lines : (i : ℕ) (field : FieldRecovered) → i < fields_of c z → FieldRecovers c z i field
       → HasField c text i field
   -- a number other than 0 among the words is the word that this line shows
-  pub words : (i k word : ℕ) → word_of k (field_in text i) ≡ Some word → 0 < word → ShowsWord c z text i k word
+  pub words : (line : LinePlace) (word : ℕ) → word_of line.k (field_in text line.i) ≡ Some word → 0 < word
+      → ShowsWord c z text line word
 
 -- the text is read as the stream's document with recovered words, and has what its lines show
 pub record RecoversBack (c : ConfigView) (z text : List ℕ) : Type 0 where

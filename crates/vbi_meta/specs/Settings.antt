@@ -7,7 +7,7 @@ use Rattle.std.specs.Option.{option_or, option_map_or}
 pub use Rattle.serde_json.specs.Data.{Data, depth}
 use Rattle.serde_json.specs.Find.{get, as_bool, as_number, as_str, as_object, as_u64}
 use Rattle.vbi_field.specs.ConfigView.{System, ConfigView, most_fields, Ntsc, Pal, width_of, height_of, system_named}
-use Rattle.vbi_meta.specs.declared.choosing.Overrides.{Overrides}
+use Rattle.vbi_meta.specs.declared.overrides.Overrides.{Overrides}
 use Rattle.vbi_meta.specs.declared.fault.MetaFault.{MetaFault}
 use Rattle.vbi_meta.specs.declared.fault.MetaFault.TheVariants.{NoVideoParameters, NoSystem, UnknownSystem}
 use Rattle.vbi_meta.specs.declared.fault.MetaFault.TheVariants.{SystemsDisagree, NoBlack, BadBlack, NoWhite, BadWhite}
@@ -59,15 +59,15 @@ chosen_limit given = unwrap_or given most_fields
 
 -- ---- the tests of the refusals
 
--- it is there, and gives no value
+-- a member is there, and gives no value
 abbrev pub is_bad : {A B : Type 0} → (A → Option B) → Option A → Bool
 is_bad value member = option_map_or (λ a. is_none (value a)) member false
 
--- it is there, and isn't this whole number
+-- a member is there, and isn't this whole number
 abbrev pub is_other : ℕ → Option Data → Bool
 is_other n member = option_map_or (λ m. not (option_map_or (λ k. k == n) (whole m) false)) member false
 
--- both are there, and differ
+-- two names of systems are there, and differ
 abbrev pub disagree : Option System → Option System → Bool
 disagree (Some Ntsc) (Some Pal) = true
 disagree (Some Pal) (Some Ntsc) = true
@@ -142,7 +142,7 @@ refusals_of document given =
 abbrev pub IsRefused : Option Data → Overrides → MetaFault → Type 0
 IsRefused document given fault = first_refusal (refusals_of document given) ≡ Some fault
 
--- they are not refused, and this is what they settle
+-- a document, or none, and options are not refused, and this is what they settle
 pub record IsSettled (document : Option Data) (given : Overrides) (config : ConfigView) : Type 0 where
   pub unrefused : first_refusal (refusals_of document given) ≡ None
   pub system : (let member = member_of (option_and_then parameters_of document) in

@@ -9,6 +9,7 @@ ghost use Rattle.vbi_line.specs.Counted.{device_of};
 ghost use Rattle.vbi_line.specs.Intake.{counted_of};
 ghost use Rattle.vbi_line.specs.declared.intake.Intake.{Intake};
 ghost use Rattle.vbi_field.specs.declared.outlet.Outlet.{Outlet};
+ghost use Rattle.vbi_field.specs.Ran.{over};
 ghost use Rattle.vbi_field.specs.Extracts.{ExtractsAll, Runs};
 ghost use Rattle.vbi_field.specs.Outlet as outlets;
 ghost use Rattle.vbi_field.specs.Recovered.{recovered_record_of, recovered_without};
@@ -54,8 +55,9 @@ pub fn recovered_words()
     ensures { (c : ConfigView) (z : List ℕ) → IsOfRun c z → HasRecovered c z (whole_text recovered_document c z) }
 {}
 
-/// A record of that document by itself, as `vbi_field::recovered_record` answers it, is JSON in UTF-8, its value is the
-/// one that `specs/DocumentValue` names, and no object in it has a key twice, whichever columns are erased.
+/// A record of the document with recovered words by itself, as `vbi_field::recovered_record` answers it, is JSON in
+/// UTF-8, its value is the one that `specs/DocumentValue` names, and no object in it has a key twice, whichever columns
+/// are erased.
 pub fn record_reads()
     ensures { (system : System) (slicing : Slicing) (number : ℕ) (bytes : List ℕ) (marks : List Bool)
         → slicing.white < 2 ^ 16 → number < 2 ^ 64
@@ -63,7 +65,7 @@ pub fn record_reads()
         IsReadAs (recovered_record_of slicing number field) (recovered_field_value slicing number field) }
 {}
 
-/// Such a record is on one line: each of its bytes is printed ASCII.
+/// A record of the document with recovered words is on one line: each of its bytes is printed ASCII.
 pub fn record_is_line()
     ensures { (system : System) (slicing : Slicing) (number : ℕ) (bytes : List ℕ) (marks : List Bool)
         → slicing.white < 2 ^ 16 → number < 2 ^ 64
@@ -83,18 +85,18 @@ pub fn extracted_recovered()
 /// `settings` gives such configs.
 pub fn extracted_by_lines<R: io::Read, W: io::Write>()
     ensures { (c : ConfigView) (i0 i : Intake R) (o0 o : Outlet W) (summary : Summary) → IsConfig c
-        → Runs document R.remaining W.contents c i0 i o0 o (Ok summary)
+        → Runs document c (over R.remaining i0 i) (over W.contents o0 o) (Ok summary)
         → (z text : List ℕ) × IsAtEnd (R.remaining (device_of (counted_of i)))
         × Consumes (R.remaining (device_of (counted_of i0))) (R.remaining (device_of (counted_of i))) z
         × Appends (W.contents (device_of (outlets.counted_of o0))) (W.contents (device_of (outlets.counted_of o))) text
         × FollowsLines c z text }
 {}
 
-/// The same of `extract_recovered`: for each line in the bytes the text has the word and the pass that the rule of
-/// recovery says, or why it says none.
+/// If `extract_recovered` answered Ok, its reader and its writer gave and took as those of `extract` do, and for each
+/// line in the bytes the text has the word and the pass that the rule of recovery says, or why it says none.
 pub fn extracted_by_rule<R: io::Read, W: io::Write>()
     ensures { (c : ConfigView) (i0 i : Intake R) (o0 o : Outlet W) (summary : Summary) → IsConfig c
-        → Runs recovered_document R.remaining W.contents c i0 i o0 o (Ok summary)
+        → Runs recovered_document c (over R.remaining i0 i) (over W.contents o0 o) (Ok summary)
         → (z text : List ℕ) × IsAtEnd (R.remaining (device_of (counted_of i)))
         × Consumes (R.remaining (device_of (counted_of i0))) (R.remaining (device_of (counted_of i))) z
         × Appends (W.contents (device_of (outlets.counted_of o0))) (W.contents (device_of (outlets.counted_of o))) text

@@ -7,11 +7,11 @@
 //! its value, and `specs/ReadBack` what is found at each path.
 #![tactic(auto)]
 
-mod choosing;
 mod fault;
 pub mod laws;
-mod reading;
+mod metadata;
+mod overrides;
 
-pub use choosing::{Overrides, settings};
 pub use fault::MetaFault;
-pub use reading::{META_LIMIT, read_meta};
+pub use metadata::{META_LIMIT, read_meta};
+pub use overrides::{Overrides, settings};

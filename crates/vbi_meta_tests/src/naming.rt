@@ -61,7 +61,7 @@ fn is_unknown(alloc: Global, members: &str) -> Result<(), Fail> {
     refuses(alloc, members.as_str(), &NONE, UnknownSystem)
 }
 
-/// The same of a member before another one, and after it.
+/// Fails where a member before another one, or after it, doesn't make the system unknown.
 fn is_unknown_beside(alloc: Global, member: &str, other: &str) -> Result<(), Fail> {
     let members = format!(in alloc; "{member},{other}")?;
     is_unknown(alloc, members.as_str())?;

@@ -191,7 +191,7 @@ fn of_two_faults_the_first_in_order_is_the_refusal(rt: HostRuntime) -> Result<()
     refuses_each(rt.alloc(), "", &NONE, &REFUSED)
 }
 
-/// The same with overrides, each of which replaces its member whatever that holds.
+/// Members with overrides, and the refusal of the first fault: each override replaces its member whatever that holds.
 static OVERRIDDEN: [(&str, Overrides, MetaFault); 20] = [
     ("", NTSC, NoBlack),
     ("", NTSC_LEVELS, BadMaxFields),
@@ -238,7 +238,7 @@ static NTSC_SIZES: [(&str, MetaFault); 9] = [
     (r#""fieldWidth":910,"fieldHeight":263"#, BadMaxFields),
 ];
 
-/// The same where it is PAL.
+/// Sizes, and their refusal, where the system is PAL.
 static PAL_SIZES: [(&str, MetaFault); 9] = [
     (r#""fieldHeight":312,"fieldWidth":{}"#, WidthDiffers),
     (r#""fieldWidth":1136,"fieldHeight":314"#, WidthDiffers),
@@ -302,7 +302,7 @@ pub(crate) const FULL: &str =
     r#"{"videoParameters":{"system":"NTSC","fieldWidth":910,"fieldHeight":263,
     "black16bIre":16384,"white16bIre":51200,"sampleRate":14318181.5},"fields":[]}"#;
 
-/// The same of a PAL capture, with members that have to be replaced.
+/// The whole metadata of a PAL capture, with members that have to be replaced.
 const REPLACED: &str =
     r#"{"videoParameters":{"system":[],"isSourcePal":null,"fieldWidth":1135,"fieldHeight":313,
     "black16bIre":16384.0,"white16bIre":"x"},"fields":[]}"#;

@@ -1,20 +1,20 @@
 -- What is searched only if it is asked for says the same as what is always searched.
--- The functions of confirmed, paired and recovery stand on it.
+-- The functions of line_rule, pair_rule and recovery stand on it.
 use Rattle.std.proofs.Common.{◌≡◌, ℕ, Bool, true, false, List, refl, sym, ap, ◌∙◌, subst}
 use Rattle.std.specs.Prelude.{◌*◌, nat_le, Option, Some, None, is_some, IsTrue, if◌then◌else◌, ◌&&◌}
-use Rattle.vbi_words.specs.declared.system.System.{System}
-use Rattle.vbi_words.specs.Levels.{Slicing, samples_of}
-use Rattle.vbi_near.specs.declared.lines.Nears.{Nears}
+use Rattle.vbi_words.specs.Levels.{samples_of}
+use Rattle.vbi_near.specs.declared.near.Nears.{Nears}
 use Rattle.vbi_near.specs.declared.margins.Margins.{Margins}
 use Rattle.vbi_near.specs.declared.margins.MarginSet.{MarginSet}
-use Rattle.vbi_near.specs.declared.said.Stand.TheVariants.{Apart, Together}
+use Rattle.vbi_near.specs.declared.word_rule.PairNears.{PairNears}
+use Rattle.vbi_near.specs.declared.word_rule.Stand.TheVariants.{Apart, Together}
 use Rattle.vbi_near.specs.declared.recovery.Recovered.{Recovered}
-use Rattle.vbi_near.specs.Distances.{Samples, unit_of, known_but}
-use Rattle.vbi_near.specs.Said.{said_of, said_if, unless_beyond, said_in, stand_of, may_agree, first_said, is_said}
-use Rattle.vbi_near.specs.Levelled.{levelled, is_swing}
-use Rattle.vbi_near.specs.Candidates.{Candidates, Row, HasNear, HasNearIf, AreOf, has_swing, levelled_samples}
-use Rattle.vbi_near.specs.Candidates.{filled_samples, are_alike_by}
-use Rattle.vbi_near.specs.Silent.{HasNearUnlessSilent, HasNearIfUnlessSilent}
+use Rattle.vbi_near.specs.Distances.{unit_of, known_but}
+use Rattle.vbi_near.specs.WordRule.{said_of, said_if, unless_beyond, said_in, stand_of, may_agree, first_said, is_said}
+use Rattle.vbi_near.specs.LevelledLines.{levelled, is_swing}
+use Rattle.vbi_near.specs.Candidates.{Candidates, Row, Line, Lines, line_of, HasNear, HasNearIf, AreOf, has_swing}
+use Rattle.vbi_near.specs.Candidates.{filled_samples, levelled_samples, are_alike_by}
+use Rattle.vbi_near.specs.Silence.{HasNearUnlessSilent, HasNearIfUnlessSilent}
 use Rattle.vbi_near.specs.Recovery.{said_by, stands_by, stands_of, alone}
 use Rattle.vbi_near.specs.Recovery.{IsSeen, IsOwn, own_of, is_open, are_open, recovered_as, shown_in}
 use Rattle.vbi_near.specs.Recovery.{Seen, Stands}
@@ -39,54 +39,42 @@ is_said-first word (Some w) b is = is
 
 -- ---- lines that may be silent
 
--- what they say
-pub heard-says : (system : System) (number : ℕ) (slicing : Slicing) (margins : Margins) (count : ℕ)
-    (lines : List Samples) (found : Option Nears) (near : Nears)
-    → HasNearUnlessSilent system number slicing margins count lines found → HasNear system number slicing lines near
-    → said_if (unit_of slicing) margins count found ≡ said_of (unit_of slicing) margins count near
-heard-says system number slicing margins count lines None near silent has = sym (silent near has)
-heard-says system number slicing margins count lines (Some found) near is has =
-    ap (said_of (unit_of slicing) margins count) (one_nears system number slicing lines found near is has)
+-- what lines say that may be silent
+pub heard-says : (margins : Margins) (count : ℕ) (lines : Lines) (found : Option Nears) (near : Nears)
+    → HasNearUnlessSilent margins count lines found → HasNear lines near
+    → said_if (unit_of lines.slicing) margins count found ≡ said_of (unit_of lines.slicing) margins count near
+heard-says margins count lines None near silent has = sym (silent near has)
+heard-says margins count lines (Some found) near is has =
+    ap (said_of (unit_of lines.slicing) margins count) (one_nears lines found near is has)
 
 -- lines that may have nearest words say nothing if they are silent, or if they may have none
-pub silent_if : (system : System) (number : ℕ) (slicing : Slicing) (margins : Margins) (count : ℕ) (can : Bool)
-    (lines : List Samples) → (can ≡ true → HasNearUnlessSilent system number slicing margins count lines None)
-    → HasNearIfUnlessSilent system number slicing margins count can lines None
-silent_if system number slicing margins count can lines silent None has = refl
-silent_if system number slicing margins count can lines silent (Some near) (can_be, has) = silent can_be near has
+pub silent_if : (margins : Margins) (count : ℕ) (can : Bool) (lines : Lines)
+    → (can ≡ true → HasNearUnlessSilent margins count lines None) → HasNearIfUnlessSilent margins count lines can None
+silent_if margins count can lines silent None has = refl
+silent_if margins count can lines silent (Some near) (can_be, has) = silent can_be near has
 
 -- nearest words that there may be, of lines that are the same if there may be such
-pub same_if : (system : System) (number : ℕ) (slicing : Slicing) (can other : Bool) (lines others : List Samples)
-    (near : Option Nears) → can ≡ other → (other ≡ true → lines ≡ others)
-    → HasNearIf system number slicing can lines near → HasNearIf system number slicing other others near
-same_if system number slicing can other lines others None e same none = sym e ∙ none
-same_if system number slicing can other lines others (Some near) e same (can_be, has) = (
+pub same_if : (can other : Bool) (lines others : Lines) (near : Option Nears) → can ≡ other
+    → (other ≡ true → lines ≡ others) → HasNearIf lines can near → HasNearIf others other near
+same_if can other lines others None e same none = sym e ∙ none
+same_if can other lines others (Some near) e same (can_be, has) = (
   sym e ∙ can_be,
-  subst (λ (l : List Samples). HasNear system number slicing l near) (same (sym e ∙ can_be)) has,
+  subst (λ (l : Lines). HasNear l near) (same (sym e ∙ can_be)) has,
 )
 
 -- lines that may have no nearest words have none
-pub none_if : (system : System) (number : ℕ) (slicing : Slicing) (can : Bool) (lines : List Samples)
-    (near : Option Nears) → can ≡ false → HasNearIf system number slicing can lines near → near ≡ None
-none_if system number slicing can lines None cannot has = refl
-none_if system number slicing can lines (Some near) cannot (can_be, has) = cc
+pub none_if : (lines : Lines) (can : Bool) (near : Option Nears) → can ≡ false → HasNearIf lines can near → near ≡ None
+none_if lines can None cannot has = refl
+none_if lines can (Some near) cannot (can_be, has) = cc
 
 -- what lines say that have some, by what others say that are the same
-pub says_if : (system : System) (number : ℕ) (slicing : Slicing) (margins : Margins) (count : ℕ) (can : Bool)
-    (lines others : List Samples) (near : Option Nears) (said : Option ℕ) → can ≡ true → lines ≡ others
-    → ((n : Nears) → HasNear system number slicing others n → said ≡ said_of (unit_of slicing) margins count n)
-    → HasNearIf system number slicing can lines near → said ≡ said_if (unit_of slicing) margins count near
-says_if system number slicing margins count can lines others None said is same says none = cc
-says_if system number slicing margins count can lines others (Some near) said is same says (can_be, has) =
-    says near (subst (λ (l : List Samples). HasNear system number slicing l near) same has)
-
--- ---- lines by what is known of them
-
--- what holds of a line of a system holds of the same line of the same system
-pub same_line : (Holds : System → Row → Type 0) (system other : System) (row is : Row) → other ≡ system → is ≡ row
-    → Holds other is → Holds system row
-same_line Holds system other row is e f holds =
-    subst (λ (r : Row). Holds system r) f (subst (λ (s : System). Holds s is) e holds)
+pub says_if : (margins : Margins) (count : ℕ) (can : Bool) (lines others : Lines) (near : Option Nears)
+    (said : Option ℕ) → can ≡ true → lines ≡ others
+    → ((n : Nears) → HasNear others n → said ≡ said_of (unit_of lines.slicing) margins count n)
+    → HasNearIf lines can near → said ≡ said_if (unit_of lines.slicing) margins count near
+says_if margins count can lines others None said is same says none = cc
+says_if margins count can lines others (Some near) said is same says (can_be, has) =
+    says near (subst (λ (l : Lines). HasNear l near) same has)
 
 -- ---- levelled rows
 
@@ -96,17 +84,16 @@ both-hold true true is = (refl, refl)
 both-hold true false is = cc
 both-hold false b is = cc
 
--- bytes that have the samples of a row levelled if it swings as one with a word does
-pub levelled_as : (system of_system : System) (slicing : Slicing) (row of_row : Row) (bytes : List ℕ)
-    → of_system ≡ system → of_row ≡ row
-    → (has_swing of_system slicing of_row ≡ true
-    → samples_of bytes ≡ levelled of_system (filled_samples slicing of_row))
-    → has_swing system slicing row ≡ true
-    → levelled_samples system slicing row ≡ known_but row.erased (samples_of bytes)
-levelled_as system of_system slicing row of_row bytes is are found swings =
-    let same = found ((λ j. has_swing (is j) slicing (are j)) ∙ swings) in
-    ap (λ (samples : List ℕ). known_but row.erased samples)
-    (sym (same ∙ (λ j. levelled (is j) (filled_samples slicing (are j)))))
+-- bytes that have the samples of a line levelled if it swings as one with a word does
+pub levelled_as : (line is : Line) (bytes : List ℕ) → is ≡ line
+    → (has_swing is.system is.slicing is.row ≡ true
+    → samples_of bytes ≡ levelled is.system (filled_samples is.slicing is.row))
+    → has_swing line.system line.slicing line.row ≡ true
+    → levelled_samples line.system line.slicing line.row ≡ known_but line.row.erased (samples_of bytes)
+levelled_as line is bytes same found swings =
+    let of = found ((λ j. has_swing (same j).system (same j).slicing (same j).row) ∙ swings) in
+    ap (λ (samples : List ℕ). known_but line.row.erased samples)
+    (sym (of ∙ (λ j. levelled (same j).system (filled_samples (same j).slicing (same j).row))))
 
 -- two rows that may be levelled together swing so
 pub swing_each : (unit swing other : ℕ) → are_alike_by unit swing other ≡ true
@@ -118,13 +105,13 @@ swing_each unit swing other alike =
 -- ---- lines that stand to each other
 
 -- one of two lines says nothing if both together are silent, and it for itself
-pub pair-silent : (margins : MarginSet) (unit : ℕ) (second third both near : Option Nears)
-    → said_if unit margins.both 2 both ≡ None → said_if unit margins.apart 1 near ≡ None
-    → None ≡ said_in margins (stand_of margins unit second third both) unit near both
-pair-silent margins unit second third both near together apart =
-    by_stand (may_agree unit margins.lone.ends second third both)
+pub pair-silent : (margins : MarginSet) (unit : ℕ) (pair : PairNears) (near : Option Nears)
+    → said_if unit margins.both 2 pair.both ≡ None → said_if unit margins.apart 1 near ≡ None
+    → None ≡ said_in margins (stand_of margins unit pair) unit near pair.both
+pair-silent margins unit pair near together apart =
+    by_stand (may_agree unit margins.lone.ends pair.second pair.third pair.both)
   where
-    by_stand : (b : Bool) → None ≡ said_in margins (if b then Together else Apart) unit near both
+    by_stand : (b : Bool) → None ≡ said_in margins (if b then Together else Apart) unit near pair.both
     by_stand true = ap unless_beyond (sym together)
     by_stand false = ap unless_beyond (sym apart)
 
@@ -146,79 +133,79 @@ when-holds true x y is = refl
 when-holds false x y is = cc
 
 -- what a line is found to show by its own levels
-module _ (system : System) (number : ℕ) (slicing : Slicing) (row : Row) (own : Recovered)
-    (owns : IsOwn system number slicing row own) where
-  -- it is open if it is seen so
-  seen-open : (seen : Seen) → IsSeen system number slicing row seen → IsTrue (is_open own.outcome)
-      → IsTrue (is_open (own_of (unit_of slicing) seen).outcome)
+module _ (line : Line) (own : Recovered) (owns : IsOwn line own) where
+  -- the line is open if it is seen so
+  seen-open : (seen : Seen) → IsSeen line seen → IsTrue (is_open own.outcome)
+      → IsTrue (is_open (own_of (unit_of line.slicing) seen).outcome)
   seen-open seen is opened = subst (λ (o : Recovered). IsTrue (is_open o.outcome)) (owns seen is) opened
 
   -- an open line's nearest words are asked for
-  pub open-near : (seen : Seen) → IsSeen system number slicing row seen → IsTrue (is_open own.outcome)
-      → AreOf system number slicing row seen.near
+  pub open-near : (seen : Seen) → IsSeen line seen → IsTrue (is_open own.outcome)
+      → AreOf line seen.near
   open-near seen is opened =
-      is.near (open_asked system number slicing row seen (unit_of slicing) is (seen-open seen is opened))
+      is.near (open_asked line seen (unit_of line.slicing) is (seen-open seen is opened))
 
   -- an open line shows what it is found to say
   pub open-shows : (stands : Stands) (seen : Seen) (both : Candidates) (said : Option ℕ)
-      → IsSeen system number slicing row seen → IsTrue (is_open own.outcome)
-      → said ≡ said_by stands (unit_of slicing) seen.near both
-      → recovered_as own said ≡ shown_in stands (unit_of slicing) seen both
+      → IsSeen line seen → IsTrue (is_open own.outcome)
+      → said ≡ said_by stands (unit_of line.slicing) seen.near both
+      → recovered_as own said ≡ shown_in stands (unit_of line.slicing) seen both
   open-shows stands seen both said is opened says =
       let e = owns seen is in
-      let shown = own_of (unit_of slicing) seen in
+      let shown = own_of (unit_of line.slicing) seen in
       (λ j. recovered_as (e j) (says j))
       ∙ when-true (is_open shown.outcome)
-      (recovered_as shown (said_by stands (unit_of slicing) seen.near both)) shown (seen-open seen is opened)
+      (recovered_as shown (said_by stands (unit_of line.slicing) seen.near both)) shown (seen-open seen is opened)
 
 -- ---- lines 17 and 18
 
 -- two lines that are seen, as they are found by their own levels
-module _ (system : System) (slicing : Slicing) (row other : Row) (own beside : Recovered)
-    (owns : IsOwn system 17 slicing row own) (has : IsOwn system 18 slicing other beside) (second third : Seen)
-    (is : IsSeen system 17 slicing row second) (are : IsSeen system 18 slicing other third) where
+module _ (line : Line) (other : Row) (own beside : Recovered) (owns : IsOwn line own)
+    (has : IsOwn (line_of line.system 18 line.slicing other) beside) (second third : Seen) (is : IsSeen line second)
+    (are : IsSeen (line_of line.system 18 line.slicing other) third) where
   -- both are open as they are found so
-  both-same : (is_open own.outcome && is_open beside.outcome) ≡ are_open (unit_of slicing) second third
+  both-same : (is_open own.outcome && is_open beside.outcome) ≡ are_open (unit_of line.slicing) second third
   both-same = λ j. is_open (owns second is j).outcome && is_open (has third are j).outcome
 
   -- if both are open, they stand to each other by their nearest words
   stands-open : (both : Candidates) → (is_open own.outcome && is_open beside.outcome) ≡ true
-      → stands_by (unit_of slicing) second.near third.near both ≡ stands_of (unit_of slicing) second third both
+      → stands_by (unit_of line.slicing) second.near third.near both
+      ≡ stands_of (unit_of line.slicing) second third both
   stands-open both opened =
-      when-holds (are_open (unit_of slicing) second third)
-      (stands_by (unit_of slicing) second.near third.near both) alone (sym both-same ∙ opened)
+      when-holds (are_open (unit_of line.slicing) second third)
+      (stands_by (unit_of line.slicing) second.near third.near both) alone (sym both-same ∙ opened)
 
-  -- and else each is alone
+  -- if they aren't both open, each is alone
   pub stands-alone : (both : Candidates) → (is_open own.outcome && is_open beside.outcome) ≡ false
-      → alone ≡ stands_of (unit_of slicing) second third both
+      → alone ≡ stands_of (unit_of line.slicing) second third both
   stands-alone both closed =
-      when-false (are_open (unit_of slicing) second third)
-      (stands_by (unit_of slicing) second.near third.near both) alone (sym both-same ∙ closed)
+      when-false (are_open (unit_of line.slicing) second third)
+      (stands_by (unit_of line.slicing) second.near third.near both) alone (sym both-same ∙ closed)
 
   -- the nearest words of both together are asked for if both are open
   pub pair-open : (is_open own.outcome && is_open beside.outcome) ≡ true
-      → IsTrue (are_open (unit_of slicing) second third)
+      → IsTrue (are_open (unit_of line.slicing) second third)
   pair-open opened = sym both-same ∙ opened
 
-  -- so they show what they are found to say together
+  -- two open lines show what they are found to say together
   pub pair-shows : (both : Candidates) (said told : Option ℕ) → (is_open own.outcome && is_open beside.outcome) ≡ true
-      → ((near again : Candidates) → AreOf system 17 slicing row near → AreOf system 18 slicing other again
-      → (said ≡ said_by (stands_by (unit_of slicing) near again both) (unit_of slicing) near both)
-      × (told ≡ said_by (stands_by (unit_of slicing) near again both) (unit_of slicing) again both))
+      → ((near again : Candidates) → AreOf line near → AreOf (line_of line.system 18 line.slicing other) again
+      → (said ≡ said_by (stands_by (unit_of line.slicing) near again both) (unit_of line.slicing) near both)
+      × (told ≡ said_by (stands_by (unit_of line.slicing) near again both) (unit_of line.slicing) again both))
       → (recovered_as own said
-      ≡ shown_in (stands_of (unit_of slicing) second third both) (unit_of slicing) second both)
+      ≡ shown_in (stands_of (unit_of line.slicing) second third both) (unit_of line.slicing) second both)
       × (recovered_as beside told
-      ≡ shown_in (stands_of (unit_of slicing) second third both) (unit_of slicing) third both)
+      ≡ shown_in (stands_of (unit_of line.slicing) second third both) (unit_of line.slicing) third both)
   pair-shows both said told opened says =
-      let unit = unit_of slicing in
+      let unit = unit_of line.slicing in
       let stands = stands_of unit second third both in
       let opens = both-hold (is_open own.outcome) (is_open beside.outcome) opened in
-      let near = open-near system 17 slicing row own owns second is opens.0 in
-      let again = open-near system 18 slicing other beside has third are opens.1 in
+      let near = open-near line own owns second is opens.0 in
+      let again = open-near (line_of line.system 18 line.slicing other) beside has third are opens.1 in
       let found = says second.near third.near near again in
       let so = stands-open both opened in (
-        open-shows system 17 slicing row own owns stands second both said is opens.0
+        open-shows line own owns stands second both said is opens.0
             (found.0 ∙ ap (λ (s : Stands). said_by s unit second.near both) so),
-        open-shows system 18 slicing other beside has stands third both told are opens.1
+        open-shows (line_of line.system 18 line.slicing other) beside has stands third both told are opens.1
             (found.1 ∙ ap (λ (s : Stands). said_by s unit third.near both) so),
       )

@@ -9,13 +9,14 @@ use Rattle.vbi_words.specs.declared.system.System.{System}
 use Rattle.vbi_words.specs.Geometry.{width_of, start_of}
 use Rattle.vbi_words.specs.Words.{cell_of, halves_of}
 use Rattle.vbi_words.specs.Drawn.{boundary}
-use Rattle.vbi_near.specs.declared.found.Found.{Found}
+use Rattle.vbi_near.specs.declared.word_search.Found.{Found}
 use Rattle.vbi_near.specs.Pictures.{column_of, word_length, drawn_halves, starts}
 use Rattle.vbi_near.specs.Distances.{Shades, distance_from}
 use Rattle.vbi_near.specs.Sums.{AreRowSums, total_in, span, AreBoth, IsRising}
 use Rattle.vbi_near.specs.Costs.{cell_cost, place_cost}
-use Rattle.vbi_near.specs.Longer.{cell_length, begun_earlier, ended_later, GoesOn, IsLeastRow, IsBeside, IsWithCell}
-use Rattle.vbi_near.specs.Longer.{IsLongerFound}
+use Rattle.vbi_near.specs.LongerSignal.{cell_length, begun_earlier, ended_later, GoesOn, IsLeastRow, IsBeside}
+use Rattle.vbi_near.specs.LongerSignal.{IsWithCell}
+use Rattle.vbi_near.specs.LongerSignal.{IsLongerFound}
 use Rattle.vbi_near.proofs.Columns.{column-first, column-drawn, word-drawn, word-fits}
 use Rattle.vbi_near.proofs.Costs.{distance-append, distance-run, cell-at, word-at, cell-read}
 use Rattle.vbi_near.proofs.BestBits.{min_is}
@@ -89,7 +90,7 @@ module _ (sums : Shades) (system : System) (distance begin value : ℕ)
   cell-one : (bit : Bool) × IsWithCell sums system distance begin bit value
   cell-one = grind (arith, min_is)
 
--- the same, of a column that is equal
+-- what a distance becomes with a cell in a column, in an equal column
 moved : (sums : Shades) (system : System) (distance begin other far : ℕ) (bit : Bool) → other ≡ begin
     → IsWithCell sums system distance other bit far → IsWithCell sums system distance begin bit far
 moved sums system distance begin other far bit e is = grind arith

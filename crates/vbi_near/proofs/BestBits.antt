@@ -121,7 +121,7 @@ module _ (cost : ℕ → Bool → ℕ) (n : ℕ) (best : Bits) (is : IsBest cost
     other = inr (another is.other);
   }
 
-  -- the same, by its fields
+  -- the best bits of one cell more, by their fields
   pub with_cell_by : (word margin : ℕ) → word ≡ 2 * best.word + bit_of bit → margin ≡ min best.margin (more - less)
       → IsBest cost (suc n) (record { word = word; distance = best.distance + less; margin = margin })
   with_cell_by word margin e m = grind (arith, bit_of, with_cell_is)

@@ -6,7 +6,7 @@ use Rattle.vbi_near.specs.declared.codes.Choice.{Choice}
 use Rattle.vbi_near.specs.Leads.{digits_cost, AreDigits, IsChoice, AreBest}
 use Rattle.vbi_near.proofs.BestBits.{min_is}
 
--- the same choice if the values of the digit cost the same
+-- the choice stays if the values of the digit cost the same
 pub choice-same : (f g : ℕ → ℕ) (low high : ℕ) (choice : Choice) → ((v : ℕ) → v < high → f v ≡ g v)
     → IsChoice f low high choice → IsChoice g low high choice
 choice-same f g low high choice same is = grind arith

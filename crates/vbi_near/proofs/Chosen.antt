@@ -8,7 +8,7 @@ use Rattle.vbi_words.specs.declared.system.System.{System}
 use Rattle.vbi_words.specs.Geometry.{width_of}
 use Rattle.vbi_words.specs.Levels.{Slicing}
 use Rattle.vbi_words.specs.Words.{IsWord}
-use Rattle.vbi_near.specs.declared.found.Found.{Found}
+use Rattle.vbi_near.specs.declared.word_search.Found.{Found}
 use Rattle.vbi_near.specs.declared.near.Near.{Near}
 use Rattle.vbi_near.specs.declared.sums.Sums.{Sums}
 use Rattle.vbi_near.specs.Pictures.{IsPlace, picture_of, starts, word_length, drawn_as}
@@ -17,8 +17,8 @@ use Rattle.vbi_near.specs.Sums.{span}
 use Rattle.vbi_near.specs.Costs.{place_cost}
 use Rattle.vbi_near.specs.Best.{IsFound, IsChosen}
 use Rattle.vbi_near.specs.Nearest.{IsBefore, Precedes, far_from}
-use Rattle.vbi_near.specs.Longer.{IsLongerFound, HasLeastRow, GoesOn}
-use Rattle.vbi_near.specs.Shorter.{IsShorterFound, IsCutShort}
+use Rattle.vbi_near.specs.LongerSignal.{IsLongerFound, HasLeastRow, GoesOn}
+use Rattle.vbi_near.specs.ShorterSignal.{IsShorterFound, IsCutShort}
 use Rattle.vbi_near.specs.LineCodes.{Range, IsOneOf, codes_of, IsCodePlace}
 use Rattle.vbi_near.specs.Leads.{Places, all_codes, code_cost, IsLead, IsClose, IsCodeChosen}
 use Rattle.vbi_near.specs.Rows.{shades_of, word_cost_by, code_cost_by, IsRowOf, IsNearOf, IsNearWord, IsNearCode}
@@ -127,8 +127,7 @@ cost-at sums slicing lines costs row word s place =
   where
     priced : (word : Option ℕ) → IsPlace sums.system word s
         → distance_from costs 0 (picture_of sums.system word s) ≡ code_cost_by sums s (number word)
-    priced None e =
-        ap (λ (k : ℕ). distance_from costs 0 (picture_of sums.system None k)) e
+    priced None e = ap (λ (k : ℕ). distance_from costs 0 (picture_of sums.system None k)) e
         ∙ blank-cost costs (shades_of sums) sums.system row.both
     priced (Some w) (word, room) =
         word-cost costs (shades_of sums) sums.system row.both s room w
@@ -211,8 +210,7 @@ module _ (sums : Sums) (slicing : Slicing) (lines : List Samples) (costs : Shade
   pub near-of : (longer shorter : ℕ) (near : Near) → IsCodeChosen lead longer shorter near → Other
       → (lead.word ≡ 0) ⊎ (IsLongerFound (shades_of sums) sums.system lead longer
       × IsShorterFound (shades_of sums) sums.system lead shorter) → IsNearOf IsThere sums.system slicing lines near
-  near-of longer shorter near chosen (t, v, there, differs, cost) found =
-      let s = shown longer shorter near chosen in
+  near-of longer shorter near chosen (t, v, there, differs, cost) found = let s = shown longer shorter near chosen in
       let o = placed sums.system IsOne IsThere are t v there in
       let ends = beyond longer shorter near chosen found in
       record {
@@ -262,7 +260,7 @@ module _ (sums : Sums) (found : Found) (is : IsFound (word_cost_by sums) 0 (star
   cost-is : (s w : ℕ) → IsWord w → code_cost_by sums s w ≡ word_cost_by sums s w
   cost-is s w word = code-word (shades_of sums) sums.system s w word
 
-  -- it costs as much as none, or as a word
+  -- what may stand at a place costs as much as none, or as a word
   Costs : ℕ → ℕ → Type 0
   Costs s w = ((w ≡ 0) × (code_cost_by sums s w ≡ blank))
       ⊎ ((s < starts sums.system) × IsWord w × (code_cost_by sums s w ≡ word_cost_by sums s w))

@@ -52,7 +52,7 @@ barred : (system : System) (line : ℕ) (code of : Code) → code ≡ of → may
     → IsTrue (may_stand system line code) → ⊥
 barred system line code of e denied stands = true≢false (sym (may system line code of e stands) ∙ denied)
 
--- the same may stand on line 18 as on line 17
+-- what may stand on line 17 may stand on line 18
 same_18 : (system : System) (code : Code) → may_stand system 18 code ≡ may_stand system 17 code
 same_18 system LeadIn = refl
 same_18 system LeadOut = refl
@@ -251,7 +251,7 @@ of_16 Pal w is (inr (inr (inr (inr (inr (inr none)))))) = absurd none
 -- ---- none of a line's codes is a picture number of 80,000 or more
 
 module _ (w : ℕ) (beyond : IsBetween 0xF80000 0xFF9999 w) where
-  -- those that begin with 8
+  -- the words that begin with 8
   not_8 : (least greatest : ℕ) → IsIn (range least greatest) w → digit_of greatest 1 < 15 → ⊥
   not_8 least greatest (word, x) less = apart w least greatest 0xF80000 0xFF9999 1 (lit≤ tt) (lit≤ tt) x beyond less
 
@@ -282,7 +282,7 @@ module _ (w : ℕ) (beyond : IsBetween 0xF80000 0xFF9999 w) where
   not_16 Pal (inr (inr (inr (inr (inr (inl x)))))) = not_8 _ _ x (lit< tt)
   not_16 Pal (inr (inr (inr (inr (inr (inr none)))))) = none
 
--- so a code of line 17 is none, and a code of line 16
+-- a code of line 17 is no picture number of 80,000 or more, nor is a code of line 16
 within_17 : (w : ℕ) → IsOneOf codes_of_17 w → is_beyond_79999 w ≡ false
 within_17 w one = false_from_ne_true (is_beyond_79999 w) (λ is. not_17 w (beyond-digits w is) one)
 

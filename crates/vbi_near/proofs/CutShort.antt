@@ -6,21 +6,22 @@ use Rattle.std.proofs.Math.ListN.{replicate}
 use Rattle.vbi_words.specs.declared.system.System.{System}
 use Rattle.vbi_words.specs.Geometry.{width_of}
 use Rattle.vbi_words.specs.Words.{lowest_bits, halves_of}
-use Rattle.vbi_near.specs.declared.found.Found.{Found}
+use Rattle.vbi_near.specs.declared.word_search.Found.{Found}
 use Rattle.vbi_near.specs.Pictures.{column_of, half_length, word_length}
 use Rattle.vbi_near.specs.Distances.{Shades, distance_from}
 use Rattle.vbi_near.specs.Sums.{AreBoth}
 use Rattle.vbi_near.specs.Costs.{half_cost, cell_cost, bits_cost, place_cost}
-use Rattle.vbi_near.specs.Shorter.{begun_later, ended_earlier, row_of_halves, IsCutShort, bit_in_cell, IsShorterFound}
-use Rattle.vbi_near.specs.Longer.{IsLeastRow}
-use Rattle.vbi_near.specs.Stretched.{halves_cost}
+use Rattle.vbi_near.specs.ShorterSignal.{begun_later, ended_earlier, row_of_halves, IsCutShort, bit_in_cell}
+use Rattle.vbi_near.specs.ShorterSignal.{IsShorterFound}
+use Rattle.vbi_near.specs.LongerSignal.{IsLeastRow}
+use Rattle.vbi_near.specs.StretchedCells.{halves_cost}
 use Rattle.vbi_near.proofs.BestBits.{min_is}
 use Rattle.vbi_near.proofs.Columns.{column-first, column-next}
 use Rattle.vbi_near.proofs.Costs.{row-cost, word-row, drawn-with, row-long}
 
 -- ---- half cells
 
--- as many as the word has
+-- the half cells of a word that is cut short are as many as the word has
 cut-long : (w : ℕ) → (length (begun_later w 2) ≡ 48) × (length (begun_later w 4) ≡ 48)
     × (length (ended_earlier w 2) ≡ 48) × (length (ended_earlier w 4) ≡ 48)
 unfolding lowest_bits

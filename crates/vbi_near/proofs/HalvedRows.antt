@@ -13,10 +13,10 @@ use Rattle.vbi_words.specs.Words.{lowest_bits, halves_of}
 use Rattle.vbi_near.specs.declared.near.Near.{Near}
 use Rattle.vbi_near.specs.Pictures.{IsPlace, word_length, drawn_as}
 use Rattle.vbi_near.specs.Sums.{AreBoth}
-use Rattle.vbi_near.specs.Stretched.{halves_cost}
+use Rattle.vbi_near.specs.StretchedCells.{halves_cost}
 use Rattle.vbi_near.specs.Distances.{Samples, most_of, distance_of, Shades, IsPile}
-use Rattle.vbi_near.specs.Shorter.{row_of_halves}
-use Rattle.vbi_near.specs.Halved.{half_of, halved_far, row_cost, halved_cost}
+use Rattle.vbi_near.specs.ShorterSignal.{row_of_halves}
+use Rattle.vbi_near.specs.HalvedSignal.{half_of, halved_far, row_cost, halved_cost}
 use Rattle.vbi_near.proofs.Costs.{row-cost}
 use Rattle.vbi_near.proofs.Piles.{levels-same}
 use Rattle.vbi_near.proofs.CutShort.{row-wide}

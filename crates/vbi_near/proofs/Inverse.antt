@@ -37,7 +37,7 @@ nearly k s x some positive few =
       subst (λ (j : ℕ). x < (q + 2) * j) e (above k (s - 1) m x q more (omega (arith, over)) few),
     )
 
--- so of a dividend with this inverse of its divisor
+-- the product of a dividend with this inverse of its divisor is the quotient, or too small by one
 pub near_quotient : (s x inverse : ℕ) → 0 < s → x ≤ 2 ^ 48 → inverse ≡ 2 ^ 48 / s
     → (x * inverse / 2 ^ 48 * s ≤ x) × (x < (x * inverse / 2 ^ 48 + 1 + 1) * s)
 near_quotient s x inverse positive few is =
@@ -48,7 +48,7 @@ near_quotient s x inverse positive few is =
       subst (λ (n : ℕ). x < n * s) two both.1,
     )
 
--- so one of the two
+-- a number whose product with the divisor is just within the dividend is the quotient
 pub quotient_low : (q s x : ℕ) → q * s ≤ x → x < (q + 1) * s → x / s ≡ q
 quotient_low q s x low high = div-eq_of_lt-le s low high
 
@@ -63,11 +63,11 @@ product_fits k s x most few =
     let b : most * (k / s * s) ≤ most * k = mul-le-mul_left most (div-mul-le_self k s) in
     omega (arith, a, b)
 
--- some whole divisors more
+-- the quotient of some whole divisors and some more
 pub quotient-above : (m x s : ℕ) → 0 < s → (m * s + x) / s ≡ m + x / s
 quotient-above m x s some = ap (λ (n : ℕ). n / s) (omega arith) ∙ add-mul-div_right x m some ∙ omega arith
 
--- or fewer
+-- the quotient of some whole divisors less some
 pub quotient-below : (m y s : ℕ) → 0 < s → 0 < y → (m * s - y) / s ≡ m - (y + (s - 1)) / s
 quotient-below m y s some positive = go (cases_lt m c)
   where

@@ -19,7 +19,7 @@ sure-own Unfinished pass plain confirms one = absurd one
 sure-own (Change c) pass plain confirms one = absurd one
 sure-own (Hold c) pass plain confirms one = absurd one
 
--- it isn't open
+-- a line with a word of pass 1, or a blank one, isn't open
 sure-closed : (o : Outcome) (pass : ℕ) → IsSureBy o pass → is_open o ≡ false
 sure-closed (Word w) pass one = refl
 sure-closed Blank pass one = refl

@@ -46,7 +46,7 @@ module _ (f : ℕ → ℕ) (P : ℕ → Type 0) (tells : (k : ℕ) → P k ⊎ (
 
 -- ---- what can be told
 
--- it can be told whether this holds
+-- whether a fact holds can be told
 abbrev pub IsTold : Type 0 → Type 0
 IsTold P = P ⊎ (P → ⊥)
 

@@ -8,8 +8,9 @@ use Rattle.vbi_words.specs.Levels.{Slicing}
 use Rattle.vbi_words.specs.Words.{halves_of}
 use Rattle.vbi_near.specs.Pictures.{drawn_as}
 use Rattle.vbi_near.specs.Distances.{Samples, most_of, distance_of, Shades, distance_from, IsPile}
-use Rattle.vbi_near.specs.Stretched.{stretched_offset, stretched_half, stretched_length, stretched_picture}
-use Rattle.vbi_near.specs.Stretched.{stretched_row_cost, IsLeastAt, IsStretched, IsAtRate, IsStartBefore, IsRateBefore}
+use Rattle.vbi_near.specs.StretchedCells.{stretched_offset, stretched_half, stretched_length, stretched_picture}
+use Rattle.vbi_near.specs.StretchedCells.{stretched_row_cost, IsLeastAt, IsStretched, IsAtRate, IsStartBefore}
+use Rattle.vbi_near.specs.StretchedCells.{IsRateBefore}
 use Rattle.vbi_near.specs.Sums.{AreBoth}
 use Rattle.vbi_near.proofs.BestBits.{min_is}
 use Rattle.vbi_near.proofs.Costs.{many-halves, row-far, row-long}

@@ -1,5 +1,5 @@
 -- Levelled lines: sums of samples, and lines that are written sample by sample.
--- The functions of levelled stand on it, and LevelledShift.
+-- The functions of levelled_lines stand on it, and LevelledShift.
 use Rattle.std.proofs.Common.{◌≡◌, ℕ, suc, zero, ◌≤◌, ◌<◌, ◌+◌, ◌-◌, ◌*◌, ◌/◌, List, [], ◌∷◌, Bool, true, false, cond}
 use Rattle.std.proofs.Common.{length, ◌⊎◌, inl, inr, get_or, set, take, drop, map, arith, ap, sym, ◌∙◌, refl}
 use Rattle.std.proofs.Common.{get_or-set_same, get_or-set_other}
@@ -14,9 +14,10 @@ use Rattle.vbi_words.specs.Geometry.{width_of}
 use Rattle.vbi_words.specs.Levels.{Slicing, samples_of}
 use Rattle.vbi_line.proofs.Slicing.{sample_of, length-samples_of}
 use Rattle.vbi_line.specs.Line.{sample_at}
-use Rattle.vbi_near.specs.Levelled.{window_of, first_of, end_of, window_start, window_sum, sum_from, off_mean, off_in}
-use Rattle.vbi_near.specs.Levelled.{middle_of, levelled_unit, levelled_sample, filled, AreSampleSums}
-use Rattle.vbi_near.specs.Levelled.{smoothed_sample, smoothed_after, smoothed}
+use Rattle.vbi_near.specs.LevelledLines.{window_of, first_of, end_of, window_start, window_sum, sum_from, off_mean}
+use Rattle.vbi_near.specs.LevelledLines.{off_in}
+use Rattle.vbi_near.specs.LevelledLines.{middle_of, levelled_unit, levelled_sample, filled, AreSampleSums}
+use Rattle.vbi_near.specs.LevelledLines.{smoothed_sample, smoothed_after, smoothed}
 use Rattle.vbi_near.proofs.Inverse.{quotient-above, quotient-below}
 
 -- ---- sums of samples
@@ -228,7 +229,7 @@ are_more f samples i v inside is before k less = grind (arith, get_or, get_or-se
 -- ---- smoothed samples
 
 -- a sample of a row smoothed, by the samples in its column and the two beside it; before the first there is the first,
--- and after the last the last
+-- what comes after the last is as the last
 abbrev pub smoothed_at : List ℕ → ℕ → ℕ
 smoothed_at samples k =
     smoothed_sample (get_or samples (k - 1) 0) (get_or samples k 0)
@@ -258,7 +259,7 @@ smoothed_after-read before (own ∷ after ∷ samples) (suc k) less =
     ∙ ap (λ (i : ℕ). smoothed_sample (get_or (own ∷ after ∷ samples) k 0) (get_or (after ∷ samples) k 0)
     (get_or (own ∷ after ∷ samples) i 0)) next
 
--- as many samples as there were
+-- smoothed there are as many samples as there were
 pub length-smoothed : (samples : List ℕ) → length (smoothed samples) ≡ length samples
 unfolding smoothed
 length-smoothed [] = refl

@@ -6,13 +6,13 @@ use Rattle.std.proofs.Math.Nat.{min-le_left, min-le_right}
 use Rattle.std.proofs.lemmas.Bool.{cases_lt}
 use Rattle.vbi_words.specs.declared.system.System.{System}
 use Rattle.vbi_words.specs.Words.{IsWord}
-use Rattle.vbi_near.specs.declared.found.Found.{Found}
+use Rattle.vbi_near.specs.declared.word_search.Found.{Found}
 use Rattle.vbi_near.specs.Nearest.{IsBefore}
 use Rattle.vbi_near.specs.Leads.{Places, IsLead, IsAhead, Look, look, at_start, IsSeen, with_ranges, looks_before}
 use Rattle.vbi_near.specs.Leads.{all_codes}
 use Rattle.vbi_near.specs.Pictures.{starts}
 use Rattle.vbi_near.specs.LineCodes.{Range, range, IsOneOf}
-use Rattle.vbi_near.specs.Priced.{ranges_of}
+use Rattle.vbi_near.specs.Prices.{ranges_of}
 use Rattle.vbi_near.proofs.BestBits.{min_is}
 
 -- ---- the nearer of two leads
@@ -81,7 +81,7 @@ module _ (cost : ℕ → ℕ → ℕ) (seen more : Places) (near far : Found) (i
   unfolding AreOther
   merged_is = grind (arith, order, min_is, another, far-order, l, ahead, r, earliest)
 
--- the same of places that are looked at in any order
+-- what leads of some places leads of the same places, named another way
 pub lead-same : (cost : ℕ → ℕ → ℕ) (seen more : Places) (lead : Found) → ((s w : ℕ) → seen s w → more s w)
     → ((s w : ℕ) → more s w → seen s w) → IsLead cost seen lead → IsLead cost more lead
 lead-same cost seen more lead to from is = grind (arith, order)
@@ -98,7 +98,7 @@ pub turned : (cost : ℕ → ℕ → ℕ) (seen more : Places) (lead : Found) �
     → IsLead cost (either more seen) lead
 turned cost seen more lead is = grind (arith, lead-same)
 
--- the same lead, by its fields
+-- a lead by its fields
 pub lead-by : (cost : ℕ → ℕ → ℕ) (seen : Places) (word start distance rival : ℕ) (lead : Found)
     → IsLead cost seen (record { word = word; start = start; distance = distance; rival = rival })
     → lead.word ≡ word → lead.start ≡ start → lead.distance ≡ distance → lead.rival ≡ rival → IsLead cost seen lead

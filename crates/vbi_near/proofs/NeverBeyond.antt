@@ -14,21 +14,21 @@ use Rattle.vbi_words.specs.Outcomes.{word_of}
 use Rattle.vbi_words.specs.Levels.{Slicing, row_levels}
 use Rattle.vbi_words.specs.Readings.{Reads}
 use Rattle.vbi_line.proofs.OneReading.{is_reading}
-use Rattle.vbi_near.specs.declared.lines.Nears.{Nears}
+use Rattle.vbi_near.specs.declared.near.Nears.{Nears}
 use Rattle.vbi_near.specs.declared.recovery.Recovered.{Recovered}
 use Rattle.vbi_near.specs.declared.margins.Margins.{Margins}
 use Rattle.vbi_near.specs.declared.margins.MarginSet.{MarginSet}
-use Rattle.vbi_near.specs.declared.said.Stand.{Stand}
-use Rattle.vbi_near.specs.declared.said.Stand.TheVariants.{Alone, Apart, Together}
+use Rattle.vbi_near.specs.declared.word_rule.Stand.{Stand}
+use Rattle.vbi_near.specs.declared.word_rule.Stand.TheVariants.{Alone, Apart, Together}
 use Rattle.vbi_near.specs.LineCodes.{is_beyond_79999}
 use Rattle.vbi_near.specs.Distances.{unit_of}
-use Rattle.vbi_near.specs.Levelled.{levelled_unit}
+use Rattle.vbi_near.specs.LevelledLines.{levelled_unit}
 use Rattle.vbi_near.specs.Margins.{levelled_margins}
-use Rattle.vbi_near.specs.Said.{said_if, unless_beyond, recovered_by, first_said, said_in}
+use Rattle.vbi_near.specs.WordRule.{said_if, unless_beyond, recovered_by, first_said, said_in}
 use Rattle.vbi_near.specs.Margins.{given_margins}
-use Rattle.vbi_near.specs.Candidates.{Candidates, Row}
+use Rattle.vbi_near.specs.Candidates.{Candidates, Line}
 use Rattle.vbi_near.specs.Recovery.{Seen, IsSeen, Stands, alone, own_of, is_open, is_confirmed, stands_of, said_by}
-use Rattle.vbi_near.specs.Recovery.{stays, recovered_as, shown_in, IsRecovered, row_at}
+use Rattle.vbi_near.specs.Recovery.{stays, recovered_as, shown_in, IsRecovered}
 use Rattle.vbi_near.proofs.Digits.{digits-beyond}
 
 -- ---- what is said
@@ -47,12 +47,12 @@ unless-within : (said : Option ℕ) → IsWithin (unless_beyond said)
 unless-within None word e = cc
 unless-within (Some w) word e = left-within (is_beyond_79999 w) w word refl e
 
--- nor what is recovered
+-- what is recovered is none of them
 recovered-within : (unit : ℕ) (margins : Margins) (lines : ℕ) (near : Option Nears)
     → IsWithin (recovered_by unit margins lines near)
 recovered-within unit margins lines near = unless-within (said_if unit margins lines near)
 
--- so is what one of two says
+-- what one of two says is none of them if both say none
 first-within : (a b : Option ℕ) → IsWithin a → IsWithin b → IsWithin (first_said a b)
 first-within None b is are = are
 first-within (Some w) b is are = is
@@ -82,19 +82,18 @@ read-few system levels Unfinished pass (e, is, none) = omega (arith, e)
 read-few system levels (Change c) pass (e, is, none) = omega (arith, e)
 read-few system levels (Hold c) pass (e, is, none) = omega (arith, e)
 
--- so is the one or the other of two that are
+-- the one or the other of two lines is of pass 2 at most if both are
 either-few : (b : Bool) (x y : Recovered) → x.pass ≤ 2 → y.pass ≤ 2 → (if b then x else y).pass ≤ 2
 either-few true x y few less = few
 either-few false x y few less = less
 
--- so is what a line shows by its own levels
-pub own-few : (system : System) (number : ℕ) (slicing : Slicing) (row : Row) (seen : Seen) (unit : ℕ)
-    → IsSeen system number slicing row seen → (own_of unit seen).pass ≤ 2
-own-few system number slicing row seen unit is =
-    let levels = row_levels slicing row.bytes in
+-- what a line shows by its own levels is of pass 2 at most
+pub own-few : (line : Line) (seen : Seen) (unit : ℕ) → IsSeen line seen → (own_of unit seen).pass ≤ 2
+own-few line seen unit is =
+    let levels = row_levels line.slicing line.row.bytes in
     let few : seen.reading.pass ≤ 2 =
     subst (λ (r : Reading). r.pass ≤ 2) (sym is.reading)
-    (read-few system levels _ _ (is_reading system levels)) in
+    (read-few line.system levels _ _ (is_reading line.system levels)) in
     either-few (stays seen.reading.outcome seen.reading.pass (is_confirmed unit seen.near seen.stretched))
     (record { outcome = seen.reading.outcome; pass = seen.reading.pass })
     (record { outcome = seen.plain; pass = 0 }) few (omega arith)
@@ -104,11 +103,11 @@ abbrev ShowsWithin : Recovered → Type 0
 ShowsWithin line =
     (word : ℕ) → line ≡ record { outcome = Word word; pass = 3 } → IsBetween 0xF80000 0xFF9999 word → ⊥
 
--- not one that shows what its own levels show
+-- a line of pass 2 at most shows none of them in pass 3
 few-within : (line : Recovered) → line.pass ≤ 2 → ShowsWithin line
 few-within line few word e x = let three = ap (λ (r : Recovered). r.pass) e in omega (arith, few, three)
 
--- nor one that shows what is said
+-- a line that shows what is said shows none of them in pass 3
 said-within : (own : Recovered) (said : Option ℕ) → own.pass ≤ 2 → IsWithin said → ShowsWithin (recovered_as own said)
 said-within own None few within word e x = few-within own few word e x
 said-within own (Some w) few within word e x =
@@ -120,11 +119,11 @@ shown-within true own said few within = said-within own said few within
 shown-within false own said few within = few-within own few
 
 -- what a line shows, however it stands to another
-line-within : (system : System) (number : ℕ) (slicing : Slicing) (row : Row) (stands : Stands) (unit : ℕ) (seen : Seen)
-    (both : Candidates) → IsSeen system number slicing row seen → ShowsWithin (shown_in stands unit seen both)
-line-within system number slicing row stands unit seen both is =
+line-within : (line : Line) (stands : Stands) (unit : ℕ) (seen : Seen) (both : Candidates) → IsSeen line seen
+    → ShowsWithin (shown_in stands unit seen both)
+line-within line stands unit seen both is =
     shown-within (is_open (own_of unit seen).outcome) (own_of unit seen) (said_by stands unit seen.near both)
-    (own-few system number slicing row seen unit is) (by-within stands unit seen.near both)
+    (own-few line seen unit is) (by-within stands unit seen.near both)
 
 -- ---- a field
 
@@ -144,13 +143,12 @@ field-within system slicing rows erased recovered (first, second, third, both, s
     subst (All ShowsWithin) (sym e)
     (all-three ShowsWithin (shown_in alone unit first both) (shown_in stands unit second both)
     (shown_in stands unit third both)
-    (line-within system 16 slicing (row_at system rows erased 0) alone unit first both seen.line_16)
-    (line-within system 17 slicing (row_at system rows erased 1) stands unit second both seen.line_17)
-    (line-within system 18 slicing (row_at system rows erased 2) stands unit third both seen.line_18))
+    (line-within _ alone unit first both seen.line_16) (line-within _ stands unit second both seen.line_17)
+    (line-within _ stands unit third both seen.line_18))
 
 -- ---- lines of one word
 
--- nor do lines say one that are asked levelled, then as they are
+-- lines that are asked levelled, then as they are, say none of them
 pub two-within : (unit of : ℕ) (margins : Margins) (lines : ℕ) (levelled given : Option Nears) (word : ℕ)
     → Some word ≡ first_said (recovered_by unit margins lines levelled) (recovered_by of margins lines given)
     → IsBetween 0xF80000 0xFF9999 word → ⊥

@@ -8,8 +8,8 @@ use Rattle.vbi_near.specs.declared.near.Near.{Near}
 use Rattle.vbi_near.specs.Pictures.{IsPlace}
 use Rattle.vbi_near.specs.Distances.{Samples}
 use Rattle.vbi_near.specs.Nearest.{IsNearest, IsNearestCode, IsFirst, IsFirstCode, Precedes}
-use Rattle.vbi_near.specs.Longer.{HasLeastRow, IsLonger}
-use Rattle.vbi_near.specs.Shorter.{IsShorter}
+use Rattle.vbi_near.specs.LongerSignal.{HasLeastRow, IsLonger}
+use Rattle.vbi_near.specs.ShorterSignal.{IsShorter}
 use Rattle.vbi_near.specs.Rows.{IsNearOf}
 use Rattle.vbi_near.proofs.Chosen.{code-place}
 

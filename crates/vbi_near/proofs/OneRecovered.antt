@@ -6,9 +6,9 @@ use Rattle.vbi_words.specs.declared.system.System.{System}
 use Rattle.vbi_words.specs.Levels.{Slicing}
 use Rattle.vbi_near.specs.declared.recovery.Recovered.{Recovered}
 use Rattle.vbi_near.specs.Distances.{unit_of}
-use Rattle.vbi_near.specs.Candidates.{Row, Candidates}
+use Rattle.vbi_near.specs.Candidates.{Line, Candidates}
 use Rattle.vbi_near.specs.Recovery.{Seen, IsSeen, IsRecovered, Stands, alone, is_open, own_of, are_open, stands_by}
-use Rattle.vbi_near.specs.Recovery.{said_by, recovered_as, recovered_of, row_at}
+use Rattle.vbi_near.specs.Recovery.{said_by, recovered_as, recovered_of, field_line}
 use Rattle.vbi_near.proofs.OneSeen.{one_of_both, one_own, one_open_near}
 
 -- ---- a line
@@ -39,11 +39,10 @@ pub record IsSame (unit : ℕ) (seen again : Seen) : Type 0 where
   pub near : IsTrue (is_open (own_of unit seen).outcome) → seen.near ≡ again.near
 
 -- a line that is seen twice is the same
-is_same : (system : System) (number : ℕ) (slicing : Slicing) (row : Row) (seen again : Seen) (unit : ℕ)
-    → IsSeen system number slicing row seen → IsSeen system number slicing row again → IsSame unit seen again
-is_same system number slicing row seen again unit is are = record {
-  own = one_own system number slicing row seen again unit is are;
-  near = one_open_near system number slicing row seen again unit is are;
+is_same : (line : Line) (seen again : Seen) (unit : ℕ) → IsSeen line seen → IsSeen line again → IsSame unit seen again
+is_same line seen again unit is are = record {
+  own = one_own line seen again unit is are;
+  near = one_open_near line seen again unit is are;
 }
 
 -- ---- a field
@@ -119,12 +118,12 @@ pub one_recovered : (system : System) (slicing : Slicing) (rows : List ℕ) (era
 one_recovered system slicing rows erased recovered other (first, second, third, both, seen, e)
     (first', second', third', both', again, f) =
     let unit = unit_of slicing in
-    let row : ℕ → Row = row_at system rows erased in
-    let one = is_same system 16 slicing (row 0) first first' unit seen.line_16 again.line_16 in
-    let two = is_same system 17 slicing (row 1) second second' unit seen.line_17 again.line_17 in
-    let three = is_same system 18 slicing (row 2) third third' unit seen.line_18 again.line_18 in
+    let line : ℕ → Line = field_line system slicing rows erased in
+    let one = is_same (line 0) first first' unit seen.line_16 again.line_16 in
+    let two = is_same (line 1) second second' unit seen.line_17 again.line_17 in
+    let three = is_same (line 2) third third' unit seen.line_18 again.line_18 in
     let opens = open_same unit second third second' third' two three in
     let pair : IsTrue (are_open unit second third) → both ≡ both' = λ opened.
-    one_of_both system 17 slicing (row 1) (row 2) both both' (seen.pair opened)
+    one_of_both (line 1) (line 2).row both both' (seen.pair opened)
     (again.pair (subst (λ (b : Bool). IsTrue b) opens opened)) in
     e ∙ all_same unit first second third first' second' third' both both' one two three pair ∙ sym f

@@ -10,39 +10,43 @@ use Rattle.vbi_words.specs.Levels.{Slicing}
 use Rattle.vbi_words.specs.Readings.{reading_from}
 use Rattle.vbi_line.specs.OneReading.{reading_of}
 use Rattle.vbi_line.proofs.OneReading.{by_outcomes}
-use Rattle.vbi_near.specs.declared.lines.Nears.{Nears}
+use Rattle.vbi_near.specs.declared.near.Nears.{Nears}
 use Rattle.vbi_near.specs.Distances.{Samples}
-use Rattle.vbi_near.specs.Stretched.{IsLeastAt, IsStretched}
-use Rattle.vbi_near.specs.Candidates.{HasNear, Row, Candidates, HasNearIf, AreOf, AreOfBoth, given_samples}
+use Rattle.vbi_near.specs.StretchedCells.{IsLeastAt, IsStretched}
+use Rattle.vbi_near.specs.Candidates.{HasNear, Row, Line, Lines, Candidates, HasNearIf, AreOf, AreOfBoth, given_samples}
+use Rattle.vbi_near.specs.Candidates.{given_line, levelled_line, given_pair, levelled_pair}
 use Rattle.vbi_near.specs.Recovery.{Seen, IsSeen, is_asked, is_open, is_confirmed, own_by, own_of}
 use Rattle.vbi_near.proofs.OneNear.{one_near, one_near_code}
 
 -- ---- nearest words
 
 -- lines have one nearest word, and one nearest of the codes that may stand on a line
-pub one_nears : (system : System) (number : ℕ) (slicing : Slicing) (lines : List Samples) (near other : Nears)
-    → HasNear system number slicing lines near → HasNear system number slicing lines other → near ≡ other
-one_nears system number slicing lines near other is are = grind (arith, one_near, one_near_code)
+pub one_nears : (lines : Lines) (near other : Nears) → HasNear lines near → HasNear lines other → near ≡ other
+one_nears lines near other is are = grind (arith, one_near, one_near_code)
 
 -- lines can't both have nearest words and have none
 not_both : (can : Bool) → can ≡ false → can ≡ true → ⊥
 not_both can cannot has = cc
 
 -- lines that may have none have the same nearest words, or none
-pub one_near_if : (system : System) (number : ℕ) (slicing : Slicing) (can : Bool) (lines : List Samples)
-    (near other : Option Nears) → HasNearIf system number slicing can lines near
-    → HasNearIf system number slicing can lines other → near ≡ other
-one_near_if system number slicing can lines near other is are = grind (arith, not_both, one_nears)
+pub one_near_if : (lines : Lines) (can : Bool) (near other : Option Nears) → HasNearIf lines can near
+    → HasNearIf lines can other → near ≡ other
+one_near_if lines can near other is are = grind (arith, not_both, one_nears)
 
 -- the candidates of a line are fixed
-pub one_candidates : (system : System) (number : ℕ) (slicing : Slicing) (row : Row) (near other : Candidates)
-    → AreOf system number slicing row near → AreOf system number slicing row other → near ≡ other
-one_candidates system number slicing row near other is are = grind (arith, one_near_if, one_nears)
+pub one_candidates : (line : Line) (near other : Candidates) → AreOf line near → AreOf line other → near ≡ other
+one_candidates line near other is are =
+    let levelled = one_near_if (levelled_line line) _ near.levelled other.levelled is.levelled are.levelled in
+    let given = one_nears (given_line line) near.given other.given is.given are.given in
+    λ j. record { levelled = levelled j; given = given j }
 
 -- the candidates of two lines together are fixed
-pub one_of_both : (system : System) (number : ℕ) (slicing : Slicing) (row other : Row) (near again : Candidates)
-    → AreOfBoth system number slicing row other near → AreOfBoth system number slicing row other again → near ≡ again
-one_of_both system number slicing row other near again is are = grind (arith, one_near_if, one_nears)
+pub one_of_both : (line : Line) (other : Row) (near again : Candidates) → AreOfBoth line other near
+    → AreOfBoth line other again → near ≡ again
+one_of_both line other near again is are =
+    let levelled = one_near_if (levelled_pair line other) _ near.levelled again.levelled is.levelled are.levelled in
+    let given = one_nears (given_pair line other) near.given again.given is.given are.given in
+    λ j. record { levelled = levelled j; given = given j }
 
 -- ---- words on longer or shorter cells
 
@@ -106,17 +110,16 @@ open_asked_by (Hold c) pass plain confirms none opened =
     subst (λ (k : ℕ). IsTrue (is_asked (Hold c) k)) (sym (none refl)) refl
 
 -- a line's reading is of no pass if it shows no word and isn't blank
-pub open_pass : (system : System) (number : ℕ) (slicing : Slicing) (row : Row) (seen : Seen)
-    → IsSeen system number slicing row seen → IsTrue (is_open seen.reading.outcome) → seen.reading.pass ≡ 0
-open_pass system number slicing row seen is = grind (arith, read_pass)
+pub open_pass : (line : Line) (seen : Seen) → IsSeen line seen → IsTrue (is_open seen.reading.outcome)
+    → seen.reading.pass ≡ 0
+open_pass line seen is = grind (arith, read_pass)
 
 -- the nearest words of an open line are asked for
-pub open_asked : (system : System) (number : ℕ) (slicing : Slicing) (row : Row) (seen : Seen) (unit : ℕ)
-    → IsSeen system number slicing row seen → IsTrue (is_open (own_of unit seen).outcome)
-    → IsTrue (is_asked seen.reading.outcome seen.reading.pass)
-open_asked system number slicing row seen unit is opened =
+pub open_asked : (line : Line) (seen : Seen) (unit : ℕ) → IsSeen line seen
+    → IsTrue (is_open (own_of unit seen).outcome) → IsTrue (is_asked seen.reading.outcome seen.reading.pass)
+open_asked line seen unit is opened =
     open_asked_by seen.reading.outcome seen.reading.pass seen.plain (is_confirmed unit seen.near seen.stretched)
-    (open_pass system number slicing row seen is) opened
+    (open_pass line seen is) opened
 
 -- ---- what a line shows by its own levels
 
@@ -131,8 +134,7 @@ own_same (Change c) pass p q confirms again plain same = refl
 own_same (Hold c) pass p q confirms again plain same = refl
 
 -- what there is of a line, found twice
-module _ (system : System) (number : ℕ) (slicing : Slicing) (row : Row) (seen again : Seen) (unit : ℕ)
-    (is : IsSeen system number slicing row seen) (are : IsSeen system number slicing row again) where
+module _ (line : Line) (seen again : Seen) (unit : ℕ) (is : IsSeen line seen) (are : IsSeen line again) where
   -- its reading is the same
   one_reading : seen.reading ≡ again.reading
   one_reading = is.reading ∙ sym are.reading
@@ -145,7 +147,7 @@ module _ (system : System) (number : ℕ) (slicing : Slicing) (row : Row) (seen 
   -- its nearest words are the same if they are asked for
   pub one_asked_near : IsTrue (is_asked seen.reading.outcome seen.reading.pass) → seen.near ≡ again.near
   one_asked_near asked =
-      one_candidates system number slicing row seen.near again.near (is.near asked) (are.near (asked_again asked))
+      one_candidates line seen.near again.near (is.near asked) (are.near (asked_again asked))
 
   -- its word of pass 2 is confirmed each time or never
   confirms_same : (word : ℕ) → seen.reading.outcome ≡ Word word → seen.reading.pass ≡ 2
@@ -154,7 +156,7 @@ module _ (system : System) (number : ℕ) (slicing : Slicing) (row : Row) (seen 
       let asked = subst (λ (o : Outcome). IsTrue (is_asked o seen.reading.pass)) (sym e)
       (asked_word word seen.reading.pass two) in
       let near = one_asked_near asked in
-      let stretched = one_stretched system slicing (given_samples row ∷ []) word seen.stretched again.stretched
+      let stretched = one_stretched line.system line.slicing (given_samples line.row ∷ []) word _ _
       (is.stretched word e two)
       (are.stretched word (ap (λ (r : Reading). r.outcome) (sym one_reading) ∙ e)
       (ap (λ (r : Reading). r.pass) (sym one_reading) ∙ two)) in
@@ -166,4 +168,4 @@ module _ (system : System) (number : ℕ) (slicing : Slicing) (row : Row) (seen 
 
   -- its nearest words are the same if it is open
   pub one_open_near : IsTrue (is_open (own_of unit seen).outcome) → seen.near ≡ again.near
-  one_open_near opened = one_asked_near (open_asked system number slicing row seen unit is opened)
+  one_open_near opened = one_asked_near (open_asked line seen unit is opened)

@@ -7,7 +7,7 @@ use Rattle.vbi_near.specs.Distances.{Samples}
 use Rattle.vbi_near.specs.Pile.{IsPileOf}
 use Rattle.std.specs.Prelude.{List}
 
--- it holds of the lines' system and levels
+-- what is said of a pile's system and levels holds of those of its lines
 pub by_lines : (is_said : System → Slicing → Type 0) (system : System) (slicing : Slicing) (lines : List Samples)
     (pile : Pile) → IsPileOf system slicing lines pile → is_said pile.system pile.levels → is_said system slicing
 by_lines is_said system slicing lines pile is said =

@@ -10,11 +10,11 @@ use Rattle.vbi_words.specs.Geometry.{line_bytes}
 use Rattle.vbi_words.specs.declared.system.System.{System}
 use Rattle.vbi_words.specs.Levels.{Slicing}
 use Rattle.vbi_near.specs.declared.margins.Margins.{Margins}
-use Rattle.vbi_near.specs.Said.{recovered_by, first_said}
+use Rattle.vbi_near.specs.WordRule.{recovered_by, first_said}
 use Rattle.vbi_near.specs.Distances.{unit_of}
 use Rattle.vbi_near.specs.Candidates.{Row, Candidates, swing_in, has_swing, are_alike_by}
-use Rattle.vbi_near.specs.Levelled.{is_swing, levelled_unit}
-use Rattle.vbi_near.specs.Piled.{row_in, rows_in, are_all_alike, pile_margins, said_together}
+use Rattle.vbi_near.specs.LevelledLines.{is_swing, levelled_unit}
+use Rattle.vbi_near.specs.PileRule.{row_in, rows_in, are_all_alike, pile_margins, said_together}
 
 -- ---- the next line
 
@@ -24,7 +24,7 @@ map-next : {X : Type 0} (f : Row → X) (rows : List Row) (row : Row)
 map-next f [] row = refl
 map-next f (first ∷ rows) row = ap (λ rest. f first ∷ rest) (map-next f rows row)
 
--- the same of lines by their bytes
+-- what a function makes of one more of the lines by their bytes stands after what it makes of the others
 pub rows-next : {X : Type 0} (f : Row → X) (system : System) (lines : List ℕ) (erased : List Bool) (n : ℕ)
     → map f (rows_in system lines erased (n + 1))
     ≡ map f (rows_in system lines erased n) ++ f (row_in system lines erased n) ∷ []

@@ -11,7 +11,7 @@ use Rattle.vbi_near.specs.Pictures.{IsPlace, picture_of, sample_of, drawn_as}
 use Rattle.vbi_near.specs.Distances.{Samples, most_of, off_by, row_distance, distance_of, Shades, shade, column_cost}
 use Rattle.vbi_near.specs.Distances.{distance_from, IsPile}
 use Rattle.vbi_near.specs.Nearest.{far_from}
-use Rattle.vbi_near.specs.Longer.{IsLeastRow}
+use Rattle.vbi_near.specs.LongerSignal.{IsLeastRow}
 use Rattle.vbi_near.proofs.Columns.{length-picture}
 
 -- ---- one line
@@ -105,7 +105,7 @@ pub far-same : (system : System) (slicing : Slicing) (lines : List Samples) (cos
 far-same system slicing lines costs pile word start place =
     levels-same system slicing lines costs pile (picture_of system word start) (length-picture system word start place)
 
--- so is the least distance of rows that are as wide
+-- the least distance of rows as wide as the lines is the same by their columns
 pub row-same : (system : System) (slicing : Slicing) (lines : List Samples) (costs : Shades)
     → IsPile system slicing lines costs → (IsRow : List Bool → Type 0) (distance : ℕ)
     → ((levels : List Bool) → IsRow levels → length levels ≡ width_of system)

@@ -15,8 +15,9 @@ use Rattle.vbi_near.specs.Pictures.{IsPlace, drawn_as, starts, word_length}
 use Rattle.vbi_near.specs.Distances.{Samples, most_of, distance_of}
 use Rattle.vbi_near.specs.Nearest.{IsNearestBy, IsFirstBy, IsNearest, IsFirst, Precedes, far_from, IsNearestCode}
 use Rattle.vbi_near.specs.Nearest.{IsFirstCode}
-use Rattle.vbi_near.specs.Longer.{GoesOn, IsLeastRow, HasLeastRow, IsLonger, cell_length, begun_earlier, ended_later}
-use Rattle.vbi_near.specs.Shorter.{begun_later, ended_earlier, row_of_halves, IsCutShort, IsShorter}
+use Rattle.vbi_near.specs.LongerSignal.{GoesOn, IsLeastRow, HasLeastRow, IsLonger, cell_length, begun_earlier}
+use Rattle.vbi_near.specs.LongerSignal.{ended_later}
+use Rattle.vbi_near.specs.ShorterSignal.{begun_later, ended_earlier, row_of_halves, IsCutShort, IsShorter}
 use Rattle.vbi_near.proofs.Chosen.{code-place}
 use Rattle.vbi_near.proofs.Certain.{same_or_not, some_none, none_some}
 use Rattle.vbi_near.proofs.Columns.{word-fits}
@@ -83,7 +84,7 @@ module _ (system : System) (IsThere : Option ℕ → ℕ → Type 0)
   abbrev Has : ℕ → Type 0
   Has k = IsThere (word_at k) (start_at k)
 
-  -- and is one of another word
+  -- the place of this number is there, and is one of another word
   abbrev HasOther : Option ℕ → ℕ → Type 0
   HasOther other k = Has k × (word_at k ≢ other)
 
@@ -167,7 +168,7 @@ some_row IsRow far levels Has told k le one are all =
       },
     )
 
--- the same of the word at a place, or of none
+-- there is a least distance of the rows of the word at a place, or of none
 row_of : (IsRow : ℕ → ℕ → List Bool → Type 0) (far : List Bool → ℕ) (word : Option ℕ) (start distance : ℕ)
     → ((w : ℕ) → word ≡ Some w → (least : ℕ) × IsLeastRow (IsRow w start) far least)
     → (least : ℕ) × ((near : Near) → near.start ≡ start → near.distance ≡ distance
@@ -320,7 +321,7 @@ code_told ranges system (Some w) start = grind (arith, both_told, one_told, at_m
 stop_between : IsBetween 0x82CFFF 0x82CFFF 0x82CFFF
 stop_between place low high = (omega arith, omega arith)
 
--- it is in each table
+-- picture stop is in each table
 stop_stands : (system : System) (line : ℕ) → IsOneOf (codes_of system line) 0x82CFFF
 stop_stands system line = grind (arith, stop_between)
 

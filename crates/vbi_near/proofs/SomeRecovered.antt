@@ -5,19 +5,19 @@ use Rattle.vbi_words.specs.declared.system.System.{System}
 use Rattle.vbi_words.specs.Levels.{Slicing}
 use Rattle.vbi_near.specs.declared.recovery.Recovered.{Recovered}
 use Rattle.vbi_near.specs.Distances.{unit_of}
-use Rattle.vbi_near.specs.Candidates.{Row}
-use Rattle.vbi_near.specs.Recovery.{IsRecovered, recovered_of, row_at}
+use Rattle.vbi_near.specs.Candidates.{Line}
+use Rattle.vbi_near.specs.Recovery.{IsRecovered, recovered_of, field_line}
 use Rattle.vbi_near.proofs.SomeSeen.{some_of_both, some_seen}
 
 -- three rows show something
 pub some_recovered : (system : System) (slicing : Slicing) (rows : List ℕ) (erased : List Bool)
     → (recovered : List Recovered) × IsRecovered system slicing rows erased recovered
 some_recovered system slicing rows erased =
-    let row : ℕ → Row = row_at system rows erased in
-    let first = some_seen system 16 slicing (row 0) in
-    let second = some_seen system 17 slicing (row 1) in
-    let third = some_seen system 18 slicing (row 2) in
-    let both = some_of_both system 17 slicing (row 1) (row 2) in (
+    let line : ℕ → Line = field_line system slicing rows erased in
+    let first = some_seen (line 0) in
+    let second = some_seen (line 1) in
+    let third = some_seen (line 2) in
+    let both = some_of_both (line 1) (line 2).row in (
       recovered_of (unit_of slicing) first.0 second.0 third.0 both.0,
       (
         first.0,

@@ -8,16 +8,15 @@ use Rattle.vbi_words.specs.declared.outcome.Outcome.TheVariants.{Word}
 use Rattle.vbi_words.specs.Geometry.{width_of}
 use Rattle.vbi_words.specs.Levels.{Slicing, row_levels}
 use Rattle.vbi_line.specs.OneReading.{reading_of, outcome_of}
-use Rattle.vbi_near.specs.declared.lines.Nears.{Nears}
+use Rattle.vbi_near.specs.declared.near.Nears.{Nears}
 use Rattle.vbi_near.specs.Pictures.{drawn_as}
 use Rattle.vbi_near.specs.Distances.{Samples, most_of, distance_of}
-use Rattle.vbi_near.specs.Stretched.{stretched_length, stretched_picture, IsLeastAt, IsAtRate, IsRateBefore}
-use Rattle.vbi_near.specs.Stretched.{IsStretchedPlace, IsStretched}
-use Rattle.vbi_near.specs.Candidates.{HasNear, Row, Candidates, HasNearIf, AreOf, AreOfBoth, given_samples}
-use Rattle.vbi_near.specs.Candidates.{levelled_samples, has_swing, are_alike}
-use Rattle.vbi_near.specs.Levelled.{levelled_slicing}
+use Rattle.vbi_near.specs.StretchedCells.{stretched_length, stretched_picture, IsLeastAt, IsAtRate, IsRateBefore}
+use Rattle.vbi_near.specs.StretchedCells.{IsStretchedPlace, IsStretched}
+use Rattle.vbi_near.specs.Candidates.{HasNear, Row, Line, Lines, Candidates, HasNearIf, AreOf, AreOfBoth, given_samples}
+use Rattle.vbi_near.specs.Candidates.{given_line, levelled_line, given_pair, levelled_pair, has_swing, are_alike}
 use Rattle.vbi_near.specs.Recovery.{Seen, IsSeen}
-use Rattle.vbi_near.specs.Halved.{halved_far}
+use Rattle.vbi_near.specs.HalvedSignal.{halved_far}
 use Rattle.vbi_near.specs.Nearest.{far_from}
 use Rattle.vbi_near.proofs.SomeNear.{some_near, some_near_code}
 use Rattle.vbi_near.proofs.Least.{found, at_most_told}
@@ -26,16 +25,17 @@ use Rattle.vbi_near.proofs.LeastAt.{same-least, first_rate, rate-more}
 -- ---- nearest words
 
 -- any lines have a nearest word, and a nearest of the codes that may stand on a line
-pub some_nears : (system : System) (number : ℕ) (slicing : Slicing) (lines : List Samples)
-    → (near : Nears) × HasNear system number slicing lines near
-some_nears system number slicing lines =
-    let far : List Bool → ℕ = λ levels. distance_of (most_of slicing) lines (drawn_as slicing levels) in
-    let w = some_near system slicing lines in
-    let c = some_near_code system number slicing lines in (
+pub some_nears : (lines : Lines) → (near : Nears) × HasNear lines near
+some_nears lines =
+    let system = lines.system in
+    let far : List Bool → ℕ
+    = λ levels. distance_of (most_of lines.slicing) lines.samples (drawn_as lines.slicing levels) in
+    let w = some_near system lines.slicing lines.samples in
+    let c = some_near_code system lines.number lines.slicing lines.samples in (
       record {
         word = w.0;
         code = c.0;
-        blank = far_from system slicing lines None 0;
+        blank = far_from system lines.slicing lines.samples None 0;
         word_halved = halved_far system far w.0.word w.0;
         code_halved = halved_far system far c.0.word c.0;
       },
@@ -55,28 +55,22 @@ some_nears system number slicing lines =
     )
 
 -- lines that may have none have nearest words, or none
-pub some_near_if : (system : System) (number : ℕ) (slicing : Slicing) (can : Bool) (lines : List Samples)
-    → (near : Option Nears) × HasNearIf system number slicing can lines near
-some_near_if system number slicing true lines =
-    let n = some_nears system number slicing lines in (Some n.0, (refl, n.1))
-some_near_if system number slicing false lines = (None, refl)
+pub some_near_if : (lines : Lines) (can : Bool) → (near : Option Nears) × HasNearIf lines can near
+some_near_if lines true = let n = some_nears lines in (Some n.0, (refl, n.1))
+some_near_if lines false = (None, refl)
 
 -- any line has candidates
-pub some_candidates : (system : System) (number : ℕ) (slicing : Slicing) (row : Row)
-    → (near : Candidates) × AreOf system number slicing row near
-some_candidates system number slicing row =
-    let levelled = some_near_if system number levelled_slicing (has_swing system slicing row)
-    (levelled_samples system slicing row ∷ []) in
-    let given = some_nears system number slicing (given_samples row ∷ []) in
+pub some_candidates : (line : Line) → (near : Candidates) × AreOf line near
+some_candidates line =
+    let levelled = some_near_if (levelled_line line) (has_swing line.system line.slicing line.row) in
+    let given = some_nears (given_line line) in
     (record { levelled = levelled.0; given = given.0 }, record { levelled = levelled.1; given = given.1 })
 
 -- any two lines together have candidates
-pub some_of_both : (system : System) (number : ℕ) (slicing : Slicing) (row other : Row)
-    → (near : Candidates) × AreOfBoth system number slicing row other near
-some_of_both system number slicing row other =
-    let levelled = some_near_if system number levelled_slicing (are_alike system slicing row other)
-    (levelled_samples system slicing row ∷ levelled_samples system slicing other ∷ []) in
-    let given = some_nears system number slicing (given_samples row ∷ given_samples other ∷ []) in
+pub some_of_both : (line : Line) (other : Row) → (near : Candidates) × AreOfBoth line other near
+some_of_both line other =
+    let levelled = some_near_if (levelled_pair line other) (are_alike line.system line.slicing line.row other) in
+    let given = some_nears (given_pair line other) in
     (record { levelled = levelled.0; given = given.0 }, record { levelled = levelled.1; given = given.1 })
 
 -- ---- words on longer or shorter cells
@@ -144,15 +138,15 @@ stretched_if system slicing lines outcome =
     (s.0, λ word e. subst (λ (w : ℕ). IsStretched system slicing lines w s.0) (ap shown_word e) s.1)
 
 -- there is something of each line
-pub some_seen : (system : System) (number : ℕ) (slicing : Slicing) (row : Row)
-    → (seen : Seen) × IsSeen system number slicing row seen
-some_seen system number slicing row =
-    let reading = reading_of system (row_levels slicing row.bytes) in
-    let near = some_candidates system number slicing row in
-    let stretched = stretched_if system slicing (given_samples row ∷ []) reading.outcome in (
+pub some_seen : (line : Line) → (seen : Seen) × IsSeen line seen
+some_seen line =
+    let levels = row_levels line.slicing line.row.bytes in
+    let reading = reading_of line.system levels in
+    let near = some_candidates line in
+    let stretched = stretched_if line.system line.slicing (given_samples line.row ∷ []) reading.outcome in (
       record {
         reading = reading;
-        plain = outcome_of system (row_levels slicing row.bytes);
+        plain = outcome_of line.system levels;
         near = near.0;
         stretched = stretched.0;
       },

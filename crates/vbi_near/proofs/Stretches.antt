@@ -1,5 +1,5 @@
 -- Words drawn on cells of other lengths: their columns, and what they cost. At a hundred hundredths they are drawn as
--- any word is. The functions of stretched stand on it, stretched_by_none and LeastAt.
+-- any word is. The functions of stretched_cells stand on it, stretched_by_none and LeastAt.
 use Rattle.std.proofs.Common.{◌≡◌, ℕ, suc, List, [], ◌∷◌, ◌++◌, Bool, refl, arith, ap, ◌∙◌, ◌≤◌, ◌<◌, ◌+◌, ◌-◌, ◌*◌}
 use Rattle.std.proofs.Common.{false, length, take, get_or, set, get_or-set_other}
 use Rattle.std.proofs.Math.ListN.{replicate}
@@ -12,8 +12,9 @@ use Rattle.vbi_words.specs.Geometry.{start_of, width_of}
 use Rattle.vbi_words.specs.Drawn.{boundary}
 use Rattle.vbi_words.specs.Words.{halves_of}
 use Rattle.vbi_near.specs.Pictures.{half_length, word_length, picture_of}
-use Rattle.vbi_near.specs.Stretched.{stretched_half, stretched_length, stretched_picture, halves_with, stretched_offset}
-use Rattle.vbi_near.specs.Stretched.{halves_cost, stretched_cost, stretched_word_cost, stretched_row_cost}
+use Rattle.vbi_near.specs.StretchedCells.{stretched_half, stretched_length, stretched_picture, halves_with}
+use Rattle.vbi_near.specs.StretchedCells.{stretched_offset}
+use Rattle.vbi_near.specs.StretchedCells.{halves_cost, stretched_cost, stretched_word_cost, stretched_row_cost}
 use Rattle.vbi_near.specs.Distances.{Shades}
 use Rattle.vbi_near.specs.Sums.{span, total_in}
 use Rattle.vbi_near.proofs.Costs.{drawn-with, many-halves, halves_cost-append}

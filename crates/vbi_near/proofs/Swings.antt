@@ -13,13 +13,13 @@ use Rattle.vbi_words.specs.declared.system.System.TheVariants.{Ntsc, Pal}
 use Rattle.vbi_words.specs.Geometry.{width_of}
 use Rattle.vbi_words.specs.Levels.{samples_of}
 use Rattle.vbi_line.proofs.Slicing.{sample_of, length-samples_of}
-use Rattle.vbi_near.specs.Levelled.{window_of, first_of, columns_of, off_mean, off_in, swing_of}
+use Rattle.vbi_near.specs.LevelledLines.{window_of, first_of, columns_of, off_mean, off_in, swing_of}
 
 -- samples of 16 bits
 abbrev pub AreShort : List ℕ → Type 0
 AreShort samples = All (λ x. x ≤ 65535) samples
 
--- those of a line are
+-- the samples of a line are of 16 bits
 pub short_bytes : (bytes : List ℕ) (n : ℕ) → length bytes ≡ 2 * n → ((k : ℕ) → get_or bytes k 0 < 256)
     → AreShort (samples_of bytes)
 short_bytes bytes n long few k d less =
@@ -28,7 +28,7 @@ short_bytes bytes n long few k d less =
     = omega (arith, sample_of bytes k inside, few (2 * k), few (2 * k + 1)) in
     subst (λ (x : ℕ). x ≤ 65535) (sym (get_or_default (samples_of bytes) k d 0 less)) here
 
--- n of them sum up to no more
+-- n samples of 16 bits sum up to no more
 few-sum : (samples : List ℕ) (start n : ℕ) → AreShort samples → sum (take n (drop start samples)) ≤ 65535 * n
 few-sum samples start n short =
     let part = take n (drop start samples) in
@@ -41,7 +41,7 @@ few-off : (system : System) (samples : List ℕ) (column : ℕ) → AreShort sam
     → off_mean system samples column ≤ 13959168
 few-off system samples column short less = grind (arith, few-sum)
 
--- nor are n columns
+-- n columns are no farther from the means of their windows
 few-offs : (system : System) (samples : List ℕ) (n : ℕ) → AreShort samples → first_of system + n ≤ length samples
     → off_in system samples n ≤ 13959168 * n
 few-offs system samples zero short room = omega arith
@@ -63,7 +63,7 @@ few-offs system samples (suc n) short room =
 by-ntsc : (off n : ℕ) → off ≤ 13959168 * n → 2 * off / (172 * n) ≤ 262144
 by-ntsc off n few = div-le_of_le-mul (172 * n) (omega (arith, few))
 
--- and of PAL
+-- twice as far, by the columns of a window of PAL and their number
 by-pal : (off n : ℕ) → off ≤ 13959168 * n → 2 * off / (213 * n) ≤ 262144
 by-pal off n few = div-le_of_le-mul (213 * n) (omega (arith, few))
 
@@ -71,7 +71,7 @@ by-pal off n few = div-le_of_le-mul (213 * n) (omega (arith, few))
 room : (system : System) (n : ℕ) → n ≡ width_of system → first_of system + columns_of system ≤ n
 room system n e = grind arith
 
--- so the swing is less than 2 ^ 19
+-- the swing is less than 2 ^ 19
 few-swing : (system : System) (samples : List ℕ) → AreShort samples → length samples ≡ width_of system
     → swing_of system samples ≤ 262144
 unfolding swing_of
@@ -80,7 +80,7 @@ few-swing Pal samples short long =
     by-pal (off_in Pal samples (columns_of Pal)) (columns_of Pal)
     (few-offs Pal samples (columns_of Pal) short (room Pal (length samples) long))
 
--- so the swing times the columns of a window fits into 32 bits
+-- the swing times the columns of a window fits into 32 bits
 pub scale_fits : (system : System) (samples : List ℕ) (window swing : ℕ) → AreShort samples
     → length samples ≡ width_of system → window ≡ window_of system → swing ≡ swing_of system samples
     → window * swing < 2 ^ 32

@@ -4,14 +4,14 @@ use Rattle.std.proofs.Common.{◌≡◌, ◌≢◌, ℕ, ◌≤◌, ◌<◌, ◌
 use Rattle.std.proofs.Common.{◌∙◌, arith}
 use Rattle.std.proofs.lemmas.Bool.{cases_eq, cases_lt}
 use Rattle.std.specs.Prelude.{Option, Some, None, is_some, IsTrue}
-use Rattle.vbi_words.specs.declared.system.System.{System}
 use Rattle.vbi_words.specs.Levels.{Slicing}
 use Rattle.vbi_words.specs.Words.{IsWord}
-use Rattle.vbi_near.specs.declared.found.Found.{Found}
+use Rattle.vbi_near.specs.declared.word_search.Found.{Found}
 use Rattle.vbi_near.specs.declared.near.Near.{Near}
-use Rattle.vbi_near.specs.declared.lines.Nears.{Nears}
+use Rattle.vbi_near.specs.declared.word_rule.Nearest.{Nearest}
+use Rattle.vbi_near.specs.declared.near.Nears.{Nears}
 use Rattle.vbi_near.specs.declared.margins.Margins.{Margins}
-use Rattle.vbi_near.specs.declared.sought.Sought.{Sought}
+use Rattle.vbi_near.specs.declared.line_search.Sought.{Sought}
 use Rattle.vbi_near.specs.declared.sums.Sums.{Sums}
 use Rattle.vbi_near.specs.Pictures.{starts}
 use Rattle.vbi_near.specs.Distances.{Samples, Shades, unit_of}
@@ -19,10 +19,10 @@ use Rattle.vbi_near.specs.Nearest.{Precedes, far_from}
 use Rattle.vbi_near.specs.LineCodes.{Range, codes_of, IsOneOf, IsCodePlace}
 use Rattle.vbi_near.specs.Leads.{IsSeen, with_ranges, all_codes, IsLead, IsClose, IsCodeChosen}
 use Rattle.vbi_near.specs.Rows.{shades_of, word_cost_by, code_cost_by, IsRowOf, IsNearCode}
-use Rattle.vbi_near.specs.Candidates.{HasNear}
-use Rattle.vbi_near.specs.Said.{close_limit, said_of}
-use Rattle.vbi_near.specs.Sought.{HasWord, IsSought}
-use Rattle.vbi_near.specs.Silent.{says_word, may_say, IsLeadWithin, StandsFor, IsUnsaid, AreSilent}
+use Rattle.vbi_near.specs.Candidates.{HasNear, Lines, some_lines}
+use Rattle.vbi_near.specs.WordRule.{close_limit, said_of}
+use Rattle.vbi_near.specs.LineSearch.{HasWord, IsSought}
+use Rattle.vbi_near.specs.Silence.{says_word, may_say, IsLeadWithin, StandsFor, IsUnsaid, AreSilent}
 use Rattle.vbi_near.proofs.Columns.{word-fits}
 use Rattle.vbi_near.proofs.Chosen.{number, code-is_word, code-place, code-places, placed, cost-at}
 use Rattle.vbi_near.proofs.Looks.{to-ranges, from-ranges}
@@ -219,28 +219,28 @@ pub unsaid : (unit columns limit : ℕ) (near code : Near) → StandsFor limit n
     → may_say unit columns limit code ≡ false → may_say unit columns limit near ≡ false
 unsaid unit columns limit near code stands not = grind (arith)
 
-module _ (system : System) (number : ℕ) (slicing : Slicing) (margins : Margins) (count : ℕ) (lines : List Samples)
-    (word : Near) (blank halved : ℕ) (has : HasWord system slicing lines word blank halved)
-    (near : Nears) (is : HasNear system number slicing lines near) where
-  same : near.word ≡ word
+module _ (lines : Lines) (margins : Margins) (count : ℕ) (word : Nearest)
+    (has : HasWord lines.system lines.slicing lines.samples word) (near : Nears) (is : HasNear lines near) where
+  same : near.word ≡ word.near
   same = grind (arith, one_near)
 
-  pub silent_by : says_word (unit_of slicing) margins count blank halved word ≡ false
-      → may_say (unit_of slicing) margins.code.columns (close_limit (unit_of slicing) word) near.code ≡ false
-      → said_of (unit_of slicing) margins count near ≡ None
+  pub silent_by : says_word (unit_of lines.slicing) margins count word ≡ false
+      → may_say (unit_of lines.slicing) margins.code.columns (close_limit (unit_of lines.slicing) word.near) near.code
+      ≡ false
+      → said_of (unit_of lines.slicing) margins count near ≡ None
   silent_by not unsaid = grind (arith, same)
 
 -- lines whose nearest word isn't said, nor a code
 pub silent : (sought : Sought) (number unit count : ℕ) (margins : Margins) (slicing : Slicing) (lines : List Samples)
     (costs : Shades) → IsSought sought → unit ≡ unit_of slicing → IsRowOf sought.sums slicing lines costs
-    → says_word unit margins count sought.blank sought.halved sought.word ≡ false
-    → IsUnsaid sought.sums number unit margins.code.columns (close_limit unit sought.word)
-    → AreSilent sought.sums.system number slicing margins count lines
+    → says_word unit margins count sought.word ≡ false
+    → IsUnsaid sought.sums number unit margins.code.columns (close_limit unit sought.word.near)
+    → AreSilent margins count (some_lines sought.sums.system number slicing lines)
 silent sought number unit count margins slicing lines costs is same row not unsaid near has =
-    silent_by sought.sums.system number slicing margins count lines sought.word sought.blank sought.halved
+    silent_by (some_lines sought.sums.system number slicing lines) margins count sought.word
     (is.word slicing lines costs row) near has
-    (subst (λ (u : ℕ). says_word u margins count sought.blank sought.halved sought.word ≡ false) same not)
-    (subst (λ (u : ℕ). may_say u margins.code.columns (close_limit u sought.word) near.code ≡ false) same
+    (subst (λ (u : ℕ). says_word u margins count sought.word ≡ false) same not)
+    (subst (λ (u : ℕ). may_say u margins.code.columns (close_limit u sought.word.near) near.code ≡ false) same
     (unsaid slicing lines costs near.code row (record {
       nearest = has.code;
       first = has.code_first;

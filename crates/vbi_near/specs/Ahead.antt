@@ -1,38 +1,29 @@
 -- By how much the samples of lines are nearer to a word that they say than to what may have been recorded.
-use Rattle.std.specs.Prelude.{◌≢◌, ◌≤◌, ◌⊎◌, ℕ, ◌+◌, ◌*◌, List, [], ◌∷◌, Some}
-use Rattle.vbi_words.specs.declared.system.System.{System}
-use Rattle.vbi_words.specs.Levels.{Slicing}
+use Rattle.std.specs.Prelude.{◌≢◌, ◌≤◌, ◌⊎◌, ℕ, ◌+◌, ◌*◌, Some}
 use Rattle.vbi_near.specs.declared.margins.Margins.{Margins}
 use Rattle.vbi_near.specs.Pictures.{IsPlace}
-use Rattle.vbi_near.specs.Distances.{Samples, unit_of}
+use Rattle.vbi_near.specs.Distances.{unit_of}
 use Rattle.vbi_near.specs.LineCodes.{codes_of, IsCodePlace}
 use Rattle.vbi_near.specs.Nearest.{far_from}
-use Rattle.vbi_near.specs.Levelled.{levelled_slicing}
-use Rattle.vbi_near.specs.Candidates.{Row, given_samples, levelled_samples}
+use Rattle.vbi_near.specs.Candidates.{Row, Line, Lines, given_line, levelled_line, given_pair, levelled_pair}
 
 -- a drawn row of this word is nearer to the lines, by so many columns, than one of any other code that may stand on a
--- line of this number, wherever that begins
-abbrev pub IsAhead : System → ℕ → Slicing → List Samples → ℕ → ℕ → Type 0
-IsAhead system number slicing lines columns word = (start : ℕ) × IsPlace system (Some word) start
-    × ((other at : ℕ) → IsCodePlace (codes_of system number) system (Some other) at → other ≢ word
-    → far_from system slicing lines (Some word) start + columns * unit_of slicing
-    ≤ far_from system slicing lines (Some other) at)
+-- line of their number, wherever that begins
+abbrev pub IsAhead : Lines → ℕ → ℕ → Type 0
+IsAhead of columns word = (start : ℕ) × IsPlace of.system (Some word) start
+    × ((other at : ℕ) → IsCodePlace (codes_of of.system of.number) of.system (Some other) at → other ≢ word
+    → far_from of.system of.slicing of.samples (Some word) start + columns * unit_of of.slicing
+    ≤ far_from of.system of.slicing of.samples (Some other) at)
 
--- by the columns of a code, or by those of any other word
-abbrev pub IsAheadBy : System → ℕ → Slicing → List Samples → Margins → ℕ → Type 0
-IsAheadBy system number slicing lines margins word =
-    IsAhead system number slicing lines margins.code.columns word
-    ⊎ IsAhead system number slicing lines margins.other.columns word
+-- the word is nearer to the lines than any other code by the columns of a code, or by those of any other word
+abbrev pub IsAheadBy : Lines → Margins → ℕ → Type 0
+IsAheadBy of margins word = IsAhead of margins.code.columns word ⊎ IsAhead of margins.other.columns word
 
 -- one line is nearer to the word by so many columns, levelled or as it is
-abbrev pub IsAheadOn : System → ℕ → Slicing → Row → ℕ → ℕ → Type 0
-IsAheadOn system number slicing row columns word =
-    IsAhead system number levelled_slicing (levelled_samples system slicing row ∷ []) columns word
-    ⊎ IsAhead system number slicing (given_samples row ∷ []) columns word
+abbrev pub IsAheadOn : Line → ℕ → ℕ → Type 0
+IsAheadOn line columns word = IsAhead (levelled_line line) columns word ⊎ IsAhead (given_line line) columns word
 
--- or two lines together are
-abbrev pub IsAheadOnBoth : System → Slicing → Row → Row → ℕ → ℕ → Type 0
-IsAheadOnBoth system slicing row other columns word =
-    IsAhead system 17 levelled_slicing
-    (levelled_samples system slicing row ∷ levelled_samples system slicing other ∷ []) columns word
-    ⊎ IsAhead system 17 slicing (given_samples row ∷ given_samples other ∷ []) columns word
+-- two lines together are nearer to the word by so many columns, levelled or as they are
+abbrev pub IsAheadOnBoth : Line → Row → ℕ → ℕ → Type 0
+IsAheadOnBoth line other columns word =
+    IsAhead (levelled_pair line other) columns word ⊎ IsAhead (given_pair line other) columns word

@@ -3,7 +3,7 @@ use Rattle.std.specs.Prelude.{◌≡◌, ◌≢◌, ◌≤◌, ◌<◌, ◌⊎�
 use Rattle.std.specs.Prelude.{slice_index_or}
 use Rattle.vbi_words.specs.Words.{IsWord}
 use Rattle.vbi_near.specs.declared.bits.Bits.{Bits}
-use Rattle.vbi_near.specs.declared.found.Found.{Found}
+use Rattle.vbi_near.specs.declared.word_search.Found.{Found}
 use Rattle.vbi_near.specs.declared.near.Near.{Near}
 use Rattle.vbi_near.specs.Costs.{bits_cost}
 use Rattle.vbi_near.specs.Nearest.{IsBefore}
@@ -35,7 +35,7 @@ pub record Every : Type 0 where
 abbrev pub every : List ℕ → List ℕ → List ℕ → Every
 every words distances margins = record { words = words; distances = distances; margins = margins }
 
--- those of the words that begin at one
+-- the word, the distance and the margin of the words that begin at one column
 abbrev pub bits_at : Every → ℕ → Bits
 bits_at bits start = record {
   word = slice_index_or bits.words start 0;

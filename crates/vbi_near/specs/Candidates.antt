@@ -4,29 +4,47 @@ use Rattle.std.specs.Prelude.{take, drop}
 use Rattle.vbi_words.specs.declared.system.System.{System}
 use Rattle.vbi_words.specs.Geometry.{width_of}
 use Rattle.vbi_words.specs.Levels.{Slicing, samples_of}
-use Rattle.vbi_near.specs.declared.lines.Nears.{Nears}
+use Rattle.vbi_near.specs.declared.near.Nears.{Nears}
 use Rattle.vbi_near.specs.Distances.{Samples, unit_of, known_but}
 use Rattle.vbi_near.specs.Nearest.{IsNearest, IsFirst, IsNearestCode, IsFirstCode, far_from}
-use Rattle.vbi_near.specs.Longer.{IsLonger}
-use Rattle.vbi_near.specs.Shorter.{IsShorter}
-use Rattle.vbi_near.specs.Halved.{IsHalved}
-use Rattle.vbi_near.specs.Levelled.{filled, swing_of, is_swing, levelled, levelled_slicing}
+use Rattle.vbi_near.specs.LongerSignal.{IsLonger}
+use Rattle.vbi_near.specs.ShorterSignal.{IsShorter}
+use Rattle.vbi_near.specs.HalvedSignal.{IsHalved}
+use Rattle.vbi_near.specs.LevelledLines.{filled, swing_of, is_swing, levelled, levelled_slicing}
 
--- the nearest word of some lines, the nearest of the codes that may stand on a line of this number, and how far the
+-- ---- nearest words
+
+-- some lines that have one word: their system and their number, the levels on which words are drawn for them, and the
+-- samples of each
+pub record Lines : Type 0 where
+  pub system : System
+  pub number : ℕ
+  pub slicing : Slicing
+  pub samples : List Samples
+
+abbrev pub some_lines : System → ℕ → Slicing → List Samples → Lines
+some_lines system number slicing samples =
+    record { system = system; number = number; slicing = slicing; samples = samples }
+
+-- the nearest word of some lines, the nearest of the codes that may stand on a line of their number, and how far the
 -- lines are from half of each, and from the row of no word
-pub record HasNear (system : System) (number : ℕ) (slicing : Slicing) (lines : List Samples) (near : Nears) : Type 0
-  where
-    pub nearest : IsNearest system slicing lines near.word
-    pub first : IsFirst system slicing lines near.word
-    pub longer : IsLonger system slicing lines near.word
-    pub shorter : IsShorter system slicing lines near.word
-    pub code : IsNearestCode system number slicing lines near.code
-    pub code_first : IsFirstCode system number slicing lines near.code
-    pub code_longer : IsLonger system slicing lines near.code
-    pub code_shorter : IsShorter system slicing lines near.code
-    pub blank : near.blank ≡ far_from system slicing lines None 0
-    pub word_halved : IsHalved system slicing lines near.word near.word_halved
-    pub code_halved : IsHalved system slicing lines near.code near.code_halved
+pub record HasNear (of : Lines) (near : Nears) : Type 0 where
+  pub nearest : IsNearest of.system of.slicing of.samples near.word
+  pub first : IsFirst of.system of.slicing of.samples near.word
+  pub longer : IsLonger of.system of.slicing of.samples near.word
+  pub shorter : IsShorter of.system of.slicing of.samples near.word
+  pub code : IsNearestCode of.system of.number of.slicing of.samples near.code
+  pub code_first : IsFirstCode of.system of.number of.slicing of.samples near.code
+  pub code_longer : IsLonger of.system of.slicing of.samples near.code
+  pub code_shorter : IsShorter of.system of.slicing of.samples near.code
+  pub blank : near.blank ≡ far_from of.system of.slicing of.samples None 0
+  pub word_halved : IsHalved of.system of.slicing of.samples near.word near.word_halved
+  pub code_halved : IsHalved of.system of.slicing of.samples near.code near.code_halved
+
+-- there are nearest words of the lines if they can have them, and else none
+abbrev pub HasNearIf : Lines → Bool → Option Nears → Type 0
+HasNearIf of can None = can ≡ false
+HasNearIf of can (Some near) = (can ≡ true) × HasNear of near
 
 -- ---- a line, as it is and levelled
 
@@ -42,11 +60,11 @@ row_of bytes erased = record { bytes = bytes; erased = erased }
 abbrev pub marks_at : System → List Bool → ℕ → List Bool
 marks_at system marks line = take (width_of system) (drop (width_of system * line) marks)
 
--- its samples, but those that are erased
+-- the samples of a line, but those that are erased
 abbrev pub given_samples : Row → Samples
 given_samples row = known_but row.erased (samples_of row.bytes)
 
--- all its samples, for means: an erased one counts as half way between black and white
+-- all samples of a line, for means: an erased one counts as half way between black and white
 abbrev pub filled_samples : Slicing → Row → List ℕ
 filled_samples slicing row = filled slicing row.erased (samples_of row.bytes)
 
@@ -81,20 +99,43 @@ pub record Candidates : Type 0 where
 abbrev pub candidates : Option Nears → Nears → Candidates
 candidates levelled given = record { levelled = levelled; given = given }
 
--- there are nearest words of the lines if they can have them, and else none
-abbrev pub HasNearIf : System → ℕ → Slicing → Bool → List Samples → Option Nears → Type 0
-HasNearIf system number slicing can lines None = can ≡ false
-HasNearIf system number slicing can lines (Some near) = (can ≡ true) × HasNear system number slicing lines near
+-- a line in which a word is sought: its system and its number, its levels, and its bytes with the erased columns
+pub record Line : Type 0 where
+  pub system : System
+  pub number : ℕ
+  pub slicing : Slicing
+  pub row : Row
+
+abbrev pub line_of : System → ℕ → Slicing → Row → Line
+line_of system number slicing row = record { system = system; number = number; slicing = slicing; row = row }
+
+-- the samples of a line levelled, and those of another of its system and levels
+abbrev pub levelled_in : Line → Row → Samples
+levelled_in line row = levelled_samples line.system line.slicing row
+
+-- one line as it is, and levelled
+abbrev pub given_line : Line → Lines
+given_line line = some_lines line.system line.number line.slicing (given_samples line.row ∷ [])
+
+abbrev pub levelled_line : Line → Lines
+levelled_line line = some_lines line.system line.number levelled_slicing (levelled_in line line.row ∷ [])
+
+-- two lines that have one word, as they are, and levelled: of the system, the number and the levels of the first
+abbrev pub given_pair : Line → Row → Lines
+given_pair line other =
+    some_lines line.system line.number line.slicing (given_samples line.row ∷ given_samples other ∷ [])
+
+abbrev pub levelled_pair : Line → Row → Lines
+levelled_pair line other =
+    some_lines line.system line.number levelled_slicing (levelled_in line line.row ∷ levelled_in line other ∷ [])
 
 -- the candidates of one line
-pub record AreOf (system : System) (number : ℕ) (slicing : Slicing) (row : Row) (candidates : Candidates) : Type 0 where
-  pub levelled : HasNearIf system number levelled_slicing (has_swing system slicing row)
-      (levelled_samples system slicing row ∷ []) candidates.levelled
-  pub given : HasNear system number slicing (given_samples row ∷ []) candidates.given
+pub record AreOf (line : Line) (candidates : Candidates) : Type 0 where
+  pub levelled : HasNearIf (levelled_line line) (has_swing line.system line.slicing line.row) candidates.levelled
+  pub given : HasNear (given_line line) candidates.given
 
--- those of two lines that have one word
-pub record AreOfBoth (system : System) (number : ℕ) (slicing : Slicing) (row other : Row) (candidates : Candidates)
-    : Type 0 where
-  pub levelled : HasNearIf system number levelled_slicing (are_alike system slicing row other)
-      (levelled_samples system slicing row ∷ levelled_samples system slicing other ∷ []) candidates.levelled
-  pub given : HasNear system number slicing (given_samples row ∷ given_samples other ∷ []) candidates.given
+-- the candidates of two lines that have one word
+pub record AreOfBoth (line : Line) (other : Row) (candidates : Candidates) : Type 0 where
+  pub levelled : HasNearIf (levelled_pair line other) (are_alike line.system line.slicing line.row other)
+      candidates.levelled
+  pub given : HasNear (given_pair line other) candidates.given

@@ -63,7 +63,7 @@ pub record Shades : Type 0 where
 abbrev pub shades : List ℕ → List ℕ → Shades
 shades dark light = record { dark = dark; light = light }
 
--- those for the sample of this level
+-- the numbers of each column for the sample of this level
 abbrev pub shade : Shades → Bool → List ℕ
 shade of true = of.light
 shade of false = of.dark

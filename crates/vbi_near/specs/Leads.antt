@@ -5,7 +5,7 @@ use Rattle.vbi_words.specs.declared.system.System.{System}
 use Rattle.vbi_words.specs.Geometry.{width_of}
 use Rattle.vbi_near.specs.declared.bits.Bits.{Bits}
 use Rattle.vbi_near.specs.declared.codes.Choice.{Choice}
-use Rattle.vbi_near.specs.declared.found.Found.{Found}
+use Rattle.vbi_near.specs.declared.word_search.Found.{Found}
 use Rattle.vbi_near.specs.declared.near.Near.{Near}
 use Rattle.vbi_near.specs.Distances.{Shades}
 use Rattle.vbi_near.specs.Sums.{span}

@@ -46,8 +46,8 @@ codes_of_17 =
     ∷ range 0xF0DD00 0xF9DD59
     ∷ []
 
--- those of line 16: picture stop, CLV pictures of a second's 30 or 25, programme status with CX and without it, users'
--- codes
+-- the codes of line 16: picture stop, CLV pictures of a second's 30 or 25, programme status with CX and without it,
+-- users' codes
 abbrev pub codes_of_16 : System → List Range
 codes_of_16 Ntsc =
     range 0x82CFFF 0x82CFFF
@@ -65,7 +65,7 @@ codes_of_16 Pal =
     ∷ range 0x80D000 0x87DFFF
     ∷ []
 
--- those of line 16, else those of lines 17 and 18
+-- the codes of line 16, else those of lines 17 and 18
 abbrev pub codes_of : System → ℕ → List Range
 codes_of system line = if line == 16 then codes_of_16 system else codes_of_17
 

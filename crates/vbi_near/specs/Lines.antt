@@ -1,25 +1,35 @@
 -- Lines as the definitions of candidates have them.
 use Rattle.std.specs.Prelude.{ℕ, List}
-use Rattle.vbi_near.specs.declared.row.Row.{Row}
-use Rattle.vbi_near.specs.declared.row.Pair.{Pair}
-use Rattle.vbi_near.specs.declared.row.Rows.{Rows}
+use Rattle.vbi_near.specs.declared.lines.Line.{Line}
+use Rattle.vbi_near.specs.declared.lines.Pair.{Pair}
+use Rattle.vbi_near.specs.declared.lines.Rows.{Rows}
 use Rattle.vbi_near.specs.Candidates as candidates
-use Rattle.vbi_near.specs.Candidates.{row_of}
-use Rattle.vbi_near.specs.Piled as piled
+use Rattle.vbi_near.specs.Candidates.{Row, row_of, line_of}
+use Rattle.vbi_near.specs.PileRule as piled
 
-abbrev pub row_in : Row → candidates.Row
-row_in row = row_of row.bytes.now row.erased.now
+-- the bytes of a line, and which of its columns are erased
+abbrev pub row_in : Line → Row
+row_in line = row_of line.bytes.now line.erased.now
 
-abbrev pub first_in : Pair → candidates.Row
-first_in pair = row_of pair.bytes.now pair.erased.now
+-- a line with its system, its number and its levels
+abbrev pub line_in : Line → candidates.Line
+line_in line = line_of line.system line.number line.levels (row_in line)
 
-abbrev pub other_in : Pair → candidates.Row
-other_in pair = row_of pair.other_bytes.now pair.other_erased.now
+-- lines 17 and 18 of a pair
+abbrev pub second_in : Pair → candidates.Line
+second_in pair = line_of pair.system 17 pair.levels (row_of pair.bytes.now pair.erased.now)
+
+abbrev pub third_in : Pair → candidates.Line
+third_in pair = line_of pair.system 18 pair.levels (row_of pair.other_bytes.now pair.other_erased.now)
 
 -- one of lines that lie one after the other, counted from 0
-abbrev pub row_at : Rows → ℕ → candidates.Row
+abbrev pub row_at : Rows → ℕ → Row
 row_at rows = piled.row_in rows.system rows.bytes.now rows.erased.now
 
--- all of them
-abbrev pub rows_of : Rows → List candidates.Row
+-- one of such lines, taken as a line of this number
+abbrev pub line_in_rows : Rows → ℕ → ℕ → candidates.Line
+line_in_rows rows number line = line_of rows.system number rows.levels (row_at rows line)
+
+-- all of the lines that lie one after the other
+abbrev pub rows_of : Rows → List Row
 rows_of rows = piled.rows_in rows.system rows.bytes.now rows.erased.now rows.count

@@ -39,7 +39,7 @@ IsNearestCode system line slicing lines near =
 abbrev pub IsBefore : ℕ → ℕ → ℕ → ℕ → Type 0
 IsBefore start word at other = (start < at) ⊎ ((start ≡ at) × (word ≤ other))
 
--- the same of drawn rows: that of no word comes before any other
+-- a drawn row comes before others, or is that row: that of no word comes before any other
 abbrev pub Precedes : Option ℕ → ℕ → Option ℕ → ℕ → Type 0
 Precedes None start other at = Unit {0}
 Precedes (Some word) start None at = ⊥

@@ -1,5 +1,5 @@
 -- The words of a field's three lines: those that its lines show, and if a line shows none, the word that its samples
--- say (Said.antt): first the levelled ones, and if these say none, those as they are.
+-- say (WordRule.antt): first the levelled ones, and if these say none, those as they are.
 use Rattle.std.specs.Prelude.{◌≡◌, ℕ, ◌+◌, ◌*◌, ◌==◌, ◌&&◌, ◌||◌, Bool, true, false, not, List, [], ◌∷◌}
 use Rattle.std.specs.Prelude.{replicate, nat_le, IsTrue, Option, Some, None, if◌then◌else◌}
 use Rattle.vbi_words.specs.declared.system.System.{System}
@@ -11,16 +11,17 @@ use Rattle.vbi_words.specs.Levels.{Slicing, row_levels}
 use Rattle.vbi_line.specs.OneReading.{reading_of, outcome_of}
 use Rattle.vbi_near.specs.declared.recovery.Recovered.{Recovered}
 use Rattle.vbi_near.specs.declared.near.Near.{Near}
-use Rattle.vbi_near.specs.declared.said.Stand.{Stand}
-use Rattle.vbi_near.specs.declared.said.Stand.TheVariants.{Alone}
+use Rattle.vbi_near.specs.declared.word_rule.PairNears.{PairNears}
+use Rattle.vbi_near.specs.declared.word_rule.Stand.{Stand}
+use Rattle.vbi_near.specs.declared.word_rule.Stand.TheVariants.{Alone}
 use Rattle.vbi_near.specs.Distances.{unit_of}
 use Rattle.vbi_near.specs.Margins.{levelled_margins, given_margins}
-use Rattle.vbi_near.specs.Said.{said_if, recovered_by, first_said, is_said, stand_of}
-use Rattle.vbi_near.specs.Said.{said_in}
-use Rattle.vbi_near.specs.Candidates.{Candidates, Row, row_of, marks_at, given_samples}
+use Rattle.vbi_near.specs.WordRule.{said_if, recovered_by, first_said, is_said, stand_of}
+use Rattle.vbi_near.specs.WordRule.{said_in}
+use Rattle.vbi_near.specs.Candidates.{Candidates, Row, Line, row_of, line_of, marks_at, given_samples}
 use Rattle.vbi_near.specs.Candidates.{AreOf, AreOfBoth}
-use Rattle.vbi_near.specs.Levelled.{levelled_unit}
-use Rattle.vbi_near.specs.Stretched.{IsStretched}
+use Rattle.vbi_near.specs.LevelledLines.{levelled_unit}
+use Rattle.vbi_near.specs.StretchedCells.{IsStretched}
 
 -- ---- one line
 
@@ -71,7 +72,7 @@ own_by plain outcome pass confirms =
     then record { outcome = outcome; pass = pass }
     else record { outcome = plain; pass = 0 }
 
--- the same, by what there is of the line
+-- what the line is taken to show by its own levels, by what there is of it
 abbrev pub own_of : ℕ → Seen → Recovered
 own_of unit seen =
     own_by seen.plain seen.reading.outcome seen.reading.pass (is_confirmed unit seen.near seen.stretched)
@@ -97,11 +98,20 @@ pub record Stands : Type 0 where
 abbrev pub alone : Stands
 alone = record { levelled = Alone; given = Alone }
 
+-- the nearest words of lines 17 and 18, and of both together, levelled and as they are
+abbrev pub levelled_of : Candidates → Candidates → Candidates → PairNears
+levelled_of second third both =
+    record { second = second.levelled; third = third.levelled; both = both.levelled }
+
+abbrev pub given_of : Candidates → Candidates → Candidates → PairNears
+given_of second third both =
+    record { second = Some second.given; third = Some third.given; both = Some both.given }
+
 -- two open lines stand so to each other
 abbrev pub stands_by : ℕ → Candidates → Candidates → Candidates → Stands
 stands_by unit second third both = record {
-  levelled = stand_of levelled_margins levelled_unit second.levelled third.levelled both.levelled;
-  given = stand_of given_margins unit (Some second.given) (Some third.given) (Some both.given);
+  levelled = stand_of levelled_margins levelled_unit (levelled_of second third both);
+  given = stand_of given_margins unit (given_of second third both);
 }
 
 abbrev pub stands_of : ℕ → Seen → Seen → Candidates → Stands
@@ -142,20 +152,18 @@ is_asked Blank pass = false
 is_asked outcome pass = not (pass == 1)
 
 -- this is what there is of a line; its nearest words are asked for, or are of no account
-pub record IsSeen (system : System) (number : ℕ) (slicing : Slicing) (row : Row) (seen : Seen) : Type 0 where
-  pub reading : seen.reading ≡ reading_of system (row_levels slicing row.bytes)
-  pub plain : seen.reading.pass ≡ 2 → seen.plain ≡ outcome_of system (row_levels slicing row.bytes)
-  pub near : IsTrue (is_asked seen.reading.outcome seen.reading.pass)
-      → AreOf system number slicing row seen.near
+pub record IsSeen (line : Line) (seen : Seen) : Type 0 where
+  pub reading : seen.reading ≡ reading_of line.system (row_levels line.slicing line.row.bytes)
+  pub plain : seen.reading.pass ≡ 2 → seen.plain ≡ outcome_of line.system (row_levels line.slicing line.row.bytes)
+  pub near : IsTrue (is_asked seen.reading.outcome seen.reading.pass) → AreOf line seen.near
   pub stretched : (word : ℕ) → seen.reading.outcome ≡ Word word → seen.reading.pass ≡ 2
-      → IsStretched system slicing (given_samples row ∷ []) word seen.stretched
+      → IsStretched line.system line.slicing (given_samples line.row ∷ []) word seen.stretched
 
 -- ---- as it is found
 
 -- what a line is taken to show by its own levels, by whatever there is of it
-abbrev pub IsOwn : System → ℕ → Slicing → Row → Recovered → Type 0
-IsOwn system number slicing row own = (seen : Seen) → IsSeen system number slicing row seen
-    → own ≡ own_of (unit_of slicing) seen
+abbrev pub IsOwn : Line → Recovered → Type 0
+IsOwn line own = (seen : Seen) → IsSeen line seen → own ≡ own_of (unit_of line.slicing) seen
 
 -- ---- a field, by its bytes
 
@@ -172,20 +180,22 @@ row_at system rows erased i =
 abbrev pub row_reading : System → Slicing → List ℕ → ℕ → Reading
 row_reading system slicing rows row = reading_of system (row_levels slicing (line_at system rows 0 row))
 
+-- line 16, 17 or 18 of a field, counted from 0
+abbrev pub field_line : System → Slicing → List ℕ → List Bool → ℕ → Line
+field_line system slicing rows erased i = line_of system (16 + i) slicing (row_at system rows erased i)
+
 -- what there is of a field's three lines, and the nearest words of lines 17 and 18 together if both are open
-pub record AreSeen (system : System) (slicing : Slicing) (rows : List ℕ) (erased : List Bool)
-    (first second third : Seen) (both : Candidates) : Type 0 where
-  pub line_16 : IsSeen system 16 slicing (row_at system rows erased 0) first
-  pub line_17 : IsSeen system 17 slicing (row_at system rows erased 1) second
-  pub line_18 : IsSeen system 18 slicing (row_at system rows erased 2) third
-  pub pair : IsTrue (are_open (unit_of slicing) second third)
-      → AreOfBoth system 17 slicing (row_at system rows erased 1) (row_at system rows erased 2) both
+pub record AreSeen (line : ℕ → Line) (first second third : Seen) (both : Candidates) : Type 0 where
+  pub line_16 : IsSeen (line 0) first
+  pub line_17 : IsSeen (line 1) second
+  pub line_18 : IsSeen (line 2) third
+  pub pair : IsTrue (are_open (unit_of (line 0).slicing) second third) → AreOfBoth (line 1) (line 2).row both
 
 -- what lines 16, 17 and 18 show, by the bytes of their rows and the columns that are erased: there are such nearest
 -- words with which the rule says it. They show one thing, as `laws::one_recovered` says.
 abbrev pub IsRecovered : System → Slicing → List ℕ → List Bool → List Recovered → Type 0
 IsRecovered system slicing rows erased recovered = (first second third : Seen) × (both : Candidates)
-    × AreSeen system slicing rows erased first second third both
+    × AreSeen (field_line system slicing rows erased) first second third both
     × (recovered ≡ recovered_of (unit_of slicing) first second third both)
 
 -- a reading that is never changed: a word of pass 1, or a blank line

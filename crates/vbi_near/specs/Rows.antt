@@ -10,8 +10,8 @@ use Rattle.vbi_near.specs.Distances.{Samples, Shades, shades, IsPile}
 use Rattle.vbi_near.specs.Sums.{AreBoth, span}
 use Rattle.vbi_near.specs.Nearest.{IsNearestBy, IsFirstBy, far_from}
 use Rattle.vbi_near.specs.LineCodes.{codes_of, IsCodePlace}
-use Rattle.vbi_near.specs.Longer.{IsLonger}
-use Rattle.vbi_near.specs.Shorter.{IsShorter}
+use Rattle.vbi_near.specs.LongerSignal.{IsLonger}
+use Rattle.vbi_near.specs.ShorterSignal.{IsShorter}
 use Rattle.vbi_near.specs.Costs.{cell_cost, place_cost}
 use Rattle.vbi_near.specs.Leads.{code_cost}
 
@@ -49,7 +49,7 @@ pub record IsNearOf (IsThere : Option ℕ → ℕ → Type 0) (system : System) 
   pub longer : IsLonger system slicing lines near
   pub shorter : IsShorter system slicing lines near
 
--- of the nearest word of some lines, and of the nearest code
+-- all that is said of the nearest word of some lines, and of their nearest code
 abbrev pub IsNearWord : System → Slicing → List Samples → Near → Type 0
 IsNearWord system slicing lines near = IsNearOf (IsPlace system) system slicing lines near
 

@@ -5,9 +5,9 @@ use Rattle.vbi_words.specs.declared.outcome.Outcome.{Outcome}
 use Rattle.vbi_words.specs.declared.outcome.Outcome.TheVariants.{Word, Unfinished, Change}
 use Rattle.vbi_words.specs.Outcomes.{word_of}
 use Rattle.vbi_near.specs.declared.near.Near.{Near}
-use Rattle.vbi_near.specs.declared.lines.Nears.{Nears}
+use Rattle.vbi_near.specs.declared.near.Nears.{Nears}
 use Rattle.vbi_near.specs.declared.recovery.Recovered.{Recovered}
-use Rattle.vbi_near.specs.Levelled.{levelled_unit}
+use Rattle.vbi_near.specs.LevelledLines.{levelled_unit}
 use Rattle.vbi_near.specs.Candidates.{Candidates}
 use Rattle.vbi_near.specs.Recovery.{Seen}
 
@@ -48,7 +48,7 @@ near_with word rival longer = record {
   shorter = 10000;
 }
 
--- one with the distance of the row that is cut short
+-- a word at a distance of 10,000, with the distance of the row that is cut short
 abbrev pub cut_at : ℕ → Near
 cut_at shorter = record (near_with 0xF12345 20000 10000) { shorter = shorter }
 
@@ -77,7 +77,8 @@ beside distance rival = record {
 abbrev pub beyond_at : ℕ → ℕ → Near
 beyond_at distance rival = record (picture_at distance rival) { word = Some 0xF92345 }
 
--- that word, with the distance of its rival, beside the code 12345 at this distance, with that of the code's rival
+-- the picture number 12345 with the top bit of its first digit, with the distance of its rival, beside the code 12345
+-- at this distance, with that of the code's rival
 abbrev pub beyond_beside : ℕ → ℕ → ℕ → Nears
 beyond_beside other distance rival = record (beside distance rival) { word = beyond_at 10000 other }
 

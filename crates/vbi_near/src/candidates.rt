@@ -1,147 +1,125 @@
 //! The words that lines may have: those that are nearest to their samples, as they are and levelled.
 //!
 //! `near_of_one` and `near_of_two` search them in any case, `near_unless_silent` and `both_unless_silent` only if lines
-//! may say one by some margins (silent.rt). A levelled row is searched as any other, on the levels of levelled lines.
+//! may say one by some margins (silence.rt). A levelled row is searched as any other, on the levels of levelled lines.
 
-ghost use Rattle.std.specs.Prelude.{◌≡◌, ◌∷◌, [], ◌-◌, ◌^◌, ◌<◌, length, replicate, IsTrue};
+ghost use Rattle.std.specs.Prelude.{◌≡◌, ◌∷◌, [], length, replicate, IsTrue};
 ghost use Rattle.vbi_words.specs.Geometry.{line_bytes};
 ghost use Rattle.vbi_words.specs.Levels.{samples_of};
-ghost use Rattle.vbi_near.specs.Lines.{row_in, first_in, other_in};
-ghost use Rattle.vbi_near.specs.Levelled.{levelled};
+ghost use Rattle.vbi_near.specs.Lines.{row_in, line_in, second_in, third_in};
+ghost use Rattle.vbi_near.specs.LevelledLines.{levelled};
 ghost use Rattle.vbi_near.specs.Pile.{IsPileOf};
-ghost use Rattle.vbi_near.specs.Silent.{HasNearUnlessSilent};
-ghost use Rattle.vbi_near.specs.Stretched.{IsStretched};
-ghost use Rattle.vbi_near.specs.Candidates.{HasNear, given_samples, filled_samples, swing_in, has_swing, are_alike_by};
+ghost use Rattle.vbi_near.specs.Silence.{HasNearUnlessSilent};
+ghost use Rattle.vbi_near.specs.StretchedCells.{IsStretched};
+ghost use Rattle.vbi_near.specs.Candidates.{HasNear, given_line, given_pair};
+ghost use Rattle.vbi_near.specs.Candidates.{given_samples, filled_samples, swing_in, has_swing, are_alike_by};
 
-use crate::levelled::{Summed, fill, is_swing, level, sum_samples, swing};
-use crate::lines::Nears;
-use crate::margins::Margins;
-use crate::near::WIDEST;
+use crate::levelled_lines::{Summed, fill, is_swing, level, sum_samples, swing};
+use crate::lines::{Line, Pair};
+use crate::margins::{Margins, unit_of};
+use crate::near::{Nears, WIDEST};
 use crate::pile::Pile;
-use crate::row::{Pair, Row};
-use vbi_words::{Levels, Word24};
-
-/// How far white is from black.
-pub(crate) fn unit_of(levels: Levels) -> u32
-    ensures value { result ≡ levels.white - levels.black }
-    ensures range { result < 2 ^ 16 }
-{
-    u32::from(levels.white() - levels.black())
-}
+use vbi_words::Word24;
 
 /// One line, with room for what its columns cost.
 fn pile_of_one<'a>(
-    levels: Levels,
-    row: &Row,
+    line: &Line,
     darks: &'a mut [u32; WIDEST],
     lights: &'a mut [u32; WIDEST],
 ) -> Pile<'a>
     requires { (darks.old ≡ replicate 1135 0) × (lights.old ≡ replicate 1135 0) }
-    ensures pile { IsPileOf row.now.system levels (given_samples (row_in row.now) ∷ []) result }
+    ensures pile { IsPileOf line.now.system line.now.levels (given_samples (row_in line.now) ∷ []) result }
     ensures one { result.count ≡ 1 }
 {
-    let mut pile = Pile::new(row.system, levels, darks, lights);
-    pile.add(row.bytes, row.erased);
+    let mut pile = Pile::new(line.system, line.levels, darks, lights);
+    pile.add(line.bytes, line.erased);
     pile
 }
 
 /// Two lines that have one word, with room for what their columns cost.
 fn pile_of_two<'a>(
-    levels: Levels,
     pair: &Pair,
     darks: &'a mut [u32; WIDEST],
     lights: &'a mut [u32; WIDEST],
 ) -> Pile<'a>
     requires { (darks.old ≡ replicate 1135 0) × (lights.old ≡ replicate 1135 0) }
-    ensures pile { IsPileOf pair.now.system levels (given_samples (first_in pair.now)
-        ∷ given_samples (other_in pair.now) ∷ []) result }
+    ensures pile { IsPileOf pair.now.system pair.now.levels (given_samples (second_in pair.now).row
+        ∷ given_samples (third_in pair.now).row ∷ []) result }
     ensures two { result.count ≡ 2 }
 {
-    let mut pile = Pile::new(pair.system, levels, darks, lights);
+    let mut pile = Pile::new(pair.system, pair.levels, darks, lights);
     pile.add(pair.bytes, pair.erased);
     pile.add(pair.other_bytes, pair.other_erased);
     pile
 }
 
-/// The nearest ones of one line, by its bytes and which of its columns are erased.
-pub(crate) fn near_of_one(number: u32, levels: Levels, row: &Row) -> Nears
-    ensures { HasNear row.now.system number levels (given_samples (row_in row.now) ∷ []) result }
+/// The nearest word and code of one line.
+pub(crate) fn near_of_one(line: &Line) -> Nears
+    ensures { HasNear (given_line (line_in line.now)) result }
 {
     let mut darks = [0; WIDEST];
     let mut lights = [0; WIDEST];
-    pile_of_one(levels, row, &mut darks, &mut lights).nears(number)
+    pile_of_one(line, &mut darks, &mut lights).nears(line.number)
 }
 
-/// The same, or none if the line says nothing by these margins.
-pub(crate) fn near_unless_silent(
-    number: u32,
-    levels: Levels,
-    margins: &Margins,
-    row: &Row,
-) -> Option<Nears>
-    ensures { HasNearUnlessSilent row.now.system number levels margins.now 1 (given_samples (row_in row.now) ∷ [])
-        result }
+/// The nearest word and code of one line, or none if it says nothing by these margins.
+pub(crate) fn near_unless_silent(line: &Line, margins: &Margins) -> Option<Nears>
+    ensures { HasNearUnlessSilent margins.now 1 (given_line (line_in line.now)) result }
 {
     let mut darks = [0; WIDEST];
     let mut lights = [0; WIDEST];
-    pile_of_one(levels, row, &mut darks, &mut lights).nears_if(number, margins)
+    pile_of_one(line, &mut darks, &mut lights).nears_if(line.number, margins)
 }
 
-/// The nearest ones of two lines that have one word.
-pub(crate) fn near_of_two(number: u32, levels: Levels, pair: &Pair) -> Nears
-    ensures { HasNear pair.now.system number levels (given_samples (first_in pair.now)
-        ∷ given_samples (other_in pair.now) ∷ []) result }
+/// The nearest word and code of lines 17 and 18, if both have one word.
+pub(crate) fn near_of_two(pair: &Pair) -> Nears
+    ensures { HasNear (given_pair (second_in pair.now) (third_in pair.now).row) result }
 {
     let mut darks = [0; WIDEST];
     let mut lights = [0; WIDEST];
-    pile_of_two(levels, pair, &mut darks, &mut lights).nears(number)
+    pile_of_two(pair, &mut darks, &mut lights).nears(17)
 }
 
-/// The same, or none if the two say nothing together by these margins.
-pub(crate) fn both_unless_silent(
-    number: u32,
-    levels: Levels,
-    margins: &Margins,
-    pair: &Pair,
-) -> Option<Nears>
-    ensures { HasNearUnlessSilent pair.now.system number levels margins.now 2 (given_samples (first_in pair.now)
-        ∷ given_samples (other_in pair.now) ∷ []) result }
+/// The nearest word and code of lines 17 and 18, if both have one word, or none if the two say nothing together by
+/// these margins.
+pub(crate) fn both_unless_silent(pair: &Pair, margins: &Margins) -> Option<Nears>
+    ensures { HasNearUnlessSilent margins.now 2 (given_pair (second_in pair.now) (third_in pair.now).row) result }
 {
     let mut darks = [0; WIDEST];
     let mut lights = [0; WIDEST];
-    pile_of_two(levels, pair, &mut darks, &mut lights).nears_if(number, margins)
+    pile_of_two(pair, &mut darks, &mut lights).nears_if(17, margins)
 }
 
 /// How far a line is from the nearest row of this word on cells that are somewhat longer or shorter.
-pub(crate) fn stretched_of_one(levels: Levels, row: &Row, word: Word24) -> u32
-    ensures { IsStretched row.now.system levels (given_samples (row_in row.now) ∷ []) word result }
+pub(crate) fn stretched_of_one(line: &Line, word: Word24) -> u32
+    ensures { IsStretched line.now.system line.now.levels (given_samples (row_in line.now) ∷ []) word result }
 {
     let mut darks = [0; WIDEST];
     let mut lights = [0; WIDEST];
-    pile_of_one(levels, row, &mut darks, &mut lights).stretched(word)
+    pile_of_one(line, &mut darks, &mut lights).stretched(word)
 }
 
 /// Levels a line, if it swings as one with a word does, and answers its swing.
-pub(crate) fn level_row(levels: Levels, row: &Row, out: &mut [u8]) -> u32
-    requires { length out.old ≡ line_bytes row.now.system }
-    ensures swing { result ≡ swing_in row.now.system levels (row_in row.now) }
-    ensures levelled { IsTrue (has_swing row.now.system levels (row_in row.now))
-        → samples_of out.new ≡ levelled row.now.system (filled_samples levels (row_in row.now)) }
+pub(crate) fn level_row(line: &Line, out: &mut [u8]) -> u32
+    requires { length out.old ≡ line_bytes line.now.system }
+    ensures swing { result ≡ swing_in line.now.system line.now.levels (row_in line.now) }
+    ensures levelled { IsTrue (has_swing line.now.system line.now.levels (row_in line.now))
+        → samples_of out.new ≡ levelled line.now.system (filled_samples line.now.levels (row_in line.now)) }
     ensures long { length out.new ≡ length out.old }
 {
     let mut buffer = [0; 2 * WIDEST];
-    let whole = &mut buffer[..row.bytes.len()];
-    fill(levels, row.bytes, row.erased, whole);
+    let whole = &mut buffer[..line.bytes.len()];
+    fill(line.levels, line.bytes, line.erased, whole);
     let mut sums = [0; WIDEST + 1];
-    sum_samples(row.system, whole, &mut sums);
-    let line = Summed {
-        system: row.system,
+    sum_samples(line.system, whole, &mut sums);
+    let summed = Summed {
+        system: line.system,
         row: whole,
         sums: &sums,
     };
-    let swing = swing(&line);
-    if is_swing(unit_of(levels), swing) {
-        level(&line, swing, out);
+    let swing = swing(&summed);
+    if is_swing(unit_of(line.levels), swing) {
+        level(&summed, swing, out);
     }
     swing
 }

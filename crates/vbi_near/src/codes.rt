@@ -18,16 +18,16 @@ ghost use Rattle.vbi_words.specs.Words.{IsWord};
 ghost use Rattle.vbi_near.specs.Pictures.{word_length, starts};
 ghost use Rattle.vbi_near.specs.Rows.{word_cost_by, code_cost_by};
 ghost use Rattle.vbi_near.specs.LineCodes.{range, codes_of, digit_at, IsRange};
-ghost use Rattle.vbi_near.specs.Priced.{IsPricedBy, ranges_of, IsRangeAt};
+ghost use Rattle.vbi_near.specs.Prices.{IsPricedBy, ranges_of, IsRangeAt};
 ghost use Rattle.vbi_near.specs.Best.{AreBounds};
 ghost use Rattle.vbi_near.specs.Leads.{IsChoice, AreBest, at_start, Look};
 ghost use Rattle.vbi_near.specs.Leads.{IsSeen, with_ranges, all_codes, IsLead, IsFew, IsClose};
 
 use crate::bits::Bits;
-use crate::found::Found;
 use crate::order::{nearer_lead, needs_look};
 use crate::prices::Prices;
 use crate::sums::Sums;
+use crate::word_search::Found;
 use vbi_words::{System, digit};
 
 /// A range of words: the least, and the greatest.
@@ -44,7 +44,8 @@ const CODES_17: [Words; 7] = [
     (0xF0DD00, 0xF9DD59),
 ];
 
-/// Those of line 16: picture stop, CLV pictures of a second, programme status with CX and without it, users' codes.
+/// The codes of line 16 in NTSC: picture stop, CLV pictures of a second, programme status with CX and without it,
+/// users' codes.
 const CODES_16_NTSC: [Words; 5] = [
     (0x82CFFF, 0x82CFFF),
     (0x8AE000, 0x8FE929),
@@ -53,7 +54,8 @@ const CODES_16_NTSC: [Words; 5] = [
     (0x80D000, 0x87DFFF),
 ];
 
-/// The same of PAL.
+/// The codes of line 16 in PAL: picture stop, CLV pictures of a second, programme status with CX and without it, users'
+/// codes.
 const CODES_16_PAL: [Words; 6] = [
     (0x82CFFF, 0x82CFFF),
     (0x8AE000, 0x8FE919),
@@ -238,7 +240,8 @@ pub(crate) fn with_start(sums: &Sums, line: u32, start: usize, found: Found) -> 
     with_codes(&prices, codes_on(sums.system, line), found)
 }
 
-/// The same if no word that begins there is nearer than this bound.
+/// The nearer of what was found and of the codes of a line that begin at this column, if no word that begins there is
+/// nearer than this bound.
 pub(crate) fn with_start_by(sums: &Sums, line: u32, start: usize, bound: u32, found: Found) -> Found
     requires start { start + word_length sums.now.system ≤ width_of sums.now.system }
     requires bound { (word : ℕ) → IsWord word → bound ≤ word_cost_by sums.now start word }

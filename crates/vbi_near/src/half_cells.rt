@@ -7,14 +7,14 @@ ghost use Rattle.vbi_near.specs.Pictures.{column_of, word_length};
 
 use vbi_words::System;
 
-/// The columns from a word's start to each of its half cells, and to its end.
+/// The columns from the start of a word of NTSC to each of its half cells, and to its end.
 const NTSC: [usize; 49] = [
     0, 14, 28, 42, 57, 71, 85, 100, 114, 128, 143, 157, 171, 186, 200, 214, 229, 243, 257, 272,
     286, 300, 315, 329, 343, 357, 372, 386, 400, 415, 429, 443, 458, 472, 486, 501, 515, 529, 544,
     558, 572, 587, 601, 615, 630, 644, 658, 672, 687,
 ];
 
-/// The same for PAL.
+/// The columns from the start of a word of PAL to each of its half cells, and to its end.
 const PAL: [usize; 49] = [
     0, 17, 35, 53, 70, 88, 106, 124, 141, 159, 177, 195, 212, 230, 248, 266, 283, 301, 319, 336,
     354, 372, 390, 407, 425, 443, 461, 478, 496, 514, 532, 549, 567, 585, 602, 620, 638, 656, 673,

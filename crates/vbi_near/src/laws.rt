@@ -17,18 +17,18 @@ ghost use Rattle.vbi_words.specs.WorkedLines.{changing};
 ghost use Rattle.vbi_near.specs.Pictures.{IsPlace, starts, picture_of, drawn_as};
 ghost use Rattle.vbi_near.specs.Distances.{Samples, unit_of, most_of, known, known_but, row_distance, distance_of};
 ghost use Rattle.vbi_near.specs.Nearest.{IsNearest, IsFirst, IsNearestCode, IsFirstCode};
-ghost use Rattle.vbi_near.specs.Longer.{begun_earlier, ended_later, IsLonger};
-ghost use Rattle.vbi_near.specs.Shorter.{IsShorter};
+ghost use Rattle.vbi_near.specs.LongerSignal.{begun_earlier, ended_later, IsLonger};
+ghost use Rattle.vbi_near.specs.ShorterSignal.{IsShorter};
 ghost use Rattle.vbi_near.specs.Apart.{picture_distance};
 ghost use Rattle.vbi_near.specs.LineCodes.{IsOneOf, codes_of, is_beyond_79999};
 ghost use Rattle.vbi_near.specs.declared.recovery.Recovered.{Recovered};
 ghost use Rattle.vbi_near.specs.declared.margins.Margins.{Margins};
-ghost use Rattle.vbi_near.specs.declared.lines.Nears.{Nears};
-ghost use Rattle.vbi_near.specs.Said.{said_of};
-ghost use Rattle.vbi_near.specs.Candidates.{Row, HasNear};
+ghost use Rattle.vbi_near.specs.declared.near.Nears.{Nears};
+ghost use Rattle.vbi_near.specs.WordRule.{said_of};
+ghost use Rattle.vbi_near.specs.Candidates.{Row, Lines, HasNear};
 ghost use Rattle.vbi_near.specs.Ahead.{IsAheadBy, IsAheadOn, IsAheadOnBoth};
-ghost use Rattle.vbi_near.specs.Recovery.{IsRecovered, row_at};
-ghost use Rattle.vbi_near.specs.Piled.{IsSaidTogether};
+ghost use Rattle.vbi_near.specs.Recovery.{IsRecovered, field_line, row_at};
+ghost use Rattle.vbi_near.specs.PileRule.{IsSaidTogether};
 
 /// If another word than the one answered was recorded, the samples of the lines are off by `rival` or more in sum.
 pub fn misread_at_least()
@@ -105,26 +105,24 @@ pub fn some_recovered()
 /// a row of that code, wherever it begins, by a margin more than from one of the word said: by that of a code, or by
 /// that of any other word.
 pub fn recovered_costs()
-    ensures lines { (system : System) (number : ℕ) (slicing : Slicing) (margins : Margins) (count : ℕ)
-        (lines : List Samples) (near : Nears) (word : ℕ) → HasNear system number slicing lines near
-        → said_of (unit_of slicing) margins count near ≡ Some word
-        → IsAheadBy system number slicing lines margins word }
+    ensures lines { (lines : Lines) (margins : Margins) (count : ℕ) (near : Nears) (word : ℕ) → HasNear lines near
+        → said_of (unit_of lines.slicing) margins count near ≡ Some word → IsAheadBy lines margins word }
 
     // Lines levelled or as they are: of one line by 4 columns at least, of two together by 5.
     ensures first { (system : System) (slicing : Slicing) (rows : List ℕ) (erased : List Bool)
         (second third : Recovered) (word : ℕ) → IsRecovered system slicing rows erased
         (record { outcome = Word word; pass = 3 } ∷ second ∷ third ∷ [])
-        → IsAheadOn system 16 slicing (row_at system rows erased 0) 4 word }
+        → IsAheadOn (field_line system slicing rows erased 0) 4 word }
     ensures second { (system : System) (slicing : Slicing) (rows : List ℕ) (erased : List Bool)
         (first third : Recovered) (word : ℕ) → IsRecovered system slicing rows erased
         (first ∷ record { outcome = Word word; pass = 3 } ∷ third ∷ [])
-        → IsAheadOn system 17 slicing (row_at system rows erased 1) 4 word
-        ⊎ IsAheadOnBoth system slicing (row_at system rows erased 1) (row_at system rows erased 2) 5 word }
+        → IsAheadOn (field_line system slicing rows erased 1) 4 word
+        ⊎ IsAheadOnBoth (field_line system slicing rows erased 1) (row_at system rows erased 2) 5 word }
     ensures third { (system : System) (slicing : Slicing) (rows : List ℕ) (erased : List Bool)
         (first second : Recovered) (word : ℕ) → IsRecovered system slicing rows erased
         (first ∷ second ∷ record { outcome = Word word; pass = 3 } ∷ [])
-        → IsAheadOn system 18 slicing (row_at system rows erased 2) 4 word
-        ⊎ IsAheadOnBoth system slicing (row_at system rows erased 1) (row_at system rows erased 2) 5 word }
+        → IsAheadOn (field_line system slicing rows erased 2) 4 word
+        ⊎ IsAheadOnBoth (field_line system slicing rows erased 1) (row_at system rows erased 2) 5 word }
 {}
 
 /// Recovery says no picture number of 80,000 or more: no line of a field shows one in pass 3, and no pile of lines says
@@ -145,7 +143,8 @@ pub fn pictures_apart()
         → picture_distance system ≤ differences (picture_of system one s) (picture_of system other t) }
 {}
 
-/// So are drawn rows: their samples are off from one another by that many times the most that a sample counts.
+/// Drawn rows of different words, or of a word and of none, are apart: their samples are off from one another by the
+/// columns of `pictures_apart` times the most that a sample counts.
 pub fn rows_apart()
     ensures { (system : System) (slicing : Slicing) (one other : Option ℕ) (s t : ℕ) → IsPlace system one s
         → IsPlace system other t → one ≢ other → picture_distance system * most_of slicing

@@ -1,72 +1,116 @@
-//! The nearest word of some lines, and the nearest code, by what the lines' columns cost.
+//! Lines whose words are sought.
 
-ghost use Rattle.std.specs.Prelude.{◌≡◌, length, List};
-ghost use Rattle.vbi_words.specs.Geometry.{width_of};
-ghost use Rattle.vbi_words.specs.Levels.{Slicing};
-ghost use Rattle.vbi_near.specs.Candidates.{HasNear};
-ghost use Rattle.vbi_near.specs.Distances.{Samples, IsPile, AreFew, shades};
-ghost use Rattle.vbi_near.specs.Nearest.{IsNearestCode, IsFirstCode};
-ghost use Rattle.vbi_near.specs.Longer.{IsLonger};
-ghost use Rattle.vbi_near.specs.Shorter.{IsShorter};
+ghost use Rattle.std.specs.Prelude.{◌≡◌, ◌+◌, ◌*◌, ◌≤◌, ◌<◌, length};
+ghost use Rattle.vbi_words.specs.Geometry.{line_bytes, line_at, width_of};
+ghost use Rattle.vbi_near.specs.Candidates.{marks_at};
 
-use crate::bits::MOST_STARTS;
-use crate::found::start_count;
-use crate::near::Near;
-use crate::sought::Sought;
-use crate::sums::{ROOM, Sums};
-use vbi_words::System;
+use vbi_words::{Levels, System};
 
-/// The word that is nearest to some lines, the code that is nearest, and how far they are from none.
+/// A line in which a word is sought: its bytes, and which of its columns are erased.
 #[derive(Clone, Copy)]
-pub struct Nears {
-    /// Of all words, or none.
-    pub word: Near,
-    /// Of the codes that may stand on a line, or none.
-    pub code: Near,
-    /// How far the lines are from the row of no word.
-    pub blank: u32,
-    /// How far they are from the nearer row of half the word: with its first twelve cells black, or its last.
-    pub word_halved: u32,
-    /// The same of the code.
-    pub code_halved: u32,
+pub(crate) struct Line<'a> {
+    pub(crate) system: System,
+    /// The number of the line, which says what codes may stand on it.
+    pub(crate) number: u32,
+    pub(crate) levels: Levels,
+    pub(crate) bytes: &'a [u8],
+    pub(crate) erased: &'a [bool],
+    ghost whole: { length bytes.now ≡ line_bytes system },
+    ghost columns: { length erased.now ≡ width_of system },
 }
 
-/// The word that is nearest to some lines, and the nearest of the codes that may stand on a line of this number, by how
-/// far their samples are from black in each column, and from white.
-pub fn nears_of(system: System, number: u32, darks: &[u32], lights: &[u32]) -> Nears
-    requires dark { length darks.now ≡ width_of system }
-    requires light { length lights.now ≡ width_of system }
-    requires few { AreFew 28 darks.now × AreFew 28 lights.now }
-    ensures near { (slicing : Slicing) (lines : List Samples)
-        → IsPile system slicing lines (shades darks.now lights.now) → HasNear system number slicing lines result }
-
-    // Said once more by itself, so that `nearest_of_codes` follows without a written proof.
-    ensures code { (slicing : Slicing) (lines : List Samples)
-        → IsPile system slicing lines (shades darks.now lights.now)
-        → IsNearestCode system number slicing lines result.code }
-{
-    let mut dark = [0; ROOM];
-    let mut light = [0; ROOM];
-    let mut bounds = [0; MOST_STARTS];
-    let sums = Sums::of(system, darks, lights, &mut dark, &mut light);
-    Sought::of(sums, &mut bounds[..start_count(system)]).nears(number)
+/// Lines 17 and 18 of a field.
+#[derive(Clone, Copy)]
+pub(crate) struct Pair<'a> {
+    pub(crate) system: System,
+    pub(crate) levels: Levels,
+    pub(crate) bytes: &'a [u8],
+    pub(crate) erased: &'a [bool],
+    pub(crate) other_bytes: &'a [u8],
+    pub(crate) other_erased: &'a [bool],
+    ghost whole: { length bytes.now ≡ line_bytes system },
+    ghost columns: { length erased.now ≡ width_of system },
+    ghost other_whole: { length other_bytes.now ≡ line_bytes system },
+    ghost other_columns: { length other_erased.now ≡ width_of system },
 }
 
-/// Of the codes that may stand on a line of this number the one that is nearest to some lines, or none, by how far
-/// their samples are from black in each column, and from white. Of those that are as near, the same one comes first as
-/// of all words.
-pub fn nearest_of_codes(system: System, line: u32, darks: &[u32], lights: &[u32]) -> Near
-    requires dark { length darks.now ≡ width_of system }
-    requires light { length lights.now ≡ width_of system }
-    requires few { AreFew 28 darks.now × AreFew 28 lights.now }
-    ensures nearest { (slicing : Slicing) (lines : List Samples)
-        → IsPile system slicing lines (shades darks.now lights.now) → IsNearestCode system line slicing lines result }
-    ensures first { (slicing : Slicing) (lines : List Samples)
-        → IsPile system slicing lines (shades darks.now lights.now) → IsFirstCode system line slicing lines result }
-    ensures longer { (slicing : Slicing) (lines : List Samples)
-        → IsPile system slicing lines (shades darks.now lights.now) → IsLonger system slicing lines result }
-    ensures shorter { (slicing : Slicing) (lines : List Samples)
-        → IsPile system slicing lines (shades darks.now lights.now) → IsShorter system slicing lines result }
+impl<'a> Pair<'a> {
+    ghost use Rattle.vbi_near.specs.Lines.{line_in, second_in, third_in};
+
+    /// Line 17.
+    pub(crate) fn second(&self) -> Line<'a>
+        ensures { line_in result ≡ second_in self.now }
+    {
+        Line {
+            system: self.system,
+            number: 17,
+            levels: self.levels,
+            bytes: self.bytes,
+            erased: self.erased,
+        }
+    }
+
+    /// Line 18.
+    pub(crate) fn third(&self) -> Line<'a>
+        ensures { line_in result ≡ third_in self.now }
+    {
+        Line {
+            system: self.system,
+            number: 18,
+            levels: self.levels,
+            bytes: self.other_bytes,
+            erased: self.other_erased,
+        }
+    }
+}
+
+/// Lines of one system that lie one after the other, as do the marks of their erased columns.
+#[derive(Clone, Copy)]
+pub(crate) struct Rows<'a> {
+    pub(crate) system: System,
+    pub(crate) levels: Levels,
+    pub(crate) bytes: &'a [u8],
+    pub(crate) erased: &'a [bool],
+    /// How many lines there are.
+    pub(crate) count: usize,
+    ghost whole: { length bytes.now ≡ count * line_bytes system },
+    ghost columns: { length erased.now ≡ count * width_of system },
+}
+
+impl<'a> Rows<'a> {
+    ghost use Rattle.vbi_near.specs.Lines.{line_in, line_in_rows};
+
+    /// A line, counted from 0, taken as one of this number.
+    pub(crate) fn line(&self, number: u32, line: usize) -> Line<'a>
+        requires { line < self.now.count }
+        ensures { line_in result ≡ line_in_rows self.now number line }
+    {
+        Line {
+            system: self.system,
+            number,
+            levels: self.levels,
+            bytes: line_of(self.system, self.bytes, line),
+            erased: marks_of_line(self.system, self.erased, line),
+        }
+    }
+}
+
+/// The bytes of a line, counted from 0.
+pub(crate) fn line_of(system: System, lines: &[u8], line: usize) -> &[u8]
+    requires { line_bytes system * line + line_bytes system ≤ length lines.now }
+    ensures line { result.now ≡ line_at system lines.now 0 line }
+    ensures long { length result.now ≡ line_bytes system }
 {
-    nears_of(system, line, darks, lights).code
+    let size = system.line_bytes();
+    &lines[size * line..size * line + size]
+}
+
+/// The marks of the erased columns of a line, counted from 0, if those of some lines lie one line after the other.
+pub fn marks_of_line(system: System, marks: &[bool], line: usize) -> &[bool]
+    requires { width_of system * line + width_of system ≤ length marks.now }
+    ensures marks { result.now ≡ marks_at system marks.now line }
+    ensures long { length result.now ≡ width_of system }
+{
+    let width = system.width();
+    &marks[width * line..width * line + width]
 }

@@ -3,7 +3,7 @@
 
 ghost use Rattle.std.specs.Prelude.{◌≡◌, ◌∷◌, [], Some, None, map};
 ghost use Rattle.vbi_near.specs.Margins.{levelled_margins, given_margins};
-ghost use Rattle.vbi_near.specs.Said.{said_of};
+ghost use Rattle.vbi_near.specs.WordRule.{said_of};
 ghost use Rattle.vbi_near.specs.WorkedRules.{near_with, cut_at, as_code, beside, from_none, ten_ahead, code_ahead};
 ghost use Rattle.vbi_near.specs.WorkedRules.{other_ahead, close_code_ahead, far_from_none};
 

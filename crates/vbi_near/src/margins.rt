@@ -9,6 +9,18 @@
 //! specs/Margins.antt has the same numbers, and margin_laws.rt has words at their limits. CONTRIBUTING.md says what
 //! else changes with a margin.
 
+ghost use Rattle.std.specs.Prelude.{◌≡◌, ◌-◌, ◌*◌, ◌^◌, ◌<◌};
+
+use vbi_words::Levels;
+
+/// How far white is from black.
+pub(crate) fn unit_of(levels: Levels) -> u32
+    ensures value { result ≡ levels.white - levels.black }
+    ensures range { (0 < result) × (result < 2 ^ 16) }
+{
+    u32::from(levels.white() - levels.black())
+}
+
 /// By how much a nearest word has to be ahead of any other.
 #[derive(Clone, Copy)]
 pub struct Margin {
@@ -32,17 +44,17 @@ pub struct Margins {
 /// The margins of lines that are asked in one way.
 #[derive(Clone, Copy)]
 pub struct MarginSet {
-    /// Those of one line.
+    /// The margins of one line.
     pub lone: Margins,
-    /// Those of one of two lines that don't agree.
+    /// The margins of one of two lines that don't agree.
     pub apart: Margins,
-    /// Those of two lines together.
+    /// The margins of two lines together.
     pub both: Margins,
 }
 
-/// Those of levelled lines, chosen on simulated lines of worn discs (docs/MEASURED.md). One of two lines that don't
-/// agree is badly worn, so its nearest word is worth less. A code is compared with codes alone. If it is the nearest of
-/// all words, too, it may also be said as any other word is (said.rt).
+/// The margins of levelled lines, chosen on simulated lines of worn discs (docs/MEASURED.md). One of two lines that
+/// don't agree is badly worn, so its nearest word is worth less. A code is compared with codes alone. If it is the
+/// nearest of all words, too, it may also be said as any other word is (word_rule.rt).
 pub(crate) const LEVELLED: MarginSet = MarginSet {
     lone: Margins {
         code: Margin {
@@ -79,8 +91,8 @@ pub(crate) const LEVELLED: MarginSet = MarginSet {
     },
 };
 
-/// Those of lines as they are, which are asked if the levelled ones say nothing. They aren't smoothed, so noise makes a
-/// row with one cell more or less nearer by more columns.
+/// The margins of lines as they are, which are asked if the levelled ones say nothing. They aren't smoothed, so noise
+/// makes a row with one cell more or less nearer by more columns.
 pub(crate) const GIVEN: MarginSet = MarginSet {
     lone: Margins {
         code: Margin {

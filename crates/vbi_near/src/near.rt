@@ -13,15 +13,16 @@
 //! There are 2^23 words and up to 285 starts, so no row is ever drawn. What a half cell costs depends on where it lies
 //! and on whether it is high, and on nothing else of the word. Sums over the columns (sums.rt) give that by two
 //! subtractions; a bit of a word is then the cheaper one of its two cells (cell.rt, starts.rt), and the least over the
-//! starts is the nearest word (bits.rt, found.rt). Several lines are one line whose columns cost what they cost in all
-//! of them, so a field's lines 17 and 18, or a pile of lines, take no longer than one.
+//! starts is the nearest word (bits.rt, word_search.rt). Several lines are one line whose columns cost what they cost
+//! in all of them, so a field's lines 17 and 18, or a pile of lines, take no longer than one.
 //!
 //! The nearest word alone says little, as noise has one, too. So a `Near` says how far others are. `rival` is the
-//! nearest other row: what makes one word surer than another. `longer` is the row with one cell more (beyond.rt): if
-//! it is nearer, the signal isn't a word of 24 cells. `shorter` is the row with fewer (within.rt). The nearest code
-//! (near_code.rt, codes.rt) is sought among the words whose code may stand on the line, and its rival is the nearest
-//! other one of these, or none: a code needs a smaller margin than any word, since fewer can be mistaken for it.
-//! said.rt decides by these numbers what a line says; how large a margin has to be stands in `specs/Said.antt`.
+//! nearest other row: what makes one word surer than another. `longer` is the row with one cell more
+//! (longer_signal.rt): if it is nearer, the signal isn't a word of 24 cells. `shorter` is the row with fewer
+//! (shorter_signal.rt). The nearest code (near_code.rt, codes.rt) is sought among the words whose code may stand on the
+//! line, and its rival is the nearest other one of these, or none: a code needs a smaller margin than any word, since
+//! fewer can be mistaken for it. word_rule.rt decides by these numbers what a line says; how large a margin has to be
+//! stands in `specs/WordRule.antt`.
 
 ghost use Rattle.std.specs.Prelude.{◌≡◌, ◌^◌, ◌≤◌, ◌<◌, length, List};
 ghost use Rattle.vbi_words.specs.Geometry.{width_of};
@@ -32,14 +33,14 @@ ghost use Rattle.vbi_near.specs.Rows.{word_cost_by, IsRowOf, IsNearWord};
 ghost use Rattle.vbi_near.specs.Best.{IsFound, IsChosen};
 ghost use Rattle.vbi_near.specs.Distances.{Samples, Shades, IsPile, AreFew, shades};
 ghost use Rattle.vbi_near.specs.Nearest.{IsNearest, IsFirst};
-ghost use Rattle.vbi_near.specs.Longer.{IsLonger};
-ghost use Rattle.vbi_near.specs.Shorter.{IsShorter};
+ghost use Rattle.vbi_near.specs.LongerSignal.{IsLonger};
+ghost use Rattle.vbi_near.specs.ShorterSignal.{IsShorter};
 
-use crate::beyond::longer_distance;
 use crate::bits::MOST_STARTS;
-use crate::found::{Found, nearest_word, start_count};
+use crate::longer_signal::longer_distance;
+use crate::shorter_signal::shorter_distance;
 use crate::sums::{ROOM, Sums};
-use crate::within::shorter_distance;
+use crate::word_search::{Found, nearest_word, start_count};
 use vbi_words::{System, Word24};
 
 /// The samples of the longest line, that of PAL.
@@ -62,6 +63,21 @@ pub struct Near {
     /// The least distance of a drawn row that has fewer cells: the row of the word with its first one, its first two,
     /// its last one or its last two cells black; the distance if there is none.
     pub shorter: u32,
+}
+
+/// The word that is nearest to some lines, the code that is nearest, and how far they are from none.
+#[derive(Clone, Copy)]
+pub struct Nears {
+    /// Of all words, or none.
+    pub word: Near,
+    /// Of the codes that may stand on a line, or none.
+    pub code: Near,
+    /// How far the lines are from the row of no word.
+    pub blank: u32,
+    /// How far the lines are from the nearer row of half the word: with its first twelve cells black, or its last.
+    pub word_halved: u32,
+    /// How far the lines are from the nearer row of half the code.
+    pub code_halved: u32,
 }
 
 /// The word of this number.

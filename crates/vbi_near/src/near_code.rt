@@ -9,12 +9,12 @@ ghost use Rattle.vbi_near.specs.Best.{AreBounds};
 ghost use Rattle.vbi_near.specs.Leads.{IsCodeChosen};
 ghost use Rattle.vbi_near.specs.Distances.{Samples, Shades};
 
-use crate::beyond::longer_distance;
 use crate::codes::nearest_code;
-use crate::found::Found;
+use crate::longer_signal::longer_distance;
 use crate::near::{Near, word_of};
+use crate::shorter_signal::shorter_distance;
 use crate::sums::Sums;
-use crate::within::shorter_distance;
+use crate::word_search::Found;
 
 /// The code found, or none.
 pub(crate) fn code_or_none(found: Found, longer: u32, shorter: u32) -> Near

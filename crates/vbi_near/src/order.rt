@@ -4,7 +4,7 @@ ghost use Rattle.std.specs.Prelude.{◌≡◌, ◌⊎◌, ℕ, ◌^◌, ◌≤�
 ghost use Rattle.vbi_near.specs.LineCodes.{Range};
 ghost use Rattle.vbi_near.specs.Leads.{at_start, Look, look, IsSeen, IsLead, IsAhead, IsFew, IsClose};
 
-use crate::found::{Found, ahead};
+use crate::word_search::{Found, ahead};
 
 /// Whether one is nearer than another, or as near and before it: by the start, and then by the word.
 fn comes_first(one: Found, other: Found) -> bool

@@ -8,20 +8,18 @@ ghost use Rattle.vbi_words.specs.Levels.{Slicing, samples_of};
 ghost use Rattle.vbi_line.specs.Line.{sample_at};
 ghost use Rattle.vbi_near.specs.Distances.{Samples, lines_of, known_but, most_of, IsPile, AreFew, shades};
 ghost use Rattle.vbi_near.specs.Nearest.{IsNearest, IsFirst};
-ghost use Rattle.vbi_near.specs.Longer.{IsLonger};
-ghost use Rattle.vbi_near.specs.Shorter.{IsShorter};
+ghost use Rattle.vbi_near.specs.LongerSignal.{IsLonger};
+ghost use Rattle.vbi_near.specs.ShorterSignal.{IsShorter};
 
 use crate::bits::MOST_STARTS;
-use crate::candidates::unit_of;
-use crate::found::start_count;
-use crate::lines::{Nears, nears_of};
-use crate::margins::Margins;
-use crate::near::{Near, WIDEST, nearest};
-use crate::row::line_of;
-use crate::silent::{Terms, nears_if};
-use crate::sought::Sought;
-use crate::stretched::stretched_distance;
+use crate::line_search::{Sought, nears_of};
+use crate::lines::line_of;
+use crate::margins::{Margins, unit_of};
+use crate::near::{Near, Nears, WIDEST, nearest};
+use crate::silence::{Terms, nears_if};
+use crate::stretched_cells::stretched_distance;
 use crate::sums::{ROOM, Sums};
+use crate::word_search::start_count;
 use vbi_words::{Levels, System, Word24};
 
 /// A line's sample in a column.
@@ -91,13 +89,13 @@ pub(crate) struct Pile<'a> {
 
 impl<'a> Pile<'a> {
     ghost use Rattle.std.specs.Prelude.{replicate};
-    ghost use Rattle.vbi_near.specs.Candidates.{HasNear};
-    ghost use Rattle.vbi_near.specs.Stretched.{IsStretched};
+    ghost use Rattle.vbi_near.specs.Candidates.{HasNear, some_lines};
+    ghost use Rattle.vbi_near.specs.StretchedCells.{IsStretched};
     ghost use Rattle.vbi_near.specs.Rows.{IsNearWord};
     ghost use Rattle.vbi_near.specs.Pile.{IsPileOf};
-    ghost use Rattle.vbi_near.specs.Silent.{HasNearUnlessSilent};
+    ghost use Rattle.vbi_near.specs.Silence.{HasNearUnlessSilent};
 
-    /// That of no lines, with room for the costs of the longest ones.
+    /// The pile of no lines, with room for the costs of the longest ones.
     pub(crate) fn new(
         system: System,
         levels: Levels,
@@ -135,7 +133,7 @@ impl<'a> Pile<'a> {
     /// The nearest word of the lines, and the nearest of the codes that may stand on a line of this number.
     pub(crate) fn nears(&self, number: u32) -> Nears
         ensures { (system : System) (slicing : Slicing) (lines : List Samples) → IsPileOf system slicing lines self.now
-            → HasNear system number slicing lines result }
+            → HasNear (some_lines system number slicing lines) result }
     {
         nears_of(self.system, number, self.darks, self.lights)
     }
@@ -143,7 +141,7 @@ impl<'a> Pile<'a> {
     /// The nearest words of the lines, or none if they say nothing by these margins.
     pub(crate) fn nears_if(&self, number: u32, margins: &Margins) -> Option<Nears>
         ensures { (system : System) (slicing : Slicing) (lines : List Samples) → IsPileOf system slicing lines self.now
-            → HasNearUnlessSilent system number slicing margins.now self.now.count lines result }
+            → HasNearUnlessSilent margins.now self.now.count (some_lines system number slicing lines) result }
     {
         let mut dark = [0; ROOM];
         let mut light = [0; ROOM];

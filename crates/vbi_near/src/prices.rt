@@ -21,9 +21,9 @@ pub(crate) struct Prices<'a> {
 }
 
 impl<'a> Prices<'a> {
-    ghost use Rattle.vbi_near.specs.Priced.{IsPricedBy};
+    ghost use Rattle.vbi_near.specs.Prices.{IsPricedBy};
 
-    /// Those of the words that begin at `start`, with room for those of the digits.
+    /// The prices of the words that begin at `start`, with room for the prices of the digits.
     pub(crate) fn at(sums: &Sums, start: usize, digits: &'a mut [u32; 96]) -> Self
         requires { start + word_length sums.now.system ≤ width_of sums.now.system }
         ensures start { result.start ≡ start }

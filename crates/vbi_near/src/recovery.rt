@@ -1,9 +1,9 @@
 //! The words of a field's three lines, by their readings and the words that they may have.
 //!
-//! `said.rt` has what a nearest word says, `candidates.rt` finds the nearest words of a line and of two, as they are
-//! and levelled (`levelled.rt`), `confirmed.rt` has what a line says by itself, and `paired.rt` what lines 17 and 18
-//! say. Here a line's reading and what it says become what it shows. The definitions of `specs/Recovery.antt`,
-//! `Said.antt`, `Candidates.antt` and `Levelled.antt` go with them.
+//! `word_rule.rt` has what a nearest word says, `candidates.rt` finds the nearest words of a line and of two, as they
+//! are and levelled (`levelled_lines.rt`), `line_rule.rt` has what a line says by itself, and `pair_rule.rt` what lines
+//! 17 and 18 say. Here a line's reading and what it says become what it shows. The definitions of
+//! `specs/Recovery.antt`, `WordRule.antt`, `Candidates.antt` and `LevelledLines.antt` go with them.
 //!
 //! What a line shows is decided in this order, and a change of the order changes what a field shows:
 //!
@@ -14,24 +14,25 @@
 //!
 //! `rule_laws.rt` has worked rows of the rule. Whatever changes a word here changes the tables of docs/measured, too.
 //!
-//! As in `confirmed.rt`, lines as they are are searched only if the levelled ones say no word, and the contracts say
+//! As in `line_rule.rt`, lines as they are are searched only if the levelled ones say no word, and the contracts say
 //! that a call answers as the definitions do by whatever nearest words the lines have: there is one of each.
 
-ghost use Rattle.std.specs.Prelude.{◌≡◌, ℕ, ◌+◌, ◌*◌, ◌-◌, ◌&&◌, List, ◌∷◌, [], length, IsTrue};
+ghost use Rattle.std.specs.Prelude.{◌≡◌, ℕ, ◌+◌, ◌*◌, ◌&&◌, List, ◌∷◌, [], length, IsTrue};
 ghost use Rattle.vbi_words.specs.Geometry.{line_bytes, width_of};
 ghost use Rattle.vbi_words.specs.Levels.{row_levels};
 ghost use Rattle.vbi_line.specs.OneReading.{reading_of};
+ghost use Rattle.vbi_near.specs.Distances.{unit_of};
 ghost use Rattle.vbi_near.specs.Candidates.{Candidates, AreOf, AreOfBoth};
-ghost use Rattle.vbi_near.specs.Lines.{row_in, first_in, other_in};
+ghost use Rattle.vbi_near.specs.Lines.{line_in, second_in, third_in};
 ghost use Rattle.vbi_near.specs.Recovery.{Seen, own_of, is_open, are_open, stands_by, stands_of, said_by};
 ghost use Rattle.vbi_near.specs.Recovery.{recovered_as, IsSeen, IsOwn, IsRecovered, IsKept};
-ghost use Rattle.vbi_near.specs.Recovery.{row_at, row_reading, alone, shown_in};
+ghost use Rattle.vbi_near.specs.Recovery.{row_reading, alone, shown_in};
 
-use crate::confirmed::{is_confirmed, recovered_alone};
+use crate::line_rule::{is_confirmed, recovered_alone};
+use crate::lines::{Line, Pair, Rows};
 use crate::margins::GIVEN;
-use crate::paired::{Asked, levelled_said, pair_said};
-use crate::row::{Pair, Row, Rows};
-use crate::said::first_said;
+use crate::pair_rule::{Asked, levelled_said, pair_said};
+use crate::word_rule::first_said;
 use vbi_line::{read_bytes_twice, read_packed, slice_bytes};
 use vbi_words::{Levels, Outcome, Reading, System, Word24};
 
@@ -45,9 +46,9 @@ pub struct Recovered {
 }
 
 /// What a line that is read so is taken to show by its own levels.
-fn own_as_read(number: u32, levels: Levels, row: &Row, reading: &Reading) -> Recovered
-    requires { reading.now ≡ reading_of row.now.system (row_levels levels row.now.bytes.now) }
-    ensures { IsOwn row.now.system number levels (row_in row.now) result }
+fn own_as_read(line: &Line, reading: &Reading) -> Recovered
+    requires { reading.now ≡ reading_of line.now.system (row_levels line.now.levels line.now.bytes.now) }
+    ensures { IsOwn (line_in line.now) result }
 {
     let read = Recovered {
         outcome: reading.outcome,
@@ -57,21 +58,24 @@ fn own_as_read(number: u32, levels: Levels, row: &Row, reading: &Reading) -> Rec
         Outcome::Word(word) => word,
         _ => return read,
     };
-    if reading.pass != 2 || is_confirmed(number, levels, row, word) {
+    if reading.pass != 2 || is_confirmed(line, word) {
         return read;
     }
     Recovered {
-        outcome: read_packed(&slice_bytes(row.bytes, row.system, levels), row.system),
+        outcome: read_packed(
+            &slice_bytes(line.bytes, line.system, line.levels),
+            line.system,
+        ),
         pass: 0,
     }
 }
 
 /// What a line is taken to show by its own levels.
-fn own(number: u32, levels: Levels, row: &Row) -> Recovered
-    ensures { IsOwn row.now.system number levels (row_in row.now) result }
+fn own(line: &Line) -> Recovered
+    ensures { IsOwn (line_in line.now) result }
 {
-    let reading = read_bytes_twice(row.bytes, row.system, levels);
-    own_as_read(number, levels, row, &reading)
+    let reading = read_bytes_twice(line.bytes, line.system, line.levels);
+    own_as_read(line, &reading)
 }
 
 /// Whether a line has no word and isn't blank.
@@ -98,13 +102,13 @@ fn recovered_as(own: Recovered, said: Option<Word24>) -> Recovered
 }
 
 /// What a line shows that has no other beside it.
-fn shown_alone(number: u32, levels: Levels, row: &Row, own: Recovered) -> Recovered
-    requires { IsOwn row.now.system number levels (row_in row.now) own }
-    ensures { (seen : Seen) (both : Candidates) → IsSeen row.now.system number levels (row_in row.now) seen
-        → result ≡ shown_in alone (levels.white - levels.black) seen both }
+fn shown_alone(line: &Line, own: Recovered) -> Recovered
+    requires { IsOwn (line_in line.now) own }
+    ensures { (seen : Seen) (both : Candidates) → IsSeen (line_in line.now) seen
+        → result ≡ shown_in alone (unit_of line.now.levels) seen both }
 {
     if is_open(own.outcome) {
-        recovered_as(own, recovered_alone(number, levels, row))
+        recovered_as(own, recovered_alone(line))
     } else {
         own
     }
@@ -112,15 +116,14 @@ fn shown_alone(number: u32, levels: Levels, row: &Row, own: Recovered) -> Recove
 
 /// The words that lines 17 and 18 say if both are open. They are asked as they are only if one of them says none
 /// levelled.
-fn said_by_both(levels: Levels, pair: &Pair) -> (Option<Word24>, Option<Word24>)
-    ensures { (near again both : Candidates) → AreOf pair.now.system 17 levels (first_in pair.now) near
-        → AreOf pair.now.system 18 levels (other_in pair.now) again
-        → AreOfBoth pair.now.system 17 levels (first_in pair.now) (other_in pair.now) both
-        → let stands = stands_by (levels.white - levels.black) near again both in
-        (result.0 ≡ said_by stands (levels.white - levels.black) near both)
-        × (result.1 ≡ said_by stands (levels.white - levels.black) again both) }
+fn said_by_both(pair: &Pair) -> (Option<Word24>, Option<Word24>)
+    ensures { (near again both : Candidates) → AreOf (second_in pair.now) near → AreOf (third_in pair.now) again
+        → AreOfBoth (second_in pair.now) (third_in pair.now).row both
+        → let stands = stands_by (unit_of pair.now.levels) near again both in
+        (result.0 ≡ said_by stands (unit_of pair.now.levels) near both)
+        × (result.1 ≡ said_by stands (unit_of pair.now.levels) again both) }
 {
-    let said = levelled_said(levels, pair);
+    let said = levelled_said(pair);
     if said.0.is_some() && said.1.is_some() {
         return said;
     }
@@ -129,7 +132,7 @@ fn said_by_both(levels: Levels, pair: &Pair) -> (Option<Word24>, Option<Word24>)
         third: true,
         both: true,
     };
-    let given = pair_said(&GIVEN, levels, asked, pair);
+    let given = pair_said(&GIVEN, asked, pair);
     (first_said(said.0, given.0), first_said(said.1, given.1))
 }
 
@@ -141,41 +144,39 @@ fn are_both_open(outcome: Outcome, other: Outcome) -> bool
 }
 
 /// What lines 17 and 18 show.
-fn shown_pair(levels: Levels, pair: &Pair) -> (Recovered, Recovered)
-    ensures { (second third : Seen) (both : Candidates)
-        → IsSeen pair.now.system 17 levels (first_in pair.now) second
-        → IsSeen pair.now.system 18 levels (other_in pair.now) third
-        → (IsTrue (are_open (levels.white - levels.black) second third)
-        → AreOfBoth pair.now.system 17 levels (first_in pair.now) (other_in pair.now) both)
-        → let stands = stands_of (levels.white - levels.black) second third both in
-        (result.0 ≡ shown_in stands (levels.white - levels.black) second both)
-        × (result.1 ≡ shown_in stands (levels.white - levels.black) third both) }
+fn shown_pair(pair: &Pair) -> (Recovered, Recovered)
+    ensures { (second third : Seen) (both : Candidates) → IsSeen (second_in pair.now) second
+        → IsSeen (third_in pair.now) third
+        → (IsTrue (are_open (unit_of pair.now.levels) second third)
+        → AreOfBoth (second_in pair.now) (third_in pair.now).row both)
+        → let stands = stands_of (unit_of pair.now.levels) second third both in
+        (result.0 ≡ shown_in stands (unit_of pair.now.levels) second both)
+        × (result.1 ≡ shown_in stands (unit_of pair.now.levels) third both) }
 {
-    let second = pair.first();
-    let third = pair.other();
-    let own_second = own(17, levels, &second);
-    let own_third = own(18, levels, &third);
+    let second = pair.second();
+    let third = pair.third();
+    let own_second = own(&second);
+    let own_third = own(&third);
     if are_both_open(own_second.outcome, own_third.outcome) {
-        let said = said_by_both(levels, pair);
+        let said = said_by_both(pair);
         return (
             recovered_as(own_second, said.0),
             recovered_as(own_third, said.1),
         );
     }
     (
-        shown_alone(17, levels, &second, own_second),
-        shown_alone(18, levels, &third, own_third),
+        shown_alone(&second, own_second),
+        shown_alone(&third, own_third),
     )
 }
 
 /// What line 16 shows.
-fn shown_first(levels: Levels, row: &Row) -> Recovered
-    ensures { (seen : Seen) (both : Candidates)
-        → IsSeen row.now.system 16 levels (row_in row.now) seen
-        → result ≡ shown_in alone (levels.white - levels.black) seen both }
+fn shown_first(line: &Line) -> Recovered
+    ensures { (seen : Seen) (both : Candidates) → IsSeen (line_in line.now) seen
+        → result ≡ shown_in alone (unit_of line.now.levels) seen both }
 {
-    let own = own(16, levels, row);
-    shown_alone(16, levels, row, own)
+    let own = own(line);
+    shown_alone(line, own)
 }
 
 /// What lines 16, 17 and 18 of a field show, by the bytes of their rows, which lie one after the other, as do the
@@ -192,20 +193,22 @@ pub fn recover_rows(system: System, levels: Levels, rows: &[u8], erased: &[bool]
 {
     let rows = Rows {
         system,
+        levels,
         bytes: rows,
         erased,
         count: 3,
     };
-    let second = rows.row(1);
-    let third = rows.row(2);
+    let second = rows.line(17, 1);
+    let third = rows.line(18, 2);
     let pair = Pair {
         system,
+        levels,
         bytes: second.bytes,
         erased: second.erased,
         other_bytes: third.bytes,
         other_erased: third.erased,
     };
-    let first = shown_first(levels, &rows.row(0));
-    let others = shown_pair(levels, &pair);
+    let first = shown_first(&rows.line(16, 0));
+    let others = shown_pair(&pair);
     [first, others.0, others.1]
 }

@@ -7,8 +7,8 @@ ghost use Rattle.vbi_words.specs.Geometry.{start_of};
 ghost use Rattle.vbi_words.specs.Drawn.{boundary};
 ghost use Rattle.vbi_words.specs.WorkedLines.{changing};
 ghost use Rattle.vbi_near.specs.Pictures.{picture_of};
-ghost use Rattle.vbi_near.specs.Shorter.{begun_later, ended_earlier, row_of_halves};
-ghost use Rattle.vbi_near.specs.Stretched.{stretched_length, stretched_offset, stretched_picture};
+ghost use Rattle.vbi_near.specs.ShorterSignal.{begun_later, ended_earlier, row_of_halves};
+ghost use Rattle.vbi_near.specs.StretchedCells.{stretched_length, stretched_offset, stretched_picture};
 
 /// A word on cells of a hundred hundredths of their length is drawn as any word is, from each start.
 pub fn stretched_by_none()

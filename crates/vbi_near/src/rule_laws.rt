@@ -2,12 +2,12 @@
 //! holds each number of the rule.
 
 ghost use Rattle.std.specs.Prelude.{◌≡◌, ◌∷◌, [], Some, None, map, true, false};
-ghost use Rattle.vbi_near.specs.Piled.{said_together};
+ghost use Rattle.vbi_near.specs.PileRule.{said_together};
 ghost use Rattle.vbi_near.specs.Candidates.{are_alike_by};
 ghost use Rattle.vbi_near.specs.WorkedRules.{code_beside, beyond_at, beyond_beside};
 ghost use Rattle.vbi_words.specs.declared.outcome.Outcome.TheVariants.{Word, Blank, Change};
 ghost use Rattle.vbi_near.specs.Margins.{levelled_margins, given_margins};
-ghost use Rattle.vbi_near.specs.Said.{said_of, unless_beyond};
+ghost use Rattle.vbi_near.specs.WordRule.{said_of, unless_beyond};
 ghost use Rattle.vbi_near.specs.Recovery.{recovered_of};
 ghost use Rattle.vbi_near.specs.WorkedRules.{near_with, cut_at, as_code, as_other, beside, from_none, ten_ahead};
 ghost use Rattle.vbi_near.specs.WorkedRules.{code_halved_at, other_halved_at, code_ahead, other_ahead};

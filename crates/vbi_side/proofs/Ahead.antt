@@ -1,12 +1,12 @@
 -- A believed number is one of the field's two sightings, judged beside the other.
-use Rattle.std.proofs.lemmas.Bool.Decides.{eqb_tells}
-use Rattle.std.proofs.Math.Dec.{eqb}
-use Rattle.std.proofs.Common.{◌≡◌, ◌≢◌, ℕ, true, false, List, arith, sym, ◌∙◌, subst, inl, inr, ap}
+use Rattle.std.proofs.lemmas.Bool.{cases_eq}
+use Rattle.std.proofs.Common.{◌≡◌, ℕ, List, arith, sym, ◌∙◌, subst, inl, inr, ap}
 use Rattle.std.specs.Prelude.{Option, Some, None, slice_get, ◌⊎◌, ◌↔◌}
 use Rattle.vbi_side.specs.declared.sighting.Sighting.{Sighting}
 use Rattle.vbi_side.specs.declared.sighting.Sightings.{Sightings}
 use Rattle.vbi_side.specs.declared.pace.Pace.{Pace}
 use Rattle.vbi_side.specs.Sightings.{Has, Shows}
+use Rattle.vbi_side.specs.Paces.{spot}
 use Rattle.vbi_side.specs.Beliefs.{Believed}
 use Rattle.vbi_side.specs.Ahead.{IsBelieved}
 
@@ -16,7 +16,8 @@ one_number sighting m n has others = sym has.1 ∙ others.1
 -- a number that is ahead of the other sighting's is believed
 pub ahead_believed : (pace : Pace) (fields : List Sightings) (i n : ℕ) (field : Sightings)
     → slice_get fields i ≡ Some field
-    → IsBelieved pace fields i field.line_17 field.line_18 n ⊎ IsBelieved pace fields i field.line_18 field.line_17 n
+    → IsBelieved pace fields (spot i n) field.line_17 field.line_18
+    ⊎ IsBelieved pace fields (spot i n) field.line_18 field.line_17
     → Believed pace fields i n
 ahead_believed pace fields i n field is (inl a) = record {
   shown = subst (λ f. Shows f n) (sym is) (inl a.has);
@@ -38,7 +39,8 @@ ahead_believed pace fields i n field is (inr a) = record {
 -- and the other way round
 pub believed_ahead : (pace : Pace) (fields : List Sightings) (i n : ℕ) (field : Sightings)
     → slice_get fields i ≡ Some field → Believed pace fields i n
-    → IsBelieved pace fields i field.line_17 field.line_18 n ⊎ IsBelieved pace fields i field.line_18 field.line_17 n
+    → IsBelieved pace fields (spot i n) field.line_17 field.line_18
+    ⊎ IsBelieved pace fields (spot i n) field.line_18 field.line_17
 believed_ahead pace fields i n field is b = elim (subst (λ f. Shows f n) is b.shown) [
   | inl h ↦ inl (record {
     has = h;
@@ -55,11 +57,10 @@ believed_ahead pace fields i n field is b = elim (subst (λ f. Shows f n) is b.s
 -- a field has at most one believed number
 pub one_believed : (pace : Pace) (fields : List Sightings) (i m n : ℕ)
     → Believed pace fields i m → Believed pace fields i n → m ≡ n
-one_believed pace fields i m n a b = go (eqb_tells m n)
-  where
-    go : ((eqb m n ≡ true) × (m ≡ n)) ⊎ ((eqb m n ≡ false) × (m ≢ n)) → m ≡ n
-    go (inl (t, e)) = e
-    go (inr (f, apart)) = absurd (omega (arith, a.ahead n b.shown (λ e. apart (sym e)), b.ahead m a.shown apart))
+one_believed pace fields i m n a b = elim (cases_eq m n) [
+  | inl e ↦ e
+  | inr apart ↦ absurd (omega (arith, a.ahead n b.shown (λ e. apart (sym e)), b.ahead m a.shown apart))
+]
 
 -- ---- of a field's two lines, if each is judged beside the other
 

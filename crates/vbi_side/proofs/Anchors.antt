@@ -52,3 +52,5 @@ one_skipped i = go (leb_tells 100 i) (leb_tells 100 (suc i))
     go (inl (t, le)) (inr (u, less)) = absurd (omega (arith, le, less))
     go (inr (t, lt)) (inl (u, more)) = rw t (rw u (omega (arith, lt)))
     go (inr (t, lt)) (inr (u, less)) = rw t (rw u (omega arith))
+
+pub ruleset discs = (video_runs_on, both_count, one_skipped)

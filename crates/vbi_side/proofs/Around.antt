@@ -1,44 +1,23 @@
 -- The nearest numbers around a field, and what they leave for it.
-use Rattle.std.proofs.Common.{◌≡◌, ℕ, ◌+◌, ◌<◌, ◌≤◌, Bool, true, false, List, arith, ap, sym, ◌∙◌, subst, get_or}
+use Rattle.std.proofs.lemmas.Bool.{cases_lt}
+use Rattle.std.proofs.Common.{◌≡◌, ℕ, ◌<◌, ◌≤◌, Bool, true, false, List, arith, ap, sym, ◌∙◌, subst, get_or}
 use Rattle.std.proofs.Common.{length, inl, inr}
-use Rattle.std.specs.Prelude.{Option, Some, None, ◌↔◌, ◌⊎◌, unwrap_or, nat_le}
-use Rattle.std.proofs.lemmas.Bool.Decides.{leb_tells}
+use Rattle.std.specs.Prelude.{Option, Some, None, ◌↔◌, ◌⊎◌, unwrap_or}
 use Rattle.std.proofs.lemmas.Option.{slice_get-get_or, get_or_from_slice_get}
 use Rattle.vbi_side.specs.declared.number.Number.{Number}
 use Rattle.vbi_side.specs.declared.sighting.Sightings.{Sightings}
 use Rattle.vbi_side.specs.declared.pace.Pace.{Pace}
-use Rattle.vbi_side.specs.Paces.{Count, nearly}
+use Rattle.vbi_side.specs.Paces.{spot, Count, nearly}
 use Rattle.vbi_side.specs.Beliefs.{Believed}
-use Rattle.vbi_side.specs.Due.{slack_of, Leaves, IsLeft, ShowsInstead, ShowsTwice, Due}
-use Rattle.vbi_side.specs.Nearest.{IsBefore, IsAfter, NoneBefore, NoneAfter, AllNearly}
+use Rattle.vbi_side.specs.DueNumbers.{slack_of, Leaves, IsLeft, ShowsInstead, ShowsTwice, Due}
+use Rattle.vbi_side.specs.Nearest.{IsBefore, IsAfter, AllPass}
 use Rattle.vbi_side.specs.Numbers.{believed, IsMarked}
 use Rattle.vbi_side.proofs.DueLemmas.{slack_most, slack_grows, nearly_more, whole_on, nearly_on, nearly_back}
+use Rattle.vbi_side.proofs.DueLemmas.{left_alike}
 
 -- a test holds or doesn't
 pub not_both : {b : Bool} → b ≡ false → b ≡ true → ⊥
 not_both e f = cc
-
--- ---- numbers that two ways of asking find alike
-
-pub left_along : (P Q : ℕ → ℕ → Type 0) (pace : Pace) (i n : ℕ) → ((k l : ℕ) → P k l ↔ Q k l)
-    → IsLeft P pace i n → IsLeft Q pace i n
-left_along P Q pace i n same (j, m, k, l, leaves) = (
-  j,
-  m,
-  k,
-  l,
-  record {
-    before = leaves.before;
-    near = leaves.near;
-    after = leaves.after;
-    far = leaves.far;
-    first = (same j m).0 leaves.first;
-    last = (same k l).0 leaves.last;
-    on = leaves.on;
-    back = leaves.back;
-    between = λ h x more less has. leaves.between h x more less ((same h x).1 has);
-  },
-)
 
 -- ---- what the two places that are found leave
 
@@ -49,52 +28,40 @@ none_some found a none some = cc
 one_marked : (numbers : List Number) (j m n : ℕ) → IsMarked numbers j m → IsMarked numbers j n → m ≡ n
 one_marked numbers j m n one other = ap (λ (o : Option Number). (unwrap_or o (believed m)).number) (sym one ∙ other)
 
-pub no_before : (numbers : List Number) (pace : Pace) (i n : ℕ) → NoneBefore (IsMarked numbers) pace i
-    → IsLeft (IsMarked numbers) pace i n → ⊥
-no_before numbers pace i n none (j, m, k, l, leaves) =
-    none j m leaves.near leaves.before (whole_on pace j m i n leaves.before leaves.on) leaves.first
-
-pub no_after : (numbers : List Number) (pace : Pace) (i n : ℕ) → NoneAfter (IsMarked numbers) pace i
-    → IsLeft (IsMarked numbers) pace i n → ⊥
-no_after numbers pace i n none (j, m, k, l, leaves) =
-    none k l leaves.after leaves.far (whole_on pace i n k l leaves.after leaves.back) leaves.last
-
 -- the nearest field before leads on to what is left
 nearest_on : (numbers : List Number) (pace : Pace) (i j m k l b x n : ℕ)
-    → Leaves (IsMarked numbers) pace j m k l i n → IsBefore (IsMarked numbers) pace i b x
+    → Leaves (IsMarked numbers) pace (spot j m) (spot k l) (spot i n) → IsBefore (IsMarked numbers) pace i b x
     → (j ≤ b) × Count pace b x i n
-nearest_on numbers pace i j m k l b x n leaves is = go (leb_tells j b) (leb_tells b j)
+nearest_on numbers pace i j m k l b x n leaves is = go (cases_lt b j) (cases_lt j b)
   where
-    go : ((nat_le j b ≡ true) × (j ≤ b)) ⊎ ((nat_le j b ≡ false) × (b < j))
-        → ((nat_le b j ≡ true) × (b ≤ j)) ⊎ ((nat_le b j ≡ false) × (j < b)) → (j ≤ b) × Count pace b x i n
-    go (inr (f, less)) rest =
+    go : (b < j) ⊎ (j ≤ b) → (j < b) ⊎ (b ≤ j) → (j ≤ b) × Count pace b x i n
+    go (inl less) rest =
         absurd (is.nearest j m less leaves.before (whole_on pace j m i n leaves.before leaves.on) leaves.first)
-    go (inl (t, le)) (inr (f, less)) = (
+    go (inr le) (inl less) = (
       le,
       nearly_on pace (slack_of j k) i n b x (slack_most j k) is.before is.whole
           (leaves.between b x less (omega (arith, is.before, leaves.after)) is.has),
     )
-    go (inl (t, le)) (inl (s, ge)) =
+    go (inr le) (inr ge) =
         let here : j ≡ b = omega (arith, le, ge) in
         let same : m ≡ x = one_marked numbers b m x (subst (λ f. IsMarked numbers f m) here leaves.first) is.has in
         (le, subst (λ f. Count pace f x i n) here (subst (λ p. Count pace j p i n) same leaves.on))
 
 -- and so does the nearest later one
 nearest_back : (numbers : List Number) (pace : Pace) (i j m k l c y n : ℕ)
-    → Leaves (IsMarked numbers) pace j m k l i n → IsAfter (IsMarked numbers) pace i c y
+    → Leaves (IsMarked numbers) pace (spot j m) (spot k l) (spot i n) → IsAfter (IsMarked numbers) pace i c y
     → (c ≤ k) × Count pace i n c y
-nearest_back numbers pace i j m k l c y n leaves is = go (leb_tells c k) (leb_tells k c)
+nearest_back numbers pace i j m k l c y n leaves is = go (cases_lt k c) (cases_lt c k)
   where
-    go : ((nat_le c k ≡ true) × (c ≤ k)) ⊎ ((nat_le c k ≡ false) × (k < c))
-        → ((nat_le k c ≡ true) × (k ≤ c)) ⊎ ((nat_le k c ≡ false) × (c < k)) → (c ≤ k) × Count pace i n c y
-    go (inr (f, less)) rest =
+    go : (k < c) ⊎ (c ≤ k) → (c < k) ⊎ (k ≤ c) → (c ≤ k) × Count pace i n c y
+    go (inl less) rest =
         absurd (is.nearest k l leaves.after less (whole_on pace i n k l leaves.after leaves.back) leaves.last)
-    go (inl (t, le)) (inr (f, less)) = (
+    go (inr le) (inl less) = (
       le,
       nearly_back pace (slack_of j k) i n c y (slack_most j k) is.after is.whole
           (leaves.between c y (omega (arith, is.after, leaves.before)) less is.has),
     )
-    go (inl (t, le)) (inl (s, ge)) =
+    go (inr le) (inr ge) =
         let here : k ≡ c = omega (arith, le, ge) in
         let same : l ≡ y = one_marked numbers c l y (subst (λ f. IsMarked numbers f l) here leaves.last) is.has in
         (le, subst (λ f. Count pace i n f y) here (subst (λ p. Count pace i n k p) same leaves.back))
@@ -103,31 +70,31 @@ nearest_back numbers pace i j m k l c y n leaves is = go (leb_tells c k) (leb_te
 pub left_counts : (numbers : List Number) (pace : Pace) (i b x c y n : ℕ)
     → IsBefore (IsMarked numbers) pace i b x → IsAfter (IsMarked numbers) pace i c y
     → IsLeft (IsMarked numbers) pace i n → Count pace b x i n × Count pace i n c y
-left_counts numbers pace i b x c y n before after (j, m, k, l, leaves) = (
-  (nearest_on numbers pace i j m k l b x n leaves before).1,
-  (nearest_back numbers pace i j m k l c y n leaves after).1,
+left_counts numbers pace i b x c y n before after (first, last, leaves) = (
+  (nearest_on numbers pace i first.field first.number last.field last.number b x n leaves before).1,
+  (nearest_back numbers pace i first.field first.number last.field last.number c y n leaves after).1,
 )
 
 -- and from it nothing between these is off
 pub left_nearly : (numbers : List Number) (pace : Pace) (i b x c y n : ℕ)
     → IsBefore (IsMarked numbers) pace i b x → IsAfter (IsMarked numbers) pace i c y
-    → IsLeft (IsMarked numbers) pace i n → AllNearly (IsMarked numbers) pace (slack_of b c) b c i n
-left_nearly numbers pace i b x c y n before after (j, m, k, l, leaves) h z more less has =
-    let first = (nearest_on numbers pace i j m k l b x n leaves before).0 in
-    let last = (nearest_back numbers pace i j m k l c y n leaves after).0 in
+    → IsLeft (IsMarked numbers) pace i n → AllPass (IsMarked numbers) (nearly pace (slack_of b c) (spot i n)) b c
+left_nearly numbers pace i b x c y n before after (one, other, leaves) h z more less has =
+    let j = one.field in
+    let k = other.field in
+    let first = (nearest_on numbers pace i j one.number k other.number b x n leaves before).0 in
+    let last = (nearest_back numbers pace i j one.number k other.number c y n leaves after).0 in
     nearly_more pace (slack_of j k) (slack_of b c) i n h z (slack_grows j k b c first last)
     (leaves.between h z (omega (arith, first, more)) (omega (arith, last, less)) has)
 
 -- what the nearest ones count to is left, if from it nothing between them is off
 pub nearest_leave : (numbers : List Number) (pace : Pace) (i b x c y n : ℕ)
     → IsBefore (IsMarked numbers) pace i b x → IsAfter (IsMarked numbers) pace i c y
-    → Count pace b x i n → Count pace i n c y → AllNearly (IsMarked numbers) pace (slack_of b c) b c i n
+    → Count pace b x i n → Count pace i n c y → AllPass (IsMarked numbers) (nearly pace (slack_of b c) (spot i n)) b c
     → IsLeft (IsMarked numbers) pace i n
 nearest_leave numbers pace i b x c y n before after on back between = (
-  b,
-  x,
-  c,
-  y,
+  spot b x,
+  spot c y,
   record {
     before = before.before;
     near = before.near;
@@ -154,10 +121,10 @@ left_due pace fields numbers i answer marked none vacant unread left n = (
     unbelieved = none;
     vacant = vacant;
     unread = unread;
-    left = left_along (IsMarked numbers) (Believed pace fields) pace i n marked ((left n).0 e);
+    left = left_alike (IsMarked numbers) (Believed pace fields) pace i n (λ k l near. marked k l) ((left n).0 e);
   },
-  λ due. (left n).1 (left_along (Believed pace fields) (IsMarked numbers) pace i n
-      (λ k l. ((marked k l).1, (marked k l).0)) due.left),
+  λ due. (left n).1 (left_alike (Believed pace fields) (IsMarked numbers) pace i n
+      (λ k l near. ((marked k l).1, (marked k l).0)) due.left),
 )
 
 -- nothing is found, and nothing is there
@@ -186,32 +153,6 @@ pub code_at : (fields : List Sightings) (i : ℕ) (d : Sightings) → ShowsInste
     → 1 ≤ (get_or fields i d).instead
 code_at fields i d (field, at, shows) =
     subst (λ (f : Sightings). 1 ≤ f.instead) (sym (get_or_from_slice_get fields i field d at)) shows
-
--- a number that is off is found
-pub off_one : (numbers : List Number) (pace : Pace) (slack j k i n f : ℕ) (d : Number) → f < length numbers
-    → j < f → f < k → (get_or numbers f d).state ≡ 1
-    → nearly pace slack i n f (get_or numbers f d).number ≡ false
-    → AllNearly (IsMarked numbers) pace slack j k i n → ⊥
-unfolding marked_at
-off_one numbers pace slack j k i n f d within more less is off all =
-    let marked = marked_at numbers f d within is in not_both off (all f marked.0 more less marked.1)
-
--- with one field more that isn't off
-pub nearly_one_more : (numbers : List Number) (pace : Pace) (slack j i n f : ℕ)
-    → AllNearly (IsMarked numbers) pace slack j f i n
-    → ((x : ℕ) → IsMarked numbers f x → nearly pace slack i n f x ≡ true)
-    → AllNearly (IsMarked numbers) pace slack j (f + 1) i n
-nearly_one_more numbers pace slack j i n f all one h x more less has = go (leb_tells f h)
-  where
-    go : ((nat_le f h ≡ true) × (f ≤ h)) ⊎ ((nat_le f h ≡ false) × (h < f)) → nearly pace slack i n h x ≡ true
-    go (inl (t, le)) =
-        let here : f ≡ h = omega (arith, le, less) in
-        subst (λ g. nearly pace slack i n g x ≡ true) here (one x (subst (λ g. IsMarked numbers g x) (sym here) has))
-    go (inr (s, lt)) = all h x more lt has
-
-pub number_at : (numbers : List Number) (i n : ℕ) (d : Number) → IsMarked numbers i n → (get_or numbers i d).number ≡ n
-number_at numbers i n d marked =
-    ap (λ (a : Number). a.number) (get_or_from_slice_get numbers i (believed n) d marked)
 
 -- both lines show one number just where they say so
 pub twice_at : (fields : List Sightings) (i : ℕ) (d : Sightings) → i < length fields

@@ -1,9 +1,7 @@
 -- A believed chapter is that of one of the field's two lines, judged beside the other; and what is answered of a field.
+use Rattle.std.proofs.lemmas.Bool.{cases_eq}
 use Rattle.vbi_side.proofs.Filling.{unlike}
-use Rattle.std.proofs.lemmas.Bool.Decides.{eqb_tells}
-use Rattle.std.proofs.Math.Dec.{eqb}
-use Rattle.std.proofs.Common.{◌≡◌, ◌≢◌, ℕ, true, false, List, arith, sym}
-use Rattle.std.proofs.Common.{◌∙◌, subst, inl, inr, ap, refl}
+use Rattle.std.proofs.Common.{◌≡◌, ℕ, List, arith, sym, ◌∙◌, subst, inl, inr, ap, refl}
 use Rattle.std.specs.Prelude.{Option, Some, slice_get, ◌⊎◌, unwrap_or}
 use Rattle.vbi_side.specs.declared.sighting.Sighting.{Sighting}
 use Rattle.vbi_side.specs.declared.sighting.Sightings.{Sightings}
@@ -63,11 +61,10 @@ believed_line fields i n field is b = elim (subst (λ f. Shows f n) is b.shown) 
 -- a field has at most one believed chapter
 pub one_chapter : (fields : List Sightings) (i m n : ℕ)
     → BelievedChapter fields i m → BelievedChapter fields i n → m ≡ n
-one_chapter fields i m n a b = go (eqb_tells m n)
-  where
-    go : ((eqb m n ≡ true) × (m ≡ n)) ⊎ ((eqb m n ≡ false) × (m ≢ n)) → m ≡ n
-    go (inl (t, e)) = e
-    go (inr (f, apart)) = absurd (omega (arith, a.ahead n b.shown (λ e. apart (sym e)), b.ahead m a.shown apart))
+one_chapter fields i m n a b = elim (cases_eq m n) [
+  | inl e ↦ e
+  | inr apart ↦ absurd (omega (arith, a.ahead n b.shown (λ e. apart (sym e)), b.ahead m a.shown apart))
+]
 
 -- ---- answers
 

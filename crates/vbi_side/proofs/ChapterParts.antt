@@ -1,29 +1,13 @@
 -- A chapter is believed of a field by a part of its capture just if it is by the whole.
-use Rattle.std.proofs.Common.{◌≡◌, ℕ, ◌+◌, ◌*◌, ◌≤◌, Bool, List, refl, arith, ap₂, sym, subst}
-use Rattle.std.specs.Prelude.{Option, slice_get, ◌⊎◌, ◌↔◌, nat_le, nat_lt, ◌&&◌, ◌||◌}
+use Rattle.std.proofs.Common.{◌≡◌, ℕ, ◌+◌, ◌*◌, ◌≤◌, Bool, List, refl, arith, ap₂, sym}
+use Rattle.std.specs.Prelude.{slice_get, ◌⊎◌, ◌↔◌, nat_le, nat_lt, ◌&&◌, ◌||◌}
 use Rattle.std.proofs.lemmas.Bool.{leb-true, le-leb}
 use Rattle.vbi_side.specs.declared.sighting.Sightings.{Sightings}
-use Rattle.vbi_side.specs.Sightings.{Shows}
 use Rattle.vbi_side.specs.Beliefs.{reach}
 use Rattle.vbi_side.specs.Chapters.{says, opposes, said_weight, opposed_weight, BelievedChapter}
 use Rattle.vbi_side.specs.Truth.{IsNear}
+use Rattle.vbi_side.proofs.ChapterTruth.{alike}
 use Rattle.vbi_side.proofs.Parts.{same_truth, weight_below-later}
-
--- fields of which the codes nearby weigh the same believe the same chapters
-alike : (one other : List Sightings) (i j n : ℕ) → slice_get one i ≡ slice_get other j
-    → ((m : ℕ) → said_weight one i m ≡ said_weight other j m)
-    → opposed_weight one i n ≡ opposed_weight other j n → BelievedChapter one i n → BelievedChapter other j n
-alike one other i j n here said opposed is = record {
-  shown = subst (λ (o : Option Sightings). Shows o n) here is.shown;
-  said = omega (arith, is.said, said n);
-  unopposed = omega (arith, is.unopposed, opposed);
-  ahead = λ m shown apart. omega (
-    arith,
-    is.ahead m (subst (λ (o : Option Sightings). Shows o m) (sym here) shown) apart,
-    said m,
-    said n,
-  );
-}
 
 -- what opposes a chapter, so many fields later
 le_later : (first j i : ℕ) → nat_le j i ≡ nat_le (first + j) (first + i)

@@ -1,11 +1,8 @@
 -- What a believed chapter says of the disc.
-use Rattle.std.proofs.Common.{◌≡◌, ◌≢◌, ℕ, ◌+◌, ◌*◌, ◌<◌, ◌≤◌, true, false, List}
-use Rattle.std.proofs.Common.{arith, sym, subst, inl, inr}
+use Rattle.std.proofs.Common.{◌≡◌, ◌≢◌, ℕ, ◌+◌, ◌*◌, ◌<◌, ◌≤◌, true, List, arith, sym, subst, inl, inr}
 use Rattle.std.specs.Prelude.{Option, Some, slice_get, ◌⊎◌, nat_le, nat_lt, not, ◌&&◌, ◌==◌}
-use Rattle.std.proofs.Math.Dec.{eqb}
-use Rattle.std.proofs.lemmas.Bool.{leb-true, ltb-true, eqb-true, le-leb, lt-ltb, or_left, or_right, or_cases}
+use Rattle.std.proofs.lemmas.Bool.{cases_eq, leb-true, ltb-true, eqb-true, le-leb, lt-ltb, or_left, or_right, or_cases}
 use Rattle.std.proofs.lemmas.Bool.{and_parts, and_from, cases_lt}
-use Rattle.std.proofs.lemmas.Bool.Decides.{eqb_tells}
 use Rattle.vbi_side.specs.declared.sighting.Sightings.{Sightings}
 use Rattle.vbi_side.specs.Sightings.{Shows}
 use Rattle.vbi_side.specs.Beliefs.{reach, enough}
@@ -26,7 +23,7 @@ near recorded fields i n b few =
 
 -- a lower chapter is opposed by what stands before it, a higher one by what stands after it
 pub within : (fields : List Sightings) (i n m : ℕ) → BelievedChapter fields i n → IsWithin fields i m → n ≡ m
-within fields i n m b (before, after) = go (eqb_tells n m) (cases_lt n m)
+within fields i n m b (before, after) = go (cases_eq n m) (cases_lt n m)
   where
     lower : (j k : ℕ) → n < m → (nat_lt j i && (k == m)) ≡ true → opposes i n j k ≡ true
     lower j k less e =
@@ -42,10 +39,9 @@ within fields i n m b (before, after) = go (eqb_tells n m) (cases_lt n m)
         (and_from (nat_le i j) (nat_lt k n) (le-leb i j (omega (arith, ltb-true i j p.0)))
         (lt-ltb k n (omega (arith, less, eqb-true k m p.1))))
 
-    go : ((eqb n m ≡ true) × (n ≡ m)) ⊎ ((eqb n m ≡ false) × (n ≢ m))
-        → (n < m) ⊎ (m ≤ n) → n ≡ m
-    go (inl (t, e)) order = e
-    go (inr (f, apart)) (inl less) =
+    go : (n ≡ m) ⊎ (n ≢ m) → (n < m) ⊎ (m ≤ n) → n ≡ m
+    go (inl e) order = e
+    go (inr apart) (inl less) =
         absurd (omega (
           arith,
           before,
@@ -53,7 +49,7 @@ within fields i n m b (before, after) = go (eqb_tells n m) (cases_lt n m)
           weight_below-narrower (λ j k. nat_lt j i && (k == m)) (opposes i n) fields i (2 * reach + 1) (omega arith)
               (λ j k near. lower j k less),
         ))
-    go (inr (f, apart)) (inr more) =
+    go (inr apart) (inr more) =
         absurd (omega (
           arith,
           after,
@@ -112,25 +108,26 @@ complete recorded fields i m rises has few shown said ahead = record {
 
 -- ---- whatever the truth
 
+-- fields of which the codes nearby weigh the same believe the same chapters
+pub alike : (one other : List Sightings) (i j n : ℕ) → slice_get one i ≡ slice_get other j
+    → ((m : ℕ) → said_weight one i m ≡ said_weight other j m)
+    → opposed_weight one i n ≡ opposed_weight other j n → BelievedChapter one i n → BelievedChapter other j n
+alike one other i j n here said opposed is = record {
+  shown = subst (λ (o : Option Sightings). Shows o n) here is.shown;
+  said = omega (arith, is.said, said n);
+  unopposed = omega (arith, is.unopposed, opposed);
+  ahead = λ m shown apart. omega (
+    arith,
+    is.ahead m (subst (λ (o : Option Sightings). Shows o m) (sym here) shown) apart,
+    said m,
+    said n,
+  );
+}
+
 pub only_near : (fields others : List Sightings) (i n : ℕ)
     → ((j : ℕ) → IsNear i j → slice_get fields j ≡ slice_get others j)
     → BelievedChapter fields i n → BelievedChapter others i n
-only_near fields others i n agree b =
-    let here : slice_get fields i ≡ slice_get others i = agree i (omega arith, omega arith) in
-    let same : (m : ℕ) → said_weight fields i m ≡ said_weight others i m
-    = λ m. weight_below-agree (says i m) fields others i (2 * reach + 1) (omega arith) agree in
-    record {
-      shown = subst (λ f. Shows f n) here b.shown;
-      said = subst (λ w. enough ≤ w) (same n) b.said;
-      unopposed = omega (
-        arith,
-        b.unopposed,
-        weight_below-agree (opposes i n) fields others i (2 * reach + 1) (omega arith) agree,
-      );
-      ahead = λ m shown apart. omega (
-        arith,
-        same m,
-        same n,
-        b.ahead m (subst (λ f. Shows f m) (sym here) shown) apart,
-      );
-    }
+only_near fields others i n agree =
+    alike fields others i i n (agree i (omega arith, omega arith))
+    (λ m. weight_below-agree (says i m) fields others i (2 * reach + 1) (omega arith) agree)
+    (weight_below-agree (opposes i n) fields others i (2 * reach + 1) (omega arith) agree)

@@ -43,7 +43,7 @@ unseen_none fields i inside unseen n shown =
 pub seen_uncompleted : (system : System) (line_16 : Shown) (fields : List Sightings) (i word : ℕ) → i < length fields
     → IsSeenIn fields i → IsCompleted system line_16 fields i word → ⊥
 seen_uncompleted system line_16 fields i word inside seen completed =
-    let shown = seen_shown fields i inside seen in completed.2.unseen shown.0 shown.1
+    let shown = seen_shown fields i inside seen in completed.3.unseen shown.0 shown.1
 
 same_number : (m n : ℕ) → Some m ≡ Some n → m ≡ n
 same_number m n e = cc
@@ -51,7 +51,8 @@ same_number m n e = cc
 -- the word of the elected number
 pub completed_by : (system : System) (line_16 : Shown) (fields : List Sightings) (i part number : ℕ) (found : Option ℕ)
     → i < length fields → (IsSeenIn fields i → ⊥) → part_of system line_16 ≡ Some part
-    → ((m : ℕ) → (Some number ≡ Some m) ↔ IsElected (minute_of system) fields i part m)
+    → ((m : ℕ) → (Some number ≡ Some m)
+    ↔ IsElected (record { minute = minute_of system; field = i; part = part }) fields m)
     → (number / minute_of system < 600 → found ≡ Some (time_word (number / minute_of system)))
     → (600 ≤ number / minute_of system → found ≡ None)
     → (word : ℕ) → (found ≡ Some word) ↔ IsCompleted system line_16 fields i word
@@ -67,9 +68,9 @@ completed_by system line_16 fields i part number found inside unseen has elected
     to (inr (f, lt)) e = (
       part,
       number,
+      has,
       record {
         unseen = unseen_none fields i inside unseen;
-        part_is = has;
         elected = (elected number).0 refl;
         early = lt;
         word_is = same_number word _ (sym e ∙ early lt);
@@ -77,10 +78,11 @@ completed_by system line_16 fields i part number found inside unseen has elected
     )
 
     from : IsCompleted system line_16 fields i word → found ≡ Some word
-    from (other, m, completed) =
-        let part_same : other ≡ part = same_number other part (sym completed.part_is ∙ has) in
+    from (other, m, has_other, completed) =
+        let part_same : other ≡ part = same_number other part (sym has_other ∙ has) in
         let number_same : number ≡ m = same_number number m ((elected m).1
-        (subst (λ p. IsElected (minute_of system) fields i p m) part_same completed.elected)) in
+        (subst (λ p. IsElected (record { minute = minute_of system; field = i; part = p }) fields m) part_same
+        completed.elected)) in
         let lt : number / minute_of system < 600
         = subst (λ n. n / minute_of system < 600) (sym number_same) completed.early in
         early lt ∙ ap (λ n. Some (time_word (n / minute_of system))) number_same ∙ ap Some (sym completed.word_is)

@@ -1,15 +1,10 @@
 -- What a clock leaves out, and where the other numbers stand.
-use Rattle.vbi_side.proofs.Truth.{near_same}
 use Rattle.std.proofs.Common.{◌≡◌, ℕ, zero, suc, ◌+◌, ◌*◌, ◌-◌, ◌/◌, ◌<◌, ◌≤◌, true, refl, arith, ap, sym, ◌∙◌, subst}
-use Rattle.std.proofs.Common.{inl, inr, false, Bool, ◌≢◌}
-use Rattle.std.specs.Prelude.{Option, None, ◌⊎◌, ◌%◌, ◌==◌, ◌&&◌, nat_le, if◌then◌else◌}
+use Rattle.std.proofs.Common.{inl, inr, false, ◌≢◌}
+use Rattle.std.specs.Prelude.{Option, ◌⊎◌, ◌%◌, ◌==◌, ◌&&◌, nat_le, if◌then◌else◌}
 use Rattle.std.proofs.lemmas.Bool.Decides.{leb_tells, eqb_tells}
 use Rattle.std.proofs.Math.Dec.{eqb}
 use Rattle.std.proofs.Math.Nat.{div-lt_iff_lt-mul, div-zero, mul-le-mul_left, div-eq_of_lt, div-eq_of_lt-le}
-use Rattle.vbi_side.specs.declared.gap.Gap.{Gap}
-use Rattle.vbi_side.specs.declared.gap.Numbering.{Numbering}
-use Rattle.vbi_side.specs.Gaps.{lost, open_gap, gap_of, skipped}
-use Rattle.vbi_side.specs.Told.{lost_of, undecided_of}
 use Rattle.vbi_side.specs.declared.clock.Clock.{Clock}
 use Rattle.vbi_side.specs.declared.clock.Clock.TheVariants.{Plain, DropFrame, OneIn}
 use Rattle.vbi_side.specs.declared.pace.Pace.{Pace}
@@ -17,9 +12,8 @@ use Rattle.vbi_side.specs.declared.pace.Pace.TheVariants.{Video, Film}
 use Rattle.vbi_side.specs.Paces.{fits}
 use Rattle.vbi_side.specs.Truth.{IsNear}
 use Rattle.vbi_side.specs.Side.{DiscRuns, DiscCounts}
-use Rattle.vbi_side.specs.Clocks.{passed, left_out, leaves_out, kept, clock_fits, out_between, IsProper, IsClear}
-use Rattle.vbi_side.specs.Clocks.{out_near}
-use Rattle.vbi_side.specs.Clocks.{DiscCountsBy, DiscNearlyBy}
+use Rattle.vbi_side.specs.Clocks.{passed, left_out, leaves_out, kept, IsProper, IsClear, out_near, DiscCountsBy}
+use Rattle.vbi_side.specs.Clocks.{DiscNearlyBy}
 use Rattle.vbi_side.proofs.Truth.{video_fits, film_fits}
 
 -- ---- by one period
@@ -260,39 +254,3 @@ out_far clock m zero = let same : m ≡ m + zero = omega arith in
 out_far clock m (suc d) = let next : m + d + 1 ≡ m + suc d = omega arith in
     subst (λ x. left_out clock x ≤ left_out clock m + suc d) next
     (omega (arith, out_step clock (m + d), out_far clock m d))
-
-pub skipped_few : (clock : Clock) (m n : ℕ) → m < n → skipped clock m n + out_between clock m n ≤ n - m - 1
-skipped_few clock m n less =
-    let whole : m + 1 + (n - m - 1) ≡ n = omega (arith, less) in
-    let far = subst (λ x. left_out clock x ≤ left_out clock (m + 1) + (n - m - 1)) whole
-    (out_far clock (m + 1) (n - m - 1)) in
-    omega (
-      arith,
-      less,
-      far,
-      kept_is clock m,
-      kept_is clock n,
-      out_up clock m (m + 1) (omega arith),
-      out_up clock (m + 1) n (omega (arith, less)),
-    )
-
-pub few_lost : (clock : Clock) (gap : Gap) → gap.from < gap.to
-    → lost_of clock gap + undecided_of clock gap + out_between clock gap.from gap.to ≤ gap.to - gap.from - 1
-few_lost clock gap less = go (eqb_tells gap.kind lost) (eqb_tells gap.kind open_gap)
-  where
-    few : skipped clock gap.from gap.to + out_between clock gap.from gap.to ≤ gap.to - gap.from - 1
-    few = skipped_few clock gap.from gap.to less
-
-    go : ((eqb gap.kind lost ≡ true) × (gap.kind ≡ lost)) ⊎ ((eqb gap.kind lost ≡ false) × (gap.kind ≢ lost))
-        → ((eqb gap.kind open_gap ≡ true) × (gap.kind ≡ open_gap))
-        ⊎ ((eqb gap.kind open_gap ≡ false) × (gap.kind ≢ open_gap))
-        → lost_of clock gap + undecided_of clock gap + out_between clock gap.from gap.to ≤ gap.to - gap.from - 1
-    go (inl (t, e)) _ = rw t (omega (arith, few))
-    go (inr (f, other)) (inl (t, e)) = rw (f, t) (omega (arith, few))
-    go (inr (f, other)) (inr (g, more)) = rw (f, g) (omega (arith, few))
-
-pub no_gap : (numbering : Numbering) (ended : Bool) (shown i m k n : ℕ)
-    → clock_fits numbering.clock i m k n ≡ true → gap_of Video 0 numbering ended shown i m k n ≡ None
-no_gap numbering ended shown i m k n fit =
-    rw (near_same (k + 2 * kept numbering.clock m) (i + 2 * kept numbering.clock n)
-    (video_fits i (kept numbering.clock m) k (kept numbering.clock n) fit)) refl

@@ -9,7 +9,7 @@ use Rattle.vbi_side.specs.declared.sighting.Sightings.{Sightings}
 use Rattle.vbi_side.specs.declared.pace.Pace.{Pace}
 use Rattle.vbi_side.specs.declared.pace.Pace.TheVariants.{Video, Film}
 use Rattle.vbi_side.specs.Beliefs.{Believed}
-use Rattle.vbi_side.specs.Found.{IsCount, pace_by, IsMore, IsFound}
+use Rattle.vbi_side.specs.PaceSearch.{IsCount, pace_by, IsMore, IsFound}
 
 -- one more
 pub one_more : (pace : Pace) (fields : List Sightings) (i count : ℕ) (found : Option ℕ)

@@ -17,15 +17,12 @@ none_is : (o : Option ℕ) (b : ℕ) → o ≡ None → o ≡ Some b → ⊥
 none_is o b e f = cc
 
 pub video_is : (j m : ℕ) → video_disc j ≡ Some m → 2 * m ≡ j
-video_is j m e = go (eqb_tells (j % 2) 0)
-  where
-    go : ((eqb (j % 2) 0 ≡ true) × (j % 2 ≡ 0)) ⊎ ((eqb (j % 2) 0 ≡ false) × (j % 2 ≢ 0)) → 2 * m ≡ j
-    go (inl (t, zero)) =
-        let is : video_disc j ≡ Some (j / 2) = rw t refl in
-        let half : j / 2 ≡ m = some_is (j / 2) m (sym is ∙ e) in
-        omega (arith, zero, half)
-    go (inr (f, apart)) =
-        let is : video_disc j ≡ None = rw f refl in absurd (none_is (video_disc j) m is e)
+video_is j m e = elim (eqb_tells (j % 2) 0) [
+  | inl (t, zero) ↦ let is : video_disc j ≡ Some (j / 2) = rw t refl in
+      let half : j / 2 ≡ m = some_is (j / 2) m (sym is ∙ e) in
+      omega (arith, zero, half)
+  | inr (f, apart) ↦ let is : video_disc j ≡ None = rw f refl in absurd (none_is (video_disc j) m is e)
+]
 
 film_is : (j m : ℕ) → film_disc j ≡ Some m → (2 * j ≤ 5 * m) × (5 * m ≤ 2 * j + 1)
 film_is j m e = go (eqb_tells (j % 5) 0) (eqb_tells (j % 5) 2)
@@ -74,15 +71,13 @@ film_at i n (inl (zero, e)) =
     let is : film_disc i ≡ Some (2 * (i / 5)) = rw t refl in
     let part : 2 * (i / 5) ≡ n = omega (arith, zero, e) in
     is ∙ ap Some part
-film_at i n (inr (two, e)) = go (eqb_tells (i % 5) 0)
-  where
-    go : ((eqb (i % 5) 0 ≡ true) × (i % 5 ≡ 0)) ⊎ ((eqb (i % 5) 0 ≡ false) × (i % 5 ≢ 0)) → film_disc i ≡ Some n
-    go (inl (t, zero)) = absurd (omega (arith, zero, two))
-    go (inr (f, apart)) =
-        let t : (i % 5 == 2) ≡ true = eq-eqb (i % 5) 2 two in
-        let is : film_disc i ≡ Some (2 * (i / 5) + 1) = rw f (rw t refl) in
-        let part : 2 * (i / 5) + 1 ≡ n = omega (arith, two, e) in
-        is ∙ ap Some part
+film_at i n (inr (two, e)) = elim (eqb_tells (i % 5) 0) [
+  | inl (t, zero) ↦ absurd (omega (arith, zero, two))
+  | inr (f, apart) ↦ let t : (i % 5 == 2) ≡ true = eq-eqb (i % 5) 2 two in
+      let is : film_disc i ≡ Some (2 * (i / 5) + 1) = rw f (rw t refl) in
+      let part : 2 * (i / 5) + 1 ≡ n = omega (arith, two, e) in
+      is ∙ ap Some part
+]
 
 film_has : (j m : ℕ) → film_disc j ≡ Some m → ((j % 5 ≡ 0) × (2 * j ≡ 5 * m)) ⊎ ((j % 5 ≡ 2) × (2 * j + 1 ≡ 5 * m))
 film_has j m e = go (eqb_tells (j % 5) 0) (eqb_tells (j % 5) 2)

@@ -1,52 +1,46 @@
 -- What is due, once, and rightly.
-use Rattle.std.proofs.lemmas.Bool.{eqb-true}
-use Rattle.std.proofs.Common.{eq-eqb}
-use Rattle.std.proofs.Common.{◌≡◌, ◌≢◌, ℕ, ◌+◌, ◌*◌, ◌-◌, ◌%◌, ◌<◌, ◌≤◌, true, false, List, arith, sym, ◌∙◌, subst}
-use Rattle.std.proofs.Common.{inl, inr}
+use Rattle.std.proofs.lemmas.Bool.{cases_lt, eqb-true, leb-true, le-leb, and_parts, and_from}
+use Rattle.std.proofs.Common.{eq-eqb, ◌≡◌, ◌≢◌, ℕ, ◌+◌, ◌*◌, ◌-◌, ◌%◌, ◌<◌, ◌≤◌, true, List, arith, sym, ◌∙◌}
+use Rattle.std.proofs.Common.{subst, inl, inr}
 use Rattle.std.specs.Prelude.{Option, Some, slice_get, ◌⊎◌, ◌↔◌, nat_le}
-use Rattle.std.proofs.lemmas.Bool.{leb-true, le-leb}
 use Rattle.std.proofs.lemmas.Bool.Decides.{leb_tells}
 use Rattle.vbi_side.specs.declared.sighting.Sightings.{Sightings}
 use Rattle.vbi_side.specs.declared.pace.Pace.{Pace}
 use Rattle.vbi_side.specs.declared.pace.Pace.TheVariants.{Video, Film}
-use Rattle.vbi_side.specs.Paces.{Count, nearly}
+use Rattle.vbi_side.specs.Paces.{spot, Count, nearly}
 use Rattle.vbi_side.specs.Beliefs.{Believed}
-use Rattle.vbi_side.specs.Due.{slack_of, Leaves, IsLeft, Due}
+use Rattle.vbi_side.specs.DueNumbers.{slack_of, Leaves, IsLeft, Due}
 use Rattle.vbi_side.specs.Nearest.{are_whole}
 use Rattle.vbi_side.specs.Truth.{IsNear, IsRegular}
 use Rattle.vbi_side.proofs.Ahead.{one_believed}
-use Rattle.std.proofs.lemmas.Bool.{and_parts, and_from}
 use Rattle.vbi_side.proofs.Truth.{film_fits, only_near}
 
 -- ---- how far a number may be off
 
 -- a field at most
 pub slack_most : (j k : ℕ) → slack_of j k ≤ 1
-slack_most j k = go (leb_tells k (j + 8))
-  where
-    go : ((nat_le k (j + 8) ≡ true) × (k ≤ j + 8)) ⊎ ((nat_le k (j + 8) ≡ false) × (j + 8 < k)) → slack_of j k ≤ 1
-    go (inl (t, close)) = rw t (omega arith)
-    go (inr (f, far)) = rw f (omega arith)
+slack_most j k = elim (leb_tells k (j + 8)) [
+  | inl (t, close) ↦ rw t (omega arith)
+  | inr (f, far) ↦ rw f (omega arith)
+]
 
 -- between closer fields not less
 pub slack_grows : (j k b c : ℕ) → j ≤ b → c ≤ k → slack_of j k ≤ slack_of b c
-slack_grows j k b c first last = go (leb_tells k (j + 8))
-  where
-    go : ((nat_le k (j + 8) ≡ true) × (k ≤ j + 8)) ⊎ ((nat_le k (j + 8) ≡ false) × (j + 8 < k))
-        → slack_of j k ≤ slack_of b c
-    go (inl (t, close)) = rw t (rw (le-leb c (b + 8) (omega (arith, close, first, last))) (omega arith))
-    go (inr (f, far)) = rw f (omega arith)
+slack_grows j k b c first last = elim (leb_tells k (j + 8)) [
+  | inl (t, close) ↦ rw t (rw (le-leb c (b + 8) (omega (arith, close, first, last))) (omega arith))
+  | inr (f, far) ↦ rw f (omega arith)
+]
 
 -- ---- what nearly fits, in numbers
 
-pub video_nearly : (slack i m j n : ℕ) → nearly Video slack i m j n ≡ true
+pub video_nearly : (slack i m j n : ℕ) → nearly Video slack (spot i m) (spot j n) ≡ true
     → (j + 2 * m ≤ i + 2 * n + slack) × (i + 2 * n ≤ j + 2 * m + slack)
 video_nearly slack i m j n e =
     let p = and_parts (nat_le (j + 2 * m) (i + 2 * n + slack)) (nat_le (i + 2 * n) (j + 2 * m + slack)) e in
     (leb-true (j + 2 * m) (i + 2 * n + slack) p.0, leb-true (i + 2 * n) (j + 2 * m + slack) p.1)
 
-pub nearly_more : (pace : Pace) (slack more i m j n : ℕ) → slack ≤ more → nearly pace slack i m j n ≡ true
-    → nearly pace more i m j n ≡ true
+pub nearly_more : (pace : Pace) (slack more i m j n : ℕ) → slack ≤ more → nearly pace slack (spot i m) (spot j n) ≡ true
+    → nearly pace more (spot i m) (spot j n) ≡ true
 nearly_more Video slack more i m j n less e =
     let p = video_nearly slack i m j n e in
     and_from (nat_le (j + 2 * m) (i + 2 * n + more)) (nat_le (i + 2 * n) (j + 2 * m + more))
@@ -63,14 +57,14 @@ whole_on Film j m i n less e = eq-eqb ((i - j) % 5) 0 (omega (arith, less, e))
 
 -- numbers of such fields that nearly fit lie whole pictures apart
 pub nearly_on : (pace : Pace) (slack i n j m : ℕ) → slack ≤ 1 → j < i → are_whole pace (i - j) ≡ true
-    → nearly pace slack i n j m ≡ true → Count pace j m i n
+    → nearly pace slack (spot i n) (spot j m) ≡ true → Count pace j m i n
 nearly_on Video slack i n j m few less whole e =
     let p = video_nearly slack i n j m e in omega (arith, few, less, eqb-true ((i - j) % 2) 0 whole, p.0, p.1)
 nearly_on Film slack i n j m few less whole e =
     let p = film_fits i n j m e in omega (arith, less, eqb-true ((i - j) % 5) 0 whole, p.0, p.1)
 
 pub nearly_back : (pace : Pace) (slack i n k l : ℕ) → slack ≤ 1 → i < k → are_whole pace (k - i) ≡ true
-    → nearly pace slack i n k l ≡ true → Count pace i n k l
+    → nearly pace slack (spot i n) (spot k l) ≡ true → Count pace i n k l
 nearly_back Video slack i n k l few less whole e =
     let p = video_nearly slack i n k l e in omega (arith, few, less, eqb-true ((k - i) % 2) 0 whole, p.0, p.1)
 nearly_back Film slack i n k l few less whole e =
@@ -120,20 +114,20 @@ counted_none pace j m i k l p q n first last on back apart (one, other) = apart 
 -- what another pair of fields leaves is the same
 one_left : (HasNumber : ℕ → ℕ → Type 0) (pace : Pace) (j m k l g x h y i a b : ℕ)
     → ((f p q : ℕ) → HasNumber f p → HasNumber f q → p ≡ q)
-    → Leaves HasNumber pace j m k l i a → Leaves HasNumber pace g x h y i b → a ≡ b
-one_left HasNumber pace j m k l g x h y i a b unique one other = go (leb_tells j g) (leb_tells g j)
+    → Leaves HasNumber pace (spot j m) (spot k l) (spot i a)
+    → Leaves HasNumber pace (spot g x) (spot h y) (spot i b) → a ≡ b
+one_left HasNumber pace j m k l g x h y i a b unique one other = go (cases_lt g j) (cases_lt j g)
   where
-    go : ((nat_le j g ≡ true) × (j ≤ g)) ⊎ ((nat_le j g ≡ false) × (g < j))
-        → ((nat_le g j ≡ true) × (g ≤ j)) ⊎ ((nat_le g j ≡ false) × (j < g)) → a ≡ b
-    go (inr (f, less)) rest =
+    go : (g < j) ⊎ (j ≤ g) → (j < g) ⊎ (g ≤ j) → a ≡ b
+    go (inl less) rest =
         one_count pace j m i a b one.on (nearly_on pace (slack_of g h) i b j m (slack_most g h) one.before
         (whole_on pace j m i a one.before one.on)
         (other.between j m less (omega (arith, one.before, other.after)) one.first))
-    go (inl (t, le)) (inr (f, less)) =
+    go (inr le) (inl less) =
         one_count pace g x i a b (nearly_on pace (slack_of j k) i a g x (slack_most j k) other.before
         (whole_on pace g x i b other.before other.on)
         (one.between g x less (omega (arith, other.before, one.after)) other.first)) other.on
-    go (inl (t, le)) (inl (s, ge)) =
+    go (inr le) (inr ge) =
         let here : g ≡ j = omega (arith, le, ge) in
         let same : x ≡ m = unique j x m (subst (λ f. HasNumber f x) here other.first) one.first in
         one_count pace j m i a b one.on
@@ -141,9 +135,10 @@ one_left HasNumber pace j m k l g x h y i a b unique one other = go (leb_tells j
 
 pub one_due : (pace : Pace) (fields : List Sightings) (i m n : ℕ) → Due pace fields i m → Due pace fields i n → m ≡ n
 one_due pace fields i m n one other =
-    let (j, a, k, l, leaves) = one.left in
-    let (g, b, h, c, others) = other.left in
-    one_left (Believed pace fields) pace j a k l g b h c i m n (one_believed pace fields) leaves others
+    let (j, k, leaves) = one.left in
+    let (g, h, others) = other.left in
+    one_left (Believed pace fields) pace j.field j.number k.field k.number g.field g.number h.field h.number i m n
+    (one_believed pace fields) leaves others
 
 -- ---- it is the recorded one
 
@@ -151,13 +146,33 @@ pub due_sound : (pace : Pace) (recorded : ℕ → Option ℕ) (fields : List Sig
     → IsRegular pace recorded i → ((j k : ℕ) → IsNear i j → Believed pace fields j k → recorded j ≡ Some k)
     → Due pace fields i n → recorded i ≡ Some n
 due_sound pace recorded fields i n regular right due =
-    let (j, m, k, l, leaves) = due.left in
-    let near : IsNear i j = (leaves.near, omega (arith, leaves.before)) in
-    let far : IsNear i k = (omega (arith, leaves.after), leaves.far) in
-    regular j m k l n leaves.before leaves.after near far (right j m near leaves.first)
-    (right k l far leaves.last) leaves.on leaves.back
+    let (j, k, leaves) = due.left in
+    let near : IsNear i j.field = (leaves.near, omega (arith, leaves.before)) in
+    let far : IsNear i k.field = (omega (arith, leaves.after), leaves.far) in
+    regular j.field j.number k.field k.number n leaves.before leaves.after near far
+    (right j.field j.number near leaves.first) (right k.field k.number far leaves.last) leaves.on leaves.back
 
 -- ---- the same capture around a field
+
+-- what is left by numbers that are the same near the field
+pub left_alike : (P Q : ℕ → ℕ → Type 0) (pace : Pace) (i n : ℕ) → ((j m : ℕ) → IsNear i j → P j m ↔ Q j m)
+    → IsLeft P pace i n → IsLeft Q pace i n
+left_alike P Q pace i n same (j, k, leaves) = (
+  j,
+  k,
+  record {
+    before = leaves.before;
+    near = leaves.near;
+    after = leaves.after;
+    far = leaves.far;
+    first = (same j.field j.number (leaves.near, omega (arith, leaves.before))).0 leaves.first;
+    last = (same k.field k.number (omega (arith, leaves.after), leaves.far)).0 leaves.last;
+    on = leaves.on;
+    back = leaves.back;
+    between = λ h x more less has. leaves.between h x more less
+        ((same h x (omega (arith, more, leaves.near), omega (arith, less, leaves.far))).1 has);
+  },
+)
 
 same_field : (fields others : List Sightings) (i : ℕ) (field : Sightings) → slice_get fields i ≡ slice_get others i
     → slice_get others i ≡ Some field → slice_get fields i ≡ Some field
@@ -167,7 +182,14 @@ same_field fields others i field same at = same ∙ at
 pub due_near : (pace : Pace) (fields others : List Sightings) (i n : ℕ)
     → ((j : ℕ) → i ≤ j + 48 → j ≤ i + 48 → slice_get fields j ≡ slice_get others j)
     → Due pace fields i n → Due pace others i n
-due_near pace fields others i n agree due = go due.left
+due_near pace fields others i n agree due = record {
+  unbelieved = λ x b. due.unbelieved x (back i x (omega arith, omega arith) b);
+  vacant = λ shows. due.vacant (shows.0, same_field fields others i shows.0 here shows.1, shows.2);
+  unread = λ shows. due.unread
+      (shows.0, same_field fields others i shows.0 here shows.1, shows.2, shows.3, shows.4);
+  left = left_alike (Believed pace fields) (Believed pace others) pace i n (λ j m near. (on j m near, back j m near))
+      due.left;
+}
   where
     here : slice_get fields i ≡ slice_get others i
     here = agree i (omega arith) (omega arith)
@@ -180,29 +202,3 @@ due_near pace fields others i n agree due = go due.left
     back : (j m : ℕ) → IsNear i j → Believed pace others j m → Believed pace fields j m
     back j m near b = only_near pace others fields j m
         (λ k by. sym (agree k (omega (arith, near.0, by.0)) (omega (arith, near.1, by.1)))) b
-
-    go : IsLeft (Believed pace fields) pace i n → Due pace others i n
-    go (j, m, k, l, leaves) = record {
-      unbelieved = λ x b. due.unbelieved x (back i x (omega arith, omega arith) b);
-      vacant = λ shows. due.vacant (shows.0, same_field fields others i shows.0 here shows.1, shows.2);
-      unread = λ shows. due.unread
-          (shows.0, same_field fields others i shows.0 here shows.1, shows.2, shows.3, shows.4);
-      left = (
-        j,
-        m,
-        k,
-        l,
-        record {
-          before = leaves.before;
-          near = leaves.near;
-          after = leaves.after;
-          far = leaves.far;
-          first = on j m (leaves.near, omega (arith, leaves.before)) leaves.first;
-          last = on k l (omega (arith, leaves.after), leaves.far) leaves.last;
-          on = leaves.on;
-          back = leaves.back;
-          between = λ h x more less b. leaves.between h x more less
-              (back h x (omega (arith, more, leaves.near), omega (arith, less, leaves.far)) b);
-        },
-      );
-    }

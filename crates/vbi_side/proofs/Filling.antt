@@ -1,21 +1,20 @@
 -- How the answers come about: marked first, then filled with what is due, from the first field on.
+use Rattle.std.proofs.lemmas.Bool.{cases_eq}
 use Rattle.std.proofs.Common.{◌≡◌, ◌≢◌, ℕ, ◌+◌, ◌<◌, ◌≤◌, Bool, true, false, List}
 use Rattle.std.proofs.Common.{refl, arith, ap, sym, ◌∙◌, subst, inl, inr, get_or}
 use Rattle.std.specs.Prelude.{Option, Some, None, slice_get, slice_set, length}
 use Rattle.std.specs.Prelude.{◌⊎◌, ◌↔◌, unwrap_or, nat_le, if◌then◌else◌}
-use Rattle.std.proofs.lemmas.Bool.Decides.{eqb_tells}
 use Rattle.std.proofs.lemmas.List.{length-set, get_or-set_other}
 use Rattle.std.proofs.lemmas.Grind.{get_or-set_at}
 use Rattle.std.proofs.lemmas.Option.{slice_get-get_or, slice_get_within}
-use Rattle.std.proofs.Math.Dec.{eqb}
 use Rattle.vbi_side.specs.declared.number.Number.{Number}
 use Rattle.vbi_side.specs.declared.sighting.Sightings.{Sightings}
 use Rattle.vbi_side.specs.declared.pace.Pace.{Pace}
 use Rattle.vbi_side.specs.declared.pace.Pace.TheVariants.{Video}
 use Rattle.vbi_side.specs.Sightings.{Shows}
 use Rattle.vbi_side.specs.Beliefs.{Believed}
-use Rattle.vbi_side.specs.Due.{Due}
-use Rattle.vbi_side.specs.Numbers.{nothing, believed, due, doubtful, doubtful_of, IsMarked, IsMark, AreMarks}
+use Rattle.vbi_side.specs.DueNumbers.{Due}
+use Rattle.vbi_side.specs.Numbers.{nothing, believed, due, doubtful, doubtful_of, IsMarked, IsMark}
 use Rattle.vbi_side.specs.Numbers.{IsAnswer, AreAnswers, AreRight, IsKnown}
 use Rattle.vbi_side.specs.Truth.{IsRegular, IsSound, IsSoundStill}
 use Rattle.vbi_side.proofs.Ahead.{one_believed}
@@ -58,16 +57,6 @@ apart m n e = absurd (omega (arith, state_of (due m) (believed n) e))
 some_is : {A : Type 0} (a b : A) → Some a ≡ Some b → a ≡ b
 some_is a b e = ap (λ o. unwrap_or o a) e
 
--- a mark says that a number is believed just where it is
-pub mark_tells : (pace : Pace) (fields : List Sightings) (i n : ℕ) (answer : Number) → IsMark pace fields i answer
-    → (answer ≡ believed n) ↔ Believed pace fields i n
-mark_tells pace fields i n answer (inl (m, b, is)) = (
-  λ e. subst (Believed pace fields i) (number_of (believed m) (believed n) (sym is ∙ e)) b,
-  λ other. is ∙ ap believed (one_believed pace fields i m n b other),
-)
-mark_tells pace fields i n answer (inr (none, (field, at, is))) =
-    (λ e. absurd (unlike field n (sym is ∙ e)), λ b. absurd (none n b))
-
 -- a number that is believed is of a field that is there
 pub shown_within : (fields : List Sightings) (i n : ℕ) → Shows (slice_get fields i) n → i < length fields
 shown_within fields i n shown = go (slice_get fields i) refl shown
@@ -75,17 +64,6 @@ shown_within fields i n shown = go (slice_get fields i) refl shown
     go : (field : Option Sightings) → slice_get fields i ≡ field → Shows field n → i < length fields
     go None e shows = absurd shows
     go (Some field) e shows = slice_get_within fields i field e
-
-pub marks_tell : (pace : Pace) (fields : List Sightings) (numbers : List Number) → AreMarks pace fields numbers
-    → (i n : ℕ) → IsMarked numbers i n ↔ Believed pace fields i n
-marks_tell pace fields numbers marks i n = (
-  λ e. (mark_tells pace fields i n (believed n) (marks.each i (believed n) e)).0 refl,
-  λ b.
-      let within : i < length numbers = omega (arith, marks.count, shown_within fields i n b.shown) in
-      let at = slice_get-get_or numbers i nothing within in
-      at ∙ ap Some ((mark_tells pace fields i n (get_or numbers i nothing)
-      (marks.each i (get_or numbers i nothing) at)).1 b),
-)
 
 -- ---- filling
 
@@ -95,15 +73,6 @@ pub record Filling (pace : Pace) (fields : List Sightings) (numbers : List Numbe
   pub marked : (i n : ℕ) → IsMarked numbers i n ↔ Believed pace fields i n
   pub done : (i : ℕ) (answer : Number) → i < field → slice_get numbers i ≡ Some answer → IsAnswer pace fields i answer
   pub rest : (i : ℕ) (answer : Number) → field ≤ i → slice_get numbers i ≡ Some answer → IsMark pace fields i answer
-
-pub filling_begins : (pace : Pace) (fields : List Sightings) (numbers : List Number) → AreMarks pace fields numbers
-    → Filling pace fields numbers 0
-filling_begins pace fields numbers marks = record {
-  count = marks.count;
-  marked = marks_tell pace fields numbers marks;
-  done = λ i answer less at. absurd (omega (arith, less));
-  rest = λ i answer less at. marks.each i answer at;
-}
 
 pub filling_ends : (pace : Pace) (fields : List Sightings) (numbers : List Number) (field : ℕ) → length numbers ≤ field
     → Filling pace fields numbers field → AreAnswers pace fields numbers
@@ -124,10 +93,10 @@ pub filling_kept : (pace : Pace) (fields : List Sightings) (numbers : List Numbe
 filling_kept pace fields numbers field none filling = record {
   count = filling.count;
   marked = filling.marked;
-  done = λ i answer less at. elim (eqb_tells i field) [
-    | inl (t, e) ↦ mark_answers pace fields i answer (subst (λ k. (n : ℕ) → Due pace fields k n → ⊥) (sym e) none)
+  done = λ i answer less at. elim (cases_eq i field) [
+    | inl e ↦ mark_answers pace fields i answer (subst (λ k. (n : ℕ) → Due pace fields k n → ⊥) (sym e) none)
         (filling.rest i answer (omega (arith, e)) at)
-    | inr (f, other) ↦ filling.done i answer (omega (arith, less, other)) at
+    | inr other ↦ filling.done i answer (omega (arith, less, other)) at
   ];
   rest = λ i answer less at. filling.rest i answer (omega (arith, less)) at;
 }
@@ -136,7 +105,14 @@ filling_kept pace fields numbers field none filling = record {
 written : (numbers : List Number) (field i : ℕ) (number answer : Number)
     → slice_get (slice_set numbers field number) i ≡ Some answer
     → ((i ≡ field) × (answer ≡ number)) ⊎ ((i ≢ field) × (slice_get numbers i ≡ Some answer))
-written numbers field i number answer at = go (eqb_tells i field)
+written numbers field i number answer at = elim (cases_eq i field) [
+  | inl e ↦ inl (e, sym is ∙ get_or-set_at numbers field i number nothing e (omega (arith, within, e)))
+  | inr other ↦ inr (
+    other,
+    slice_get-get_or numbers i nothing within
+        ∙ ap Some (sym (get_or-set_other numbers field i number nothing other) ∙ is),
+  )
+]
   where
     within : i < length numbers
     within =
@@ -150,16 +126,6 @@ written numbers field i number answer at = go (eqb_tells i field)
     is = some_is (get_or (slice_set numbers field number) i nothing) answer
         (sym (slice_get-get_or (slice_set numbers field number) i nothing
         (omega (arith, within, length-set numbers field number))) ∙ at)
-
-    go : ((eqb i field ≡ true) × (i ≡ field)) ⊎ ((eqb i field ≡ false) × (i ≢ field))
-        → ((i ≡ field) × (answer ≡ number)) ⊎ ((i ≢ field) × (slice_get numbers i ≡ Some answer))
-    go (inl (t, e)) =
-        inl (e, sym is ∙ get_or-set_at numbers field i number nothing e (omega (arith, within, e)))
-    go (inr (f, other)) = inr (
-      other,
-      slice_get-get_or numbers i nothing within
-          ∙ ap Some (sym (get_or-set_other numbers field i number nothing other) ∙ is),
-    )
 
 -- what stands there stays where another place is written
 unwritten : (numbers : List Number) (field i : ℕ) (number answer : Number) → i ≢ field
@@ -193,9 +159,9 @@ filling_due pace fields numbers field n is_due filling = record {
     ]
 
     back : (i m : ℕ) → Believed pace fields i m → IsMarked (slice_set numbers field (due n)) i m
-    back i m b = elim (eqb_tells i field) [
-      | inl (t, e) ↦ absurd (is_due.unbelieved m (subst (λ k. Believed pace fields k m) e b))
-      | inr (f, other) ↦ unwritten numbers field i (due n) (believed m) other ((filling.marked i m).1 b)
+    back i m b = elim (cases_eq i field) [
+      | inl e ↦ absurd (is_due.unbelieved m (subst (λ k. Believed pace fields k m) e b))
+      | inr other ↦ unwritten numbers field i (due n) (believed m) other ((filling.marked i m).1 b)
     ]
 
 -- ---- answers

@@ -1,15 +1,12 @@
 -- What was misread weighs in numbers no more than in words.
-use Rattle.std.proofs.Common.{◌≡◌, ◌≢◌, ℕ, zero, suc, ◌+◌, ◌*◌, ◌-◌, ◌<◌, ◌≤◌, Bool, true, false, List}
-use Rattle.std.proofs.Common.{refl, arith, ap, sym, ◌∙◌}
-use Rattle.std.proofs.Common.{subst, inl, inr, map, min}
+use Rattle.std.proofs.Common.{◌≡◌, ℕ, zero, suc, ◌+◌, ◌*◌, ◌-◌, ◌<◌, ◌≤◌, Bool, true, false, refl, arith, ap}
+use Rattle.std.proofs.Common.{sym, ◌∙◌, subst, inl, inr, min}
 use Rattle.std.specs.Prelude.{Option, Some, None, option_map, slice_get, ◌⊎◌, not, nat_le, if◌then◌else◌}
-use Rattle.std.proofs.Math.Dec.{eqb}
 use Rattle.std.proofs.lemmas.Bool.Decides.{eqb_tells}
 use Rattle.std.proofs.lemmas.Option.{slice_get-map}
 use Rattle.vbi_words.specs.declared.system.System.{System}
 use Rattle.vbi_words.specs.declared.code.Code.{Code}
-use Rattle.vbi_words.specs.declared.code.Code.TheVariants.{Picture, Chapter, Time, ClvPicture, CxOn, CxOff}
-use Rattle.vbi_words.specs.declared.code.Code.TheVariants.{Users, LeadIn, LeadOut, PictureStop, ClvMark, Other}
+use Rattle.vbi_words.specs.declared.code.Code.TheVariants.{Picture, Time, ClvPicture}
 use Rattle.vbi_words.specs.Codes.{code_of}
 use Rattle.vbi_side.specs.declared.lines.Counted.{Counted}
 use Rattle.vbi_side.specs.declared.lines.Counted.TheVariants.{Pictures, Times}
@@ -22,8 +19,9 @@ use Rattle.vbi_side.specs.Lines.{pass_weight, code_in, number_from, sighting_fro
 use Rattle.vbi_side.specs.Beliefs.{reach, enough, field_most, sighting_weight, field_weight, weight_at}
 use Rattle.vbi_side.specs.Beliefs.{weight_below, Believed}
 use Rattle.vbi_side.specs.Truth.{IsNear, RunsOn, StandsStill, is_recorded, wrong_weight}
-use Rattle.vbi_side.specs.Misread.{Lines, Words, numbers_in, is_misread, line_weight, misread_in}
+use Rattle.vbi_side.specs.Misread.{Capture, Lines, Words, numbers_in, sightings_in, is_misread, line_weight, misread_in}
 use Rattle.vbi_side.specs.Misread.{misread_at, misread_below, misread_weight, number_of, AreTold, IsRead}
+use Rattle.vbi_side.proofs.Recorded.{not_wrong}
 use Rattle.vbi_side.proofs.Truth.{sound, on_the_disc, sound_still}
 
 -- ---- one number
@@ -32,69 +30,30 @@ use Rattle.vbi_side.proofs.Truth.{sound, on_the_disc, sound_still}
 not_misread : (read word : Option ℕ) → is_misread read word ≡ false → (read ≡ None) ⊎ (read ≡ word)
 not_misread None word e = inl refl
 not_misread (Some a) None e = absurd (let clash : true ≡ false → ⊥ = λ h. cc in clash e)
-not_misread (Some a) (Some b) e = go (eqb_tells a b)
-  where
-    go : ((eqb a b ≡ true) × (a ≡ b)) ⊎ ((eqb a b ≡ false) × (a ≢ b)) → (Some a ≡ None) ⊎ (Some a ≡ Some b)
-    go (inl (t, is)) = inr (ap Some is)
-    go (inr (f, apart)) =
-        absurd (let clash : true ≡ false → ⊥ = λ h. cc in clash (subst (λ b. not b ≡ false) f e))
-
-recorded_self : (o : Option ℕ) (n : ℕ) → o ≡ Some n → is_recorded o n ≡ true
-recorded_self o n e = subst (λ p. is_recorded p n ≡ true) (sym e) (go (eqb_tells n n))
-  where
-    go : ((eqb n n ≡ true) × (n ≡ n)) ⊎ ((eqb n n ≡ false) × (n ≢ n)) → is_recorded (Some n) n ≡ true
-    go (inl (t, is)) = t
-    go (inr (f, apart)) = absurd (apart refl)
+not_misread (Some a) (Some b) e = elim (eqb_tells a b) [
+  | inl (t, is) ↦ inr (ap Some is)
+  | inr (f, apart) ↦ absurd (let clash : true ≡ false → ⊥ = λ h. cc in clash (subst (λ b. not b ≡ false) f e))
+]
 
 -- without a word there is no number
 no_word : (system : System) (counted : Counted) (first : Option Code) (n : ℕ)
     → number_from system counted first None ≡ Some n → ⊥
 no_word system Pictures first n e = cc
 no_word system Times None n e = cc
-no_word system Times (Some (Picture a)) n e = cc
-no_word system Times (Some (Chapter a)) n e = cc
-no_word system Times (Some (Time a b)) n e = cc
 no_word system Times (Some (ClvPicture a b)) n e = cc
-no_word system Times (Some (CxOn a)) n e = cc
-no_word system Times (Some (CxOff a)) n e = cc
-no_word system Times (Some (Users a b)) n e = cc
-no_word system Times (Some LeadIn) n e = cc
-no_word system Times (Some LeadOut) n e = cc
-no_word system Times (Some PictureStop) n e = cc
-no_word system Times (Some ClvMark) n e = cc
-no_word system Times (Some Other) n e = cc
+no_word system Times first n e = cc
 
 no_first : (system : System) (code : Option Code) (n : ℕ) → number_from system Times None code ≡ Some n → ⊥
 no_first system None n e = cc
-no_first system (Some (Picture a)) n e = cc
-no_first system (Some (Chapter a)) n e = cc
 no_first system (Some (Time a b)) n e = cc
-no_first system (Some (ClvPicture a b)) n e = cc
-no_first system (Some (CxOn a)) n e = cc
-no_first system (Some (CxOff a)) n e = cc
-no_first system (Some (Users a b)) n e = cc
-no_first system (Some LeadIn) n e = cc
-no_first system (Some LeadOut) n e = cc
-no_first system (Some PictureStop) n e = cc
-no_first system (Some ClvMark) n e = cc
-no_first system (Some Other) n e = cc
+no_first system code n e = cc
 
 -- of pictures line 16 says nothing
 pictures_alone : (system : System) (first other code : Option Code)
     → number_from system Pictures first code ≡ number_from system Pictures other code
 pictures_alone system first other None = refl
 pictures_alone system first other (Some (Picture a)) = refl
-pictures_alone system first other (Some (Chapter a)) = refl
-pictures_alone system first other (Some (Time a b)) = refl
-pictures_alone system first other (Some (ClvPicture a b)) = refl
-pictures_alone system first other (Some (CxOn a)) = refl
-pictures_alone system first other (Some (CxOff a)) = refl
-pictures_alone system first other (Some (Users a b)) = refl
-pictures_alone system first other (Some LeadIn) = refl
-pictures_alone system first other (Some LeadOut) = refl
-pictures_alone system first other (Some PictureStop) = refl
-pictures_alone system first other (Some ClvMark) = refl
-pictures_alone system first other (Some Other) = refl
+pictures_alone system first other code = refl
 
 -- the word was read that is on the disc, if a number was
 word_is : (system : System) (counted : Counted) (first : Option Code) (line : Shown) (word : Option ℕ) (n : ℕ)
@@ -126,9 +85,6 @@ weighs_less wrong n weight = go (wrong n)
     go : (b : Bool) → (if b then min weight 2 else 0) ≤ weight
     go true = omega arith
     go false = omega arith
-
-not_wrong : (recorded : Option ℕ) (n : ℕ) → recorded ≡ Some n → not (is_recorded recorded n) ≡ false
-not_wrong recorded n e = rw (recorded_self recorded n e) refl
 
 -- of pictures, a number that isn't on the disc is a misread word
 picture_misread : (system : System) (line_16 line : Shown) (first word : Option ℕ) (recorded : Option ℕ)
@@ -209,16 +165,17 @@ field_misread system Times (Some lines) words recorded told = omega (
   time_misread system lines.line_16 lines.line_18 words.line_16 words.line_18 recorded (λ n e. told n (inr e)),
 )
 
-at_misread : (system : System) (counted : Counted) (lines : List Lines) (disc : ℕ → Words) (recorded : ℕ → Option ℕ)
-    (i k : ℕ) → AreTold system counted disc recorded
-    → weight_at (λ j n. not (is_recorded (recorded j) n)) (map (numbers_in system counted) lines) i k
-    ≤ misread_at counted lines disc i k
-at_misread system counted lines disc recorded i k told = go (nat_le reach (i + k))
+at_misread : (capture : Capture) (i k : ℕ) → AreTold capture
+    → weight_at (λ j n. not (is_recorded (capture.recorded j) n)) (sightings_in capture) i k
+    ≤ misread_at capture.counted capture.lines capture.disc i k
+at_misread capture i k told = go (nat_le reach (i + k))
   where
+    open capture use {system, counted, lines, disc, recorded}
+
     wrong : ℕ → Bool
     wrong = λ n. not (is_recorded (recorded (i + k - reach)) n)
 
-    field : field_weight wrong (slice_get (map (numbers_in system counted) lines) (i + k - reach))
+    field : field_weight wrong (slice_get (sightings_in capture) (i + k - reach))
         ≤ misread_in counted (slice_get lines (i + k - reach)) (disc (i + k - reach))
     field = subst
         (λ f. field_weight wrong f ≤ misread_in counted (slice_get lines (i + k - reach)) (disc (i + k - reach)))
@@ -227,54 +184,43 @@ at_misread system counted lines disc recorded i k told = go (nat_le reach (i + k
         (recorded (i + k - reach))
         (told (i + k - reach)))
 
-    go : (b : Bool)
-        → (if b then field_weight wrong (slice_get (map (numbers_in system counted) lines) (i + k - reach)) else 0)
+    go : (b : Bool) → (if b then field_weight wrong (slice_get (sightings_in capture) (i + k - reach)) else 0)
         ≤ (if b then misread_in counted (slice_get lines (i + k - reach)) (disc (i + k - reach)) else 0)
     go true = field
     go false = omega arith
 
-below_misread : (system : System) (counted : Counted) (lines : List Lines) (disc : ℕ → Words) (recorded : ℕ → Option ℕ)
-    (i k : ℕ) → AreTold system counted disc recorded
-    → weight_below (λ j n. not (is_recorded (recorded j) n)) (map (numbers_in system counted) lines) i k
-    ≤ misread_below counted lines disc i k
+below_misread : (capture : Capture) (i k : ℕ) → AreTold capture
+    → weight_below (λ j n. not (is_recorded (capture.recorded j) n)) (sightings_in capture) i k
+    ≤ misread_below capture.counted capture.lines capture.disc i k
 unfolding weight_below misread_below
-below_misread system counted lines disc recorded i zero told = omega arith
-below_misread system counted lines disc recorded i (suc k) told = omega (
-  arith,
-  below_misread system counted lines disc recorded i k told,
-  at_misread system counted lines disc recorded i k told,
-)
+below_misread capture i zero told = omega arith
+below_misread capture i (suc k) told =
+    omega (arith, below_misread capture i k told, at_misread capture i k told)
 
-pub wrong_misread : (system : System) (counted : Counted) (lines : List Lines) (disc : ℕ → Words)
-    (recorded : ℕ → Option ℕ) (i : ℕ) → AreTold system counted disc recorded
-    → wrong_weight recorded (map (numbers_in system counted) lines) i ≤ misread_weight counted lines disc i
-wrong_misread system counted lines disc recorded i = below_misread system counted lines disc recorded i (2 * reach + 1)
+pub wrong_misread : (capture : Capture) (i : ℕ) → AreTold capture
+    → wrong_weight capture.recorded (sightings_in capture) i
+    ≤ misread_weight capture.counted capture.lines capture.disc i
+wrong_misread capture i = below_misread capture i (2 * reach + 1)
 
-pub sound_read : (system : System) (counted : Counted) (pace : Pace) (lines : List Lines) (disc : ℕ → Words)
-    (recorded : ℕ → Option ℕ) (i m n : ℕ) → IsRead system counted pace lines disc recorded i m
-    → Believed pace (map (numbers_in system counted) lines) i n → n ≡ m
-sound_read system counted pace lines disc recorded i m n read b =
-    sound pace recorded (map (numbers_in system counted) lines) i m n (
-      read.runs,
-      read.has,
-      omega (arith, read.few, wrong_misread system counted lines disc recorded i read.told),
-    ) b
+pub sound_read : (pace : Pace) (capture : Capture) (i m n : ℕ) → IsRead pace capture i m
+    → Believed pace (sightings_in capture) i n → n ≡ m
+sound_read pace capture i m n read b =
+    sound pace capture.recorded (sightings_in capture) i m n
+    (read.runs, read.has, omega (arith, read.few, wrong_misread capture i read.told)) b
 
 -- whether the field has a number or not
-pub near_read : (system : System) (counted : Counted) (pace : Pace) (lines : List Lines) (disc : ℕ → Words)
-    (recorded : ℕ → Option ℕ) (i n : ℕ) → AreTold system counted disc recorded → RunsOn pace recorded i
-    → misread_weight counted lines disc i < enough → Believed pace (map (numbers_in system counted) lines) i n
-    → (j m : ℕ) × IsNear i j × (recorded j ≡ Some m)
-    × Shows (slice_get (map (numbers_in system counted) lines) j) m × (fits pace i n j m ≡ true)
-near_read system counted pace lines disc recorded i n told runs few b =
-    on_the_disc pace recorded (map (numbers_in system counted) lines) i n runs
-    (omega (arith, few, wrong_misread system counted lines disc recorded i told)) b
+pub near_read : (pace : Pace) (capture : Capture) (i n : ℕ) → AreTold capture → RunsOn pace capture.recorded i
+    → misread_weight capture.counted capture.lines capture.disc i < enough → Believed pace (sightings_in capture) i n
+    → (j m : ℕ) × IsNear i j × (capture.recorded j ≡ Some m) × Shows (slice_get (sightings_in capture) j) m
+    × (fits pace i n j m ≡ true)
+near_read pace capture i n told runs few b =
+    on_the_disc pace capture.recorded (sightings_in capture) i n runs
+    (omega (arith, few, wrong_misread capture i told)) b
 
 -- where the player stood still
-pub still_read : (system : System) (counted : Counted) (lines : List Lines) (disc : ℕ → Words)
-    (recorded : ℕ → Option ℕ) (i m n : ℕ) → AreTold system counted disc recorded → StandsStill recorded i m
-    → misread_weight counted lines disc i + field_most < enough
-    → Believed Video (map (numbers_in system counted) lines) i n → n ≡ m
-still_read system counted lines disc recorded i m n told still few b =
-    sound_still recorded (map (numbers_in system counted) lines) i m n
-    (still, omega (arith, few, wrong_misread system counted lines disc recorded i told)) b
+pub still_read : (capture : Capture) (i m n : ℕ) → AreTold capture → StandsStill capture.recorded i m
+    → misread_weight capture.counted capture.lines capture.disc i + field_most < enough
+    → Believed Video (sightings_in capture) i n → n ≡ m
+still_read capture i m n told still few b =
+    sound_still capture.recorded (sightings_in capture) i m n
+    (still, omega (arith, few, wrong_misread capture i told)) b

@@ -1,25 +1,22 @@
 -- A field is answered the same from a part of its capture.
-use Rattle.std.proofs.Common.{eq-eqb}
-use Rattle.std.proofs.Common.{◌≡◌, ℕ, zero, suc, ◌+◌, ◌*◌, ◌-◌, ◌%◌, ◌<◌, ◌≤◌, Bool, true, false, List}
-use Rattle.std.proofs.Common.{refl, arith, ap, sym, ◌∙◌, subst, inl, inr}
-use Rattle.std.specs.Prelude.{Option, Some, None, slice_get, if◌then◌else◌, ◌⊎◌, ◌↔◌, nat_le, ◌==◌}
-use Rattle.std.proofs.lemmas.Bool.{leb-true, le-leb}
+use Rattle.std.proofs.Common.{eq-eqb, ◌≡◌, ℕ, zero, suc, ◌+◌, ◌*◌, ◌-◌, ◌%◌, ◌<◌, ◌≤◌, Bool, true, false, List, refl}
+use Rattle.std.proofs.Common.{arith, ap, sym, ◌∙◌, subst, inl, inr}
+use Rattle.std.specs.Prelude.{Option, slice_get, if◌then◌else◌, ◌⊎◌, ◌↔◌, nat_le, ◌==◌}
+use Rattle.std.proofs.lemmas.Bool.{leb-true, le-leb, and_from}
 use Rattle.std.proofs.lemmas.Bool.Decides.{leb_tells}
 use Rattle.vbi_side.specs.declared.number.Number.{Number}
 use Rattle.vbi_side.specs.declared.pace.Pace.{Pace}
 use Rattle.vbi_side.specs.declared.pace.Pace.TheVariants.{Video, Film}
-use Rattle.vbi_side.specs.declared.sighting.Sighting.{Sighting}
 use Rattle.vbi_side.specs.declared.sighting.Sightings.{Sightings}
-use Rattle.vbi_side.specs.Sightings.{weight_of}
-use Rattle.vbi_side.specs.Paces.{fits, stays, Count, nearly}
-use Rattle.vbi_side.specs.Beliefs.{reach, sighting_weight, field_weight, weight_at, weight_below}
+use Rattle.vbi_side.specs.Paces.{spot, fits, stays, Count, nearly}
+use Rattle.vbi_side.specs.Beliefs.{reach, field_weight, weight_at, weight_below}
 use Rattle.vbi_side.specs.Beliefs.{support_of, Believed}
-use Rattle.vbi_side.specs.Due.{slack_of, Leaves, IsLeft, Due}
+use Rattle.vbi_side.specs.DueNumbers.{slack_of, Leaves, IsLeft, Due}
 use Rattle.vbi_side.specs.Numbers.{due, IsAnswer}
 use Rattle.vbi_side.specs.Parts.{IsPart}
 use Rattle.vbi_side.specs.Truth.{IsNear}
-use Rattle.vbi_side.proofs.DueLemmas.{video_nearly}
-use Rattle.std.proofs.lemmas.Bool.{and_from}
+use Rattle.vbi_side.proofs.DueLemmas.{video_nearly, left_alike}
+use Rattle.vbi_side.proofs.Weights.{field_narrower}
 use Rattle.vbi_side.proofs.Truth.{video_fits, film_fits, stays_is, believed_alike}
 
 -- ---- what fits, so many fields later
@@ -58,16 +55,13 @@ stays_later first i m j n =
 
 -- ---- what is read around a field
 
-sighting_later : (test later : ℕ → Bool) (sighting : Sighting) → ((n : ℕ) → test n ≡ later n)
-    → sighting_weight test sighting ≡ sighting_weight later sighting
-sighting_later test later sighting same =
-    ap (λ b. if b then weight_of sighting else 0) (same sighting.number)
-
 field_later : (test later : ℕ → Bool) (field : Option Sightings) → ((n : ℕ) → test n ≡ later n)
     → field_weight test field ≡ field_weight later field
-field_later test later None same = refl
-field_later test later (Some field) same =
-    omega (arith, sighting_later test later field.line_17 same, sighting_later test later field.line_18 same)
+field_later test later field same = omega (
+  arith,
+  field_narrower test later field (λ n e. sym (same n) ∙ e),
+  field_narrower later test field (λ n e. same n ∙ e),
+)
 
 weight_at-later : (test later : ℕ → ℕ → Bool) (part whole : List Sightings) (first i k : ℕ) → k ≤ 2 * reach
     → (first ≡ 0) ⊎ (reach ≤ i) → ((j : ℕ) → IsNear i j → slice_get part j ≡ slice_get whole (first + j))
@@ -149,9 +143,9 @@ count_later Video first i m j n = (λ e. omega (arith, e), λ e. omega (arith, e
 count_later Film first i m j n = (λ e. omega (arith, e), λ e. omega (arith, e))
 
 nearly_later : (pace : Pace) (slack first i m j n : ℕ)
-    → nearly pace slack i m j n ≡ nearly pace slack (first + i) m (first + j) n
+    → nearly pace slack (spot i m) (spot j n) ≡ nearly pace slack (spot (first + i) m) (spot (first + j) n)
 nearly_later Video slack first i m j n =
-    same_truth (nearly Video slack i m j n) (nearly Video slack (first + i) m (first + j) n)
+    same_truth (nearly Video slack (spot i m) (spot j n)) (nearly Video slack (spot (first + i) m) (spot (first + j) n))
     (λ e. let p = video_nearly slack i m j n e in
     and_from (nat_le (first + j + 2 * m) (first + i + 2 * n + slack))
     (nat_le (first + i + 2 * n) (first + j + 2 * m + slack))
@@ -186,83 +180,68 @@ within_part whole part first i j is near = elim is.before [
   | inr far ↦ omega (arith, far, near)
 ]
 
-left_later : (pace : Pace) (whole part : List Sightings) (first i n : ℕ) → IsPart Sightings whole part first i
-    → IsLeft (Believed pace part) pace i n → IsLeft (Believed pace whole) pace (first + i) n
-left_later pace whole part first i n is (j, m, k, l, leaves) = (
-  first + j,
-  m,
-  first + k,
-  l,
+-- numbers that lie so many fields later leave the same
+left_later : (P : ℕ → ℕ → Type 0) (pace : Pace) (first i n : ℕ) → IsLeft (λ j. P (first + j)) pace i n
+    → IsLeft P pace (first + i) n
+left_later P pace first i n (earlier, later, leaves) = (
+  spot (first + j) earlier.number,
+  spot (first + k) later.number,
   record {
     before = omega (arith, leaves.before);
     near = omega (arith, leaves.near);
     after = omega (arith, leaves.after);
     far = omega (arith, leaves.far);
-    first = (believed_later pace part whole first j m (seen_near whole part first i j is before)).0 leaves.first;
-    last = (believed_later pace part whole first k l (seen_near whole part first i k is after)).0 leaves.last;
-    on = (count_later pace first j m i n).0 leaves.on;
-    back = (count_later pace first i n k l).0 leaves.back;
-    between = between;
+    first = leaves.first;
+    last = leaves.last;
+    on = (count_later pace first j earlier.number i n).0 leaves.on;
+    back = (count_later pace first i n k later.number).0 leaves.back;
+    between = λ h x more less has.
+        let at : first + (h - first) ≡ h = omega (arith, more) in
+        subst (λ f. nearly pace (slack_of (first + j) (first + k)) (spot (first + i) n) (spot f x) ≡ true) at
+        (sym (nearly_later pace (slack_of (first + j) (first + k)) first i n (h - first) x)
+        ∙ ap (λ s. nearly pace s (spot i n) (spot (h - first) x)) (sym (slack_later first j k))
+        ∙ leaves.between (h - first) x (omega (arith, more)) (omega (arith, less))
+        (subst (λ f. P f x) (sym at) has));
   },
 )
   where
-    before : IsNear i j
-    before = (leaves.near, omega (arith, leaves.before))
+    j : ℕ
+    j = earlier.field
 
-    after : IsNear i k
-    after = (omega (arith, leaves.after), leaves.far)
+    k : ℕ
+    k = later.field
 
-    between : (h x : ℕ) → first + j < h → h < first + k → Believed pace whole h x
-        → nearly pace (slack_of (first + j) (first + k)) (first + i) n h x ≡ true
-    between h x more less b =
-        let at : first + (h - first) ≡ h = omega (arith, more) in
-        let near : IsNear i (h - first) = (omega (arith, more, leaves.near), omega (arith, less, leaves.far)) in
-        let here =
-        (believed_later pace part whole first (h - first) x (seen_near whole part first i (h - first) is near)).1
-        (subst (λ f. Believed pace whole f x) (sym at) b) in
-        subst (λ f. nearly pace (slack_of (first + j) (first + k)) (first + i) n f x ≡ true) at
-        (sym (nearly_later pace (slack_of (first + j) (first + k)) first i n (h - first) x)
-        ∙ ap (λ s. nearly pace s i n (h - first) x) (sym (slack_later first j k))
-        ∙ leaves.between (h - first) x (omega (arith, more)) (omega (arith, less)) here)
-
-left_back : (pace : Pace) (whole part : List Sightings) (first i n : ℕ) → IsPart Sightings whole part first i
-    → IsLeft (Believed pace whole) pace (first + i) n → IsLeft (Believed pace part) pace i n
-left_back pace whole part first i n is (g, m, h, l, leaves) =
-    let at : g ≡ first + (g - first) = omega (arith, within_part whole part first i g is leaves.near) in
-    let to : h ≡ first + (h - first) = omega (arith, leaves.after) in
-    go (g - first) (h - first)
-    (subst (λ f. Leaves (Believed pace whole) pace (first + (g - first)) m f l (first + i) n) to
-    (subst (λ f. Leaves (Believed pace whole) pace f m h l (first + i) n) at leaves))
+-- and so many fields earlier, if they are there
+left_back : (P : ℕ → ℕ → Type 0) (pace : Pace) (first i n : ℕ) → ((j : ℕ) → first + i ≤ j + reach → first ≤ j)
+    → IsLeft P pace (first + i) n → IsLeft (λ j. P (first + j)) pace i n
+left_back P pace first i n within (earlier, later, leaves) =
+    let at : earlier.field ≡ first + (earlier.field - first) = omega (arith, within earlier.field leaves.near) in
+    let to : later.field ≡ first + (later.field - first) = omega (arith, leaves.after) in
+    go (earlier.field - first) (later.field - first)
+    (subst (λ f. Leaves P pace (spot (first + (earlier.field - first)) earlier.number) (spot f later.number)
+    (spot (first + i) n)) to
+    (subst (λ f. Leaves P pace (spot f earlier.number) later (spot (first + i) n)) at leaves))
   where
-    go : (j k : ℕ) → Leaves (Believed pace whole) pace (first + j) m (first + k) l (first + i) n
-        → IsLeft (Believed pace part) pace i n
+    go : (j k : ℕ)
+        → Leaves P pace (spot (first + j) earlier.number) (spot (first + k) later.number) (spot (first + i) n)
+        → IsLeft (λ f. P (first + f)) pace i n
     go j k leaves = (
-      j,
-      m,
-      k,
-      l,
+      spot j earlier.number,
+      spot k later.number,
       record {
         before = omega (arith, leaves.before);
         near = omega (arith, leaves.near);
         after = omega (arith, leaves.after);
         far = omega (arith, leaves.far);
-        first = (believed_later pace part whole first j m (seen_near whole part first i j is before)).1 leaves.first;
-        last = (believed_later pace part whole first k l (seen_near whole part first i k is after)).1 leaves.last;
-        on = (count_later pace first j m i n).1 leaves.on;
-        back = (count_later pace first i n k l).1 leaves.back;
-        between = λ f x more less b. nearly_later pace (slack_of j k) first i n f x
-            ∙ ap (λ s. nearly pace s (first + i) n (first + f) x) (slack_later first j k)
-            ∙ leaves.between (first + f) x (omega (arith, more)) (omega (arith, less))
-            ((believed_later pace part whole first f x (seen_near whole part first i f is
-            (omega (arith, more, leaves.near), omega (arith, less, leaves.far)))).0 b);
+        first = leaves.first;
+        last = leaves.last;
+        on = (count_later pace first j earlier.number i n).1 leaves.on;
+        back = (count_later pace first i n k later.number).1 leaves.back;
+        between = λ f x more less has. nearly_later pace (slack_of j k) first i n f x
+            ∙ ap (λ s. nearly pace s (spot (first + i) n) (spot (first + f) x)) (slack_later first j k)
+            ∙ leaves.between (first + f) x (omega (arith, more)) (omega (arith, less)) has;
       },
     )
-      where
-        before : IsNear i j
-        before = (omega (arith, leaves.near), omega (arith, leaves.before))
-
-        after : IsNear i k
-        after = (omega (arith, leaves.after), omega (arith, leaves.far))
 
 due_later : (pace : Pace) (whole part : List Sightings) (first i n : ℕ) → IsPart Sightings whole part first i
     → Due pace part i n ↔ Due pace whole (first + i) n
@@ -271,15 +250,19 @@ due_later pace whole part first i n is = (on, back)
     here : slice_get part i ≡ slice_get whole (first + i)
     here = is.same i (omega arith)
 
+    near : (j m : ℕ) → IsNear i j → Believed pace part j m ↔ Believed pace whole (first + j) m
+    near j m by = believed_later pace part whole first j m (seen_near whole part first i j is by)
+
     own : (m : ℕ) → Believed pace part i m ↔ Believed pace whole (first + i) m
-    own m = believed_later pace part whole first i m (seen_near whole part first i i is (omega arith, omega arith))
+    own m = near i m (omega arith, omega arith)
 
     on : Due pace part i n → Due pace whole (first + i) n
     on due = record {
       unbelieved = λ m b. due.unbelieved m ((own m).1 b);
       vacant = λ shows. due.vacant (shows.0, here ∙ shows.1, shows.2);
       unread = λ shows. due.unread (shows.0, here ∙ shows.1, shows.2, shows.3, shows.4);
-      left = left_later pace whole part first i n is due.left;
+      left = left_later (Believed pace whole) pace first i n (left_alike (Believed pace part)
+          (λ j. Believed pace whole (first + j)) pace i n near due.left);
     }
 
     back : Due pace whole (first + i) n → Due pace part i n
@@ -287,7 +270,9 @@ due_later pace whole part first i n is = (on, back)
       unbelieved = λ m b. due.unbelieved m ((own m).0 b);
       vacant = λ shows. due.vacant (shows.0, sym here ∙ shows.1, shows.2);
       unread = λ shows. due.unread (shows.0, sym here ∙ shows.1, shows.2, shows.3, shows.4);
-      left = left_back pace whole part first i n is due.left;
+      left = left_alike (λ j. Believed pace whole (first + j)) (Believed pace part) pace i n
+          (λ j m by. ((near j m by).1, (near j m by).0))
+          (left_back (Believed pace whole) pace first i n (λ j. within_part whole part first i j is) due.left);
     }
 
 -- ---- what is answered

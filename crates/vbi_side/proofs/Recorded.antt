@@ -1,5 +1,6 @@
 -- What fields show that is wrong, and what is right: the number that the disc has there.
 use Rattle.std.proofs.Common.{◌≡◌, ℕ, ◌+◌, ◌*◌, ◌-◌, ◌<◌, ◌≤◌, Bool, true, false, List, refl, arith, ap, sym, inl, inr}
+use Rattle.std.proofs.Common.{eq-eqb, subst}
 use Rattle.std.specs.Prelude.{Option, Some, None, slice_get, ◌⊎◌, not, ◌&&◌}
 use Rattle.std.proofs.lemmas.Bool.{eqb-true, and_parts, and_from}
 use Rattle.vbi_side.specs.declared.sighting.Sightings.{Sightings}
@@ -11,6 +12,10 @@ use Rattle.vbi_side.proofs.Weights.{weight_below-split, once, spread, weight_at-
 pub recorded_is : (o : Option ℕ) (n : ℕ) → is_recorded o n ≡ true → o ≡ Some n
 recorded_is None n e = absurd (let clash : false ≡ true → ⊥ = λ h. cc in clash e)
 recorded_is (Some m) n e = ap Some (sym (eqb-true n m e))
+
+-- the number that the disc has there isn't wrong
+pub not_wrong : (o : Option ℕ) (n : ℕ) → o ≡ Some n → not (is_recorded o n) ≡ false
+not_wrong o n e = subst (λ p. not (is_recorded p n) ≡ false) (sym e) (ap not (eq-eqb n n refl))
 
 pub wrong_or_right : (recorded : ℕ → Option ℕ) (j m : ℕ)
     → (not (is_recorded (recorded j) m) ≡ true) ⊎ (is_recorded (recorded j) m ≡ true)

@@ -1,8 +1,7 @@
 -- Which fields a capture lacks, by two believed numbers.
-use Rattle.std.proofs.Common.{◌≡◌, ℕ, zero, suc, ◌+◌, ◌*◌, ◌-◌, ◌<◌, ◌≤◌, true}
-use Rattle.std.proofs.Common.{false, List, arith, subst, inl, inr}
-use Rattle.std.specs.Prelude.{Option, Some, ◌⊎◌, nat_le}
-use Rattle.std.proofs.lemmas.Bool.Decides.{leb_tells}
+use Rattle.std.proofs.lemmas.Bool.{cases_lt}
+use Rattle.std.proofs.Common.{◌≡◌, ℕ, zero, suc, ◌+◌, ◌*◌, ◌-◌, ◌≤◌, true, List, arith, subst, inl, inr}
+use Rattle.std.specs.Prelude.{Option, Some}
 use Rattle.vbi_side.specs.declared.sighting.Sightings.{Sightings}
 use Rattle.vbi_side.specs.declared.pace.Pace.{Pace}
 use Rattle.vbi_side.specs.declared.pace.Pace.TheVariants.{Video, Film}
@@ -73,13 +72,10 @@ Alone recorded = (j k n : ℕ) → recorded j ≡ Some n → recorded k ≡ Some
 -- so it is where the places of a number are less than two fields apart
 pub alone_of : (disc : ℕ → Option ℕ) (place : ℕ → ℕ) → Rises place
     → ((d e n : ℕ) → disc d ≡ Some n → disc e ≡ Some n → d ≤ e + 1) → Alone (captured disc place)
-alone_of disc place rises close j k n here there even = go (leb_tells j k)
-  where
-    go : ((nat_le j k ≡ true) × (j ≤ k)) ⊎ ((nat_le j k ≡ false) × (k < j)) → j ≡ k
-    go (inl (t, le)) =
-        omega (arith, le, even, apart place j k rises le, close (place k) (place j) n there here)
-    go (inr (f, lt)) =
-        omega (arith, lt, even, apart place k j rises (omega (arith, lt)), close (place j) (place k) n here there)
+alone_of disc place rises close j k n here there even = elim (cases_lt k j) [
+  | inl lt ↦ omega (arith, lt, even, apart place k j rises (omega (arith, lt)), close (place j) (place k) n here there)
+  | inr le ↦ omega (arith, le, even, apart place j k rises le, close (place k) (place j) n there here)
+]
 
 module _ (pace : Pace) (recorded : ℕ → Option ℕ) (fields : List Sightings) (alone : Alone recorded) where
   -- of the right ones one field's at most is of one still

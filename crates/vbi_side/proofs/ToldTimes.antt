@@ -1,6 +1,5 @@
 -- What the word of a completed field tells.
-use Rattle.std.proofs.Common.{◌≡◌, ◌∙◌, ℕ, ◌+◌, ◌*◌, ◌/◌, ◌%◌, ◌<◌, refl, sym, ap, subst, arith}
-use Rattle.std.proofs.Common.{Bool, true, false}
+use Rattle.std.proofs.Common.{◌≡◌, ◌∙◌, ℕ, ◌+◌, ◌*◌, ◌/◌, ◌%◌, ◌<◌, refl, sym, ap, subst, arith, Bool, true, false}
 use Rattle.std.specs.Prelude.{Option, Some, None, nat_le, nat_lt, ◌&&◌, if◌then◌else◌, min, List, slice_get}
 use Rattle.std.proofs.lemmas.Bool.{le-leb, lt-ltb}
 use Rattle.vbi_words.specs.declared.code.Code.{Code}
@@ -69,15 +68,16 @@ number_told system other part m has is = absurd (let clash : None ≡ Some part 
 
 -- what a completed line tells
 pub completed_told : (system : System) (line_16 : Shown) (fields : List Sightings) (i part m word : ℕ)
-    → IsCompletedBy system line_16 fields i part m word
+    → part_of system line_16 ≡ Some part
+    → IsCompletedBy (record { minute = minute_of system; field = i; part = part }) fields m word
     → sighting_of system Times line_16 (record { word = Some word; pass = line_16.pass })
     ≡ record { number = m; weight = pass_weight line_16.pass }
-completed_told system line_16 fields i part m word completed =
+completed_told system line_16 fields i part m word has completed =
     let code : code_of word ≡ Time (m / minute_of system / 60) (m / minute_of system % 60)
     = ap code_of completed.word_is ∙ told_minute (m / minute_of system) completed.early in
     let number : number_from system Times (code_in line_16) (Some (code_of word)) ≡ Some m
     = ap (λ k. number_from system Times (code_in line_16) (Some k)) code
-    ∙ number_told system (code_in line_16) part m completed.part_is completed.elected.part_is in
+    ∙ number_told system (code_in line_16) part m has completed.elected.part_is in
     let weight : min (pass_weight line_16.pass) (pass_weight line_16.pass) ≡ pass_weight line_16.pass = omega arith in
     ap (λ n. sighting_from n (min (pass_weight line_16.pass) (pass_weight line_16.pass))) number
     ∙ ap (λ w. sighting_from (Some m) w) weight
@@ -86,16 +86,16 @@ completed_told system line_16 fields i part m word completed =
 
 pub completed_rightly : (recorded : ℕ → Option ℕ) (system : System) (line_16 : Shown) (fields : List Sightings)
     (i part m : ℕ) → part_of system line_16 ≡ Some part
-    → IsVotedRightly recorded (minute_of system) fields i part m
+    → IsVotedRightly recorded (record { minute = minute_of system; field = i; part = part }) fields m
     → ((n : ℕ) → Shows (slice_get fields i) n → ⊥) → m / minute_of system < 600
     → IsCompleted system line_16 fields i (time_word (m / minute_of system))
 completed_rightly recorded system line_16 fields i part m has voted unseen early = (
   part,
   m,
+  has,
   record {
     unseen = unseen;
-    part_is = has;
-    elected = right_elected recorded (minute_of system) fields i part m voted;
+    elected = right_elected recorded _ fields m voted;
     early = early;
     word_is = refl;
   },
@@ -106,12 +106,16 @@ same_number m n e = cc
 
 pub completed_soundly : (recorded : ℕ → Option ℕ) (system : System) (line_16 : Shown) (fields : List Sightings)
     (i part m word : ℕ) → part_of system line_16 ≡ Some part
-    → IsVotedSoundly recorded (minute_of system) fields i part m → IsCompleted system line_16 fields i word
+    → IsVotedSoundly recorded (record { minute = minute_of system; field = i; part = part }) fields m
+    → IsCompleted system line_16 fields i word
     → sighting_of system Times line_16 (record { word = Some word; pass = line_16.pass })
     ≡ record { number = m; weight = pass_weight line_16.pass }
-completed_soundly recorded system line_16 fields i part m word has voted (other, n, completed) =
-    let same : other ≡ part = same_number other part (sym completed.part_is ∙ has) in
-    let number : n ≡ m = sound_elected recorded (minute_of system) fields i part m n voted
-    (subst (λ p. IsElected (minute_of system) fields i p n) same completed.elected) in
-    completed_told system line_16 fields i other n word completed
+completed_soundly recorded system line_16 fields i part m word has voted (other, n, has_other, completed) =
+    let same : other ≡ part = same_number other part (sym has_other ∙ has) in
+    let number : n ≡ m = sound_elected recorded _ fields m n voted
+    (subst (λ p. IsElected (record { minute = minute_of system; field = i; part = p }) fields n) same
+    completed.elected) in
+    completed_told system line_16 fields i other n word has_other completed
     ∙ ap (λ k. sighting_from (Some k) (pass_weight line_16.pass)) number
+
+pub ruleset told = (completed_told, told_minute, word_of_minute)

@@ -1,10 +1,8 @@
 -- What was misread and what is true around a field.
 use Rattle.std.proofs.Common.{◌≡◌, ◌≢◌, ℕ, ◌+◌, ◌*◌, ◌-◌, ◌%◌, ◌<◌, ◌≤◌, Bool, true}
-use Rattle.std.proofs.Common.{false, List, arith, sym, ◌∙◌, subst, inl, inr, eq-eqb}
+use Rattle.std.proofs.Common.{List, arith, sym, ◌∙◌, subst, inl, inr, eq-eqb}
 use Rattle.std.specs.Prelude.{Option, Some, slice_get, ◌⊎◌, nat_le, not, ◌&&◌, ◌==◌}
-use Rattle.std.proofs.Math.Dec.{eqb}
-use Rattle.std.proofs.lemmas.Bool.{leb-true, le-leb, eqb-true, and_parts, and_from}
-use Rattle.std.proofs.lemmas.Bool.Decides.{eqb_tells, leb_tells}
+use Rattle.std.proofs.lemmas.Bool.{cases_lt, cases_eq, leb-true, le-leb, eqb-true, and_parts, and_from}
 use Rattle.vbi_side.specs.declared.sighting.Sightings.{Sightings}
 use Rattle.vbi_side.specs.declared.pace.Pace.{Pace}
 use Rattle.vbi_side.specs.declared.pace.Pace.TheVariants.{Video, Film}
@@ -13,9 +11,8 @@ use Rattle.vbi_side.specs.Paces.{fits, stays}
 use Rattle.vbi_side.specs.Beliefs.{reach, enough, field_most, window_weight, support_of, Believed}
 use Rattle.vbi_side.specs.Truth.{IsNear, AreEven, InStep, RunsOn, StandsStill}
 use Rattle.vbi_side.specs.Truth.{IsSound, IsSoundStill, is_recorded, wrong_weight}
-use Rattle.vbi_side.proofs.Weights.{weight_below-narrower, weight_below-agree}
+use Rattle.vbi_side.proofs.Weights.{weight_below-narrower, weight_below-agree, spread, weight_at-passes}
 use Rattle.vbi_side.proofs.Recorded.{wrong_if, right_once, right_somewhere}
-use Rattle.vbi_side.proofs.Weights.{spread, weight_at-passes}
 
 -- ---- what fits, in numbers
 
@@ -94,12 +91,10 @@ wrong_support pace recorded fields i a n runs has wrong =
 
 pub sound : (pace : Pace) (recorded : ℕ → Option ℕ) (fields : List Sightings) (i m n : ℕ)
     → IsSound pace recorded fields i m → Believed pace fields i n → n ≡ m
-sound pace recorded fields i m n (runs, has, few) b = go (eqb_tells n m)
-  where
-    go : ((eqb n m ≡ true) × (n ≡ m)) ⊎ ((eqb n m ≡ false) × (n ≢ m)) → n ≡ m
-    go (inl (t, e)) = e
-    go (inr (f, wrong)) =
-        absurd (omega (arith, few, b.enough, wrong_support pace recorded fields i m n runs has wrong))
+sound pace recorded fields i m n (runs, has, few) b = elim (cases_eq n m) [
+  | inl e ↦ e
+  | inr wrong ↦ absurd (omega (arith, few, b.enough, wrong_support pace recorded fields i m n runs has wrong))
+]
 
 pub complete : (pace : Pace) (recorded : ℕ → Option ℕ) (fields : List Sightings) (i m : ℕ)
     → RunsOn pace recorded i → recorded i ≡ Some m → Shows (slice_get fields i) m
@@ -149,19 +144,17 @@ wrong_running recorded fields i a n still = right_once recorded (fits Video i n)
 
 pub sound_still : (recorded : ℕ → Option ℕ) (fields : List Sightings) (i m n : ℕ)
     → IsSoundStill recorded fields i m → Believed Video fields i n → n ≡ m
-sound_still recorded fields i m n (still, few) b = go (eqb_tells n m)
-  where
-    go : ((eqb n m ≡ true) × (n ≡ m)) ⊎ ((eqb n m ≡ false) × (n ≢ m)) → n ≡ m
-    go (inl (t, e)) = e
-    go (inr (f, wrong)) =
-        absurd (omega (
-          arith,
-          few,
-          b.enough,
-          wrong_running recorded fields i m n still,
-          weight_below-narrower (stays i n) (λ j k. not (is_recorded (recorded j) k)) fields i (2 * reach + 1)
-              (omega arith) (wrong_stays recorded i m n still wrong),
-        ))
+sound_still recorded fields i m n (still, few) b = elim (cases_eq n m) [
+  | inl e ↦ e
+  | inr wrong ↦ absurd (omega (
+    arith,
+    few,
+    b.enough,
+    wrong_running recorded fields i m n still,
+    weight_below-narrower (stays i n) (λ j k. not (is_recorded (recorded j) k)) fields i (2 * reach + 1)
+        (omega arith) (wrong_stays recorded i m n still wrong),
+  ))
+]
 
 -- ---- whatever the truth
 
@@ -208,13 +201,7 @@ another test fields i more = elim (spread test fields i reach (2 * reach + 1)) [
 pub never_alone : (pace : Pace) (fields : List Sightings) (i n : ℕ) → Believed pace fields i n
     → (j m : ℕ) × (j ≢ i) × IsNear i j × Shows (slice_get fields j) m
     × ((fits pace i n j m ≡ true) ⊎ (stays i n j m ≡ true))
-never_alone pace fields i n b = go (leb_tells 5 (window_weight (fits pace i n) fields i))
-  where
-    go : ((nat_le 5 (window_weight (fits pace i n) fields i) ≡ true) × (5 ≤ window_weight (fits pace i n) fields i))
-        ⊎ ((nat_le 5 (window_weight (fits pace i n) fields i) ≡ false) × (window_weight (fits pace i n) fields i < 5))
-        → (j m : ℕ) × (j ≢ i) × IsNear i j × Shows (slice_get fields j) m
-        × ((fits pace i n j m ≡ true) ⊎ (stays i n j m ≡ true))
-    go (inl (t, le)) =
-        let p = another (fits pace i n) fields i (omega (arith, le)) in (p.0, p.1, p.2, p.3, p.4, inl p.5)
-    go (inr (f, lt)) =
-        let p = another (stays i n) fields i (omega (arith, lt, b.enough)) in (p.0, p.1, p.2, p.3, p.4, inr p.5)
+never_alone pace fields i n b = elim (cases_lt (window_weight (fits pace i n) fields i) 5) [
+  | inl lt ↦ let p = another (stays i n) fields i (omega (arith, lt, b.enough)) in (p.0, p.1, p.2, p.3, p.4, inr p.5)
+  | inr le ↦ let p = another (fits pace i n) fields i (omega (arith, le)) in (p.0, p.1, p.2, p.3, p.4, inl p.5)
+]

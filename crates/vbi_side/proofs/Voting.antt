@@ -1,20 +1,17 @@
 -- Sums of votes over the first fields, and who leads.
-use Rattle.std.proofs.Common.{◌≡◌, ◌≢◌, ℕ, zero, suc, ◌+◌, ◌-◌, ◌<◌, ◌≤◌, Bool, true, false, List, length}
-use Rattle.std.proofs.Common.{refl, arith, ap, subst, ◌*◌, add-one, inl, inr, sym, ◌∙◌}
-use Rattle.std.specs.Prelude.{Option, Some, None, slice_get, if◌then◌else◌, ◌⊎◌, ◌&&◌, nat_le, min, ◌%◌}
-use Rattle.std.proofs.Common.{get_or, eq-eqb}
+use Rattle.std.proofs.Common.{◌≡◌, ℕ, zero, suc, ◌+◌, ◌-◌, ◌<◌, ◌≤◌, Bool, true, false, List, length, refl, arith, ap}
+use Rattle.std.proofs.Common.{subst, ◌*◌, add-one, inl, inr, sym, ◌∙◌, get_or, eq-eqb}
+use Rattle.std.specs.Prelude.{Option, Some, None, slice_get, if◌then◌else◌, ◌⊎◌, min, ◌%◌}
 use Rattle.std.proofs.lemmas.Option.{slice_get-get_or}
-use Rattle.std.proofs.lemmas.Bool.{leb-true, eqb-true, and_parts, and_from}
-use Rattle.std.proofs.lemmas.Bool.Decides.{leb_tells, eqb_tells}
-use Rattle.std.proofs.Math.Dec.{eqb}
+use Rattle.std.proofs.lemmas.Bool.{cases_lt, cases_eq, leb-true, eqb-true, and_parts, and_from}
 use Rattle.vbi_side.specs.declared.sighting.Sighting.{Sighting}
 use Rattle.vbi_side.specs.declared.sighting.Sightings.{Sightings}
 use Rattle.vbi_side.specs.Sightings.{weight_of}
 use Rattle.vbi_side.specs.Beliefs.{field_most, sighting_weight, field_weight}
-use Rattle.vbi_side.specs.declared.votes.Tally.{Tally}
+use Rattle.vbi_side.specs.declared.votes.Count.{Count}
 use Rattle.vbi_side.specs.Votes.{vote_reach, IsVoter, votes, weight_of_first, votes_cast, votes_as, votes_for}
-use Rattle.vbi_side.specs.Votes.{IsElected}
-use Rattle.vbi_side.specs.Tallies.{key_of, votes_by, Leads}
+use Rattle.vbi_side.specs.Votes.{Election, IsElected}
+use Rattle.vbi_side.specs.VoteCounts.{key_of, votes_by, Leads}
 use Rattle.vbi_side.proofs.Weights.{field_narrower, field_split}
 
 -- a field that shows nothing
@@ -163,19 +160,11 @@ first_apart one other all fields (suc k) here there apart =
 
 -- ---- who leads
 
-pub leads_alike : (of other : ℕ → ℕ) (tally : Tally) → ((k : ℕ) → of k ≡ other k) → Leads of tally → Leads other tally
-leads_alike of other tally same leads = record {
-  leading = omega (arith, leads.leading, same tally.key);
+pub leads_alike : (of other : ℕ → ℕ) (count : Count) → ((k : ℕ) → of k ≡ other k) → Leads of count → Leads other count
+leads_alike of other count same leads = record {
+  leading = omega (arith, leads.leading, same count.key);
   others = λ k apart. omega (arith, leads.others k apart, same k);
 }
-
--- a vote for a key
-pub vote_for : (does is : Bool) (weight whole : ℕ) → weight ≡ (if does then whole else 0)
-    → (if is then weight else 0) ≡ (if does && is then whole else 0)
-vote_for true true weight whole e = e
-vote_for true false weight whole e = refl
-vote_for false true weight whole e = e
-vote_for false false weight whole e = refl
 
 -- none leads before the first vote
 pub none_leads : (of : ℕ → ℕ) → ((k : ℕ) → of k ≡ 0) → Leads of (record { key = 0; ahead = 0; all = 0 })
@@ -185,22 +174,21 @@ none_leads of none = record {
 }
 
 -- who has more than half leads
-pub only_leads : (of : ℕ → ℕ) (tally : Tally) (k : ℕ) → Leads of tally → tally.all < 2 * of k → k ≡ tally.key
-only_leads of tally k leads most = go (eqb_tells k tally.key)
-  where
-    go : ((eqb k tally.key ≡ true) × (k ≡ tally.key)) ⊎ ((eqb k tally.key ≡ false) × (k ≢ tally.key)) → k ≡ tally.key
-    go (inl (t, e)) = e
-    go (inr (f, apart)) = absurd (omega (arith, leads.others k apart, most))
+pub only_leads : (of : ℕ → ℕ) (count : Count) (k : ℕ) → Leads of count → count.all < 2 * of k → k ≡ count.key
+only_leads of count k leads most = elim (cases_eq k count.key) [
+  | inl e ↦ e
+  | inr apart ↦ absurd (omega (arith, leads.others k apart, most))
+]
 
 -- ---- which fields vote
 
-pub votes_near : (minute i part j n : ℕ) → votes minute i part j n ≡ true → IsVoter i j
-votes_near minute i part j n e =
+pub votes_near : (election : Election) (j n : ℕ) → votes election j n ≡ true → IsVoter election.field j
+votes_near election j n e =
     let p = and_parts _ _ (and_parts _ _ e).0 in
-    (leb-true i (j + vote_reach) p.0, leb-true j (i + vote_reach) p.1)
+    (leb-true election.field (j + vote_reach) p.0, leb-true j (election.field + vote_reach) p.1)
 
-pub votes_by_near : (minute i part key j n : ℕ) → votes_by minute i part key j n ≡ true → IsVoter i j
-votes_by_near minute i part key j n e = votes_near minute i part j n (and_parts _ _ e).0
+pub votes_by_near : (election : Election) (key j n : ℕ) → votes_by election key j n ≡ true → IsVoter election.field j
+votes_by_near election key j n e = votes_near election j n (and_parts _ _ e).0
 
 -- the first fields' weight before reach, and after it
 pub none_before : (test : ℕ → ℕ → Bool) (fields : List Sightings) (i : ℕ)
@@ -211,16 +199,11 @@ none_before test fields i near =
 pub none_after : (test : ℕ → ℕ → Bool) (fields : List Sightings) (i end : ℕ)
     → ((j n : ℕ) → test j n ≡ true → IsVoter i j) → end ≡ min (length fields) (i + vote_reach + 1)
     → weight_of_first test fields (length fields) ≡ weight_of_first test fields end
-none_after test fields i end near is = go (leb_tells (length fields) end)
-  where
-    go : ((nat_le (length fields) end ≡ true) × (length fields ≤ end))
-        ⊎ ((nat_le (length fields) end ≡ false) × (end < length fields))
-        → weight_of_first test fields (length fields) ≡ weight_of_first test fields end
-    go (inl (t, le)) =
-        let same : length fields ≡ end = omega (arith, is, le) in ap (weight_of_first test fields) same
-    go (inr (f, lt)) =
-        first_after test fields end (length fields) (omega (arith, lt))
-        (λ j n less e. omega (arith, is, lt, less, (near j n e).1))
+none_after test fields i end near is = elim (cases_lt end (length fields)) [
+  | inl lt ↦ first_after test fields end (length fields) (omega (arith, lt))
+      (λ j n less e. omega (arith, is, lt, less, (near j n e).1))
+  | inr le ↦ let same : length fields ≡ end = omega (arith, is, le) in ap (weight_of_first test fields) same
+]
 
 -- a field that is there
 pub first_next : (test : ℕ → ℕ → Bool) (fields : List Sightings) (k : ℕ) → k < length fields
@@ -232,68 +215,68 @@ first_next test fields k inside =
 
 -- ---- the number that is elected
 
-fits_key : (minute i part m j n : ℕ) → votes_as minute i part m j n ≡ true
-    → votes_by minute i part (2 * m + vote_reach) j n ≡ true
-fits_key minute i part m j n e =
+fits_key : (election : Election) (m j n : ℕ) → votes_as election m j n ≡ true
+    → votes_by election (2 * m + vote_reach) j n ≡ true
+fits_key election m j n e =
     let p = and_parts _ _ e in
-    let near : IsVoter i j = votes_near minute i part j n p.0 in
-    let same : j + 2 * m ≡ i + 2 * n = eqb-true _ _ p.1 in
-    let key : key_of i j n ≡ 2 * m + vote_reach = omega (arith, near, same) in
+    let near : IsVoter election.field j = votes_near election j n p.0 in
+    let same : j + 2 * m ≡ election.field + 2 * n = eqb-true _ _ p.1 in
+    let key : key_of election.field j n ≡ 2 * m + vote_reach = omega (arith, near, same) in
     and_from _ _ p.0 (eq-eqb _ _ key)
 
-key_fits : (minute i part m j n : ℕ) → votes_by minute i part (2 * m + vote_reach) j n ≡ true
-    → votes_as minute i part m j n ≡ true
-key_fits minute i part m j n e =
+key_fits : (election : Election) (m j n : ℕ) → votes_by election (2 * m + vote_reach) j n ≡ true
+    → votes_as election m j n ≡ true
+key_fits election m j n e =
     let p = and_parts _ _ e in
-    let near : IsVoter i j = votes_near minute i part j n p.0 in
-    let key : key_of i j n ≡ 2 * m + vote_reach = eqb-true _ _ p.1 in
-    let same : j + 2 * m ≡ i + 2 * n = omega (arith, near, key) in
+    let near : IsVoter election.field j = votes_near election j n p.0 in
+    let key : key_of election.field j n ≡ 2 * m + vote_reach = eqb-true _ _ p.1 in
+    let same : j + 2 * m ≡ election.field + 2 * n = omega (arith, near, key) in
     and_from _ _ p.0 (eq-eqb _ _ same)
 
 -- the votes for a number are those for its key
-pub votes_for_key : (minute : ℕ) (fields : List Sightings) (i part m : ℕ)
-    → votes_for minute fields i part m
-    ≡ weight_of_first (votes_by minute i part (2 * m + vote_reach)) fields (length fields)
-votes_for_key minute fields i part m =
-    first_alike (votes_as minute i part m) (votes_by minute i part (2 * m + vote_reach)) fields (length fields)
-    (fits_key minute i part m) (key_fits minute i part m)
+pub votes_for_key : (election : Election) (fields : List Sightings) (m : ℕ)
+    → votes_for election fields m
+    ≡ weight_of_first (votes_by election (2 * m + vote_reach)) fields (length fields)
+votes_for_key election fields m =
+    first_alike (votes_as election m) (votes_by election (2 * m + vote_reach)) fields (length fields)
+    (fits_key election m) (key_fits election m)
 
 -- where these are the weights of all votes of each key
-abbrev pub AreCounted : ℕ → List Sightings → ℕ → ℕ → Tally → Type 0
-AreCounted minute fields i part tally =
-    (tally.all ≡ votes_cast minute fields i part)
-    × Leads (λ k. weight_of_first (votes_by minute i part k) fields (length fields)) tally
+abbrev pub AreCounted : Election → List Sightings → Count → Type 0
+AreCounted election fields count =
+    (count.all ≡ votes_cast election fields)
+    × Leads (λ k. weight_of_first (votes_by election k) fields (length fields)) count
 
 -- an elected number has the leading key
-pub elected_leads : (minute : ℕ) (fields : List Sightings) (i part : ℕ) (tally : Tally) (m : ℕ)
-    → AreCounted minute fields i part tally → IsElected minute fields i part m → 2 * m + vote_reach ≡ tally.key
-elected_leads minute fields i part tally m (all, leads) elected =
-    only_leads _ tally (2 * m + vote_reach) leads
-    (omega (arith, all, elected.majority, votes_for_key minute fields i part m))
+pub elected_leads : (election : Election) (fields : List Sightings) (count : Count) (m : ℕ)
+    → AreCounted election fields count → IsElected election fields m → 2 * m + vote_reach ≡ count.key
+elected_leads election fields count m (all, leads) elected =
+    only_leads _ count (2 * m + vote_reach) leads
+    (omega (arith, all, elected.majority, votes_for_key election fields m))
 
 -- of all votes these are enough to elect
 abbrev pub AreEnough : ℕ → ℕ → Type 0
 AreEnough all votes = (field_most ≤ votes) × (all < 2 * votes)
 
 -- and enough votes are for that
-pub elected_enough : (minute : ℕ) (fields : List Sightings) (i part : ℕ) (tally : Tally) (m : ℕ)
-    → AreCounted minute fields i part tally → IsElected minute fields i part m
-    → AreEnough tally.all (weight_of_first (votes_by minute i part tally.key) fields (length fields))
-elected_enough minute fields i part tally m counted elected =
-    let same = votes_for_key minute fields i part m in
-    subst (λ key. AreEnough tally.all (weight_of_first (votes_by minute i part key) fields (length fields)))
-    (elected_leads minute fields i part tally m counted elected)
+pub elected_enough : (election : Election) (fields : List Sightings) (count : Count) (m : ℕ)
+    → AreCounted election fields count → IsElected election fields m
+    → AreEnough count.all (weight_of_first (votes_by election count.key) fields (length fields))
+elected_enough election fields count m counted elected =
+    let same = votes_for_key election fields m in
+    subst (λ key. AreEnough count.all (weight_of_first (votes_by election key) fields (length fields)))
+    (elected_leads election fields count m counted elected)
     (omega (arith, elected.some, same), omega (arith, counted.0, elected.majority, same))
 
 -- the number of a key with enough votes is elected
-pub enough_elected : (minute : ℕ) (fields : List Sightings) (i part : ℕ) (tally : Tally) (m : ℕ)
-    → AreCounted minute fields i part tally
-    → AreEnough tally.all (weight_of_first (votes_by minute i part tally.key) fields (length fields))
-    → tally.key ≡ 2 * m + vote_reach → m % minute ≡ part → IsElected minute fields i part m
-enough_elected minute fields i part tally m (all, leads) enough is has =
-    let same = votes_for_key minute fields i part m in
-    let of : AreEnough tally.all (weight_of_first (votes_by minute i part (2 * m + vote_reach)) fields (length fields))
-    = subst (λ key. AreEnough tally.all (weight_of_first (votes_by minute i part key) fields (length fields))) is
+pub enough_elected : (election : Election) (fields : List Sightings) (count : Count) (m : ℕ)
+    → AreCounted election fields count
+    → AreEnough count.all (weight_of_first (votes_by election count.key) fields (length fields))
+    → count.key ≡ 2 * m + vote_reach → m % election.minute ≡ election.part → IsElected election fields m
+enough_elected election fields count m (all, leads) enough is has =
+    let same = votes_for_key election fields m in
+    let of : AreEnough count.all (weight_of_first (votes_by election (2 * m + vote_reach)) fields (length fields))
+    = subst (λ key. AreEnough count.all (weight_of_first (votes_by election key) fields (length fields))) is
     enough in
     record { part_is = has; majority = omega (arith, all, same, of.1); some = omega (arith, same, of.0) }
 
@@ -308,3 +291,6 @@ pub none_later : (test : ℕ → ℕ → Bool) (fields : List Sightings) (i end 
     → weight_of_first test fields k ≡ weight_of_first test fields (length fields)
 none_later test fields i end k near is at =
     ap (weight_of_first test fields) at ∙ sym (none_after test fields i end near is)
+
+pub ruleset keyed =
+    (first_next, none_first, none_later, votes_near, votes_by_near, none_leads, leads_alike)

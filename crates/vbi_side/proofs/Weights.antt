@@ -1,14 +1,14 @@
 -- Sums of weights over the window.
+use Rattle.std.proofs.lemmas.Bool.{cases_eq, cases_lt}
 use Rattle.std.proofs.Common.{◌≡◌, ◌≢◌, ℕ, zero, suc, ◌+◌, ◌-◌, ◌<◌, ◌≤◌, Bool, true}
-use Rattle.std.proofs.Common.{false, List, refl, arith, ap, subst, ◌*◌, add-one, inl, inr}
+use Rattle.std.proofs.Common.{false, List, refl, arith, ap, sym, subst, ◌*◌, add-one, inl, inr}
 use Rattle.std.specs.Prelude.{Option, Some, None, slice_get, if◌then◌else◌, nat_le, ◌⊎◌}
-use Rattle.std.proofs.lemmas.Bool.Decides.{leb_tells, eqb_tells}
+use Rattle.std.proofs.lemmas.Bool.Decides.{leb_tells}
 use Rattle.vbi_side.specs.declared.sighting.Sighting.{Sighting}
 use Rattle.vbi_side.specs.declared.sighting.Sightings.{Sightings}
 use Rattle.vbi_side.specs.Truth.{IsNear}
 use Rattle.vbi_side.specs.Sightings.{weight_of, Has, Shows}
 use Rattle.vbi_side.specs.Beliefs.{reach, field_most, sighting_weight, field_weight, weight_at, weight_below}
-use Rattle.std.proofs.Math.Dec.{eqb}
 
 pub weight_below_zero : (test : ℕ → ℕ → Bool) (fields : List Sightings) (i : ℕ) → weight_below test fields i 0 ≡ 0
 unfolding weight_below
@@ -58,54 +58,48 @@ field_narrower few more None passes = omega arith
 field_narrower few more (Some field) passes =
     omega (arith, sighting_narrower few more field.line_17 passes, sighting_narrower few more field.line_18 passes)
 
-pub weight_at-narrower : (few more : ℕ → ℕ → Bool) (fields : List Sightings) (i k : ℕ) → k ≤ 2 * reach
+-- nor in a capture that agrees on the window
+weight_at-narrower : (few more : ℕ → ℕ → Bool) (fields others : List Sightings) (i k : ℕ) → k ≤ 2 * reach
+    → ((j : ℕ) → IsNear i j → slice_get fields j ≡ slice_get others j)
     → ((j n : ℕ) → IsNear i j → few j n ≡ true → more j n ≡ true)
-    → weight_at few fields i k ≤ weight_at more fields i k
-weight_at-narrower few more fields i k within passes = go (leb_tells reach (i + k))
+    → weight_at few fields i k ≤ weight_at more others i k
+weight_at-narrower few more fields others i k within agree passes = elim (leb_tells reach (i + k)) [
+  | inl (t, le) ↦ rw t (subst (λ f. field_weight (few c) (slice_get fields c) ≤ field_weight (more c) f)
+      (agree c (omega arith, omega arith))
+      (field_narrower (few c) (more c) (slice_get fields c) (λ n. passes c n (omega arith, omega arith))))
+  | inr (f, lt) ↦ rw f (omega arith)
+]
   where
-    go : ((nat_le reach (i + k) ≡ true) × (reach ≤ i + k)) ⊎ ((nat_le reach (i + k) ≡ false) × (i + k < reach))
-        → weight_at few fields i k ≤ weight_at more fields i k
-    go (inl (t, le)) =
-        rw t (field_narrower (few (i + k - reach)) (more (i + k - reach)) (slice_get fields (i + k - reach))
-        (λ n. passes (i + k - reach) n (omega arith, omega arith)))
-    go (inr (f, lt)) = rw f (omega arith)
+    c : ℕ
+    c = i + k - reach
+
+weight_below-within : (few more : ℕ → ℕ → Bool) (fields others : List Sightings) (i n : ℕ) → n ≤ 2 * reach + 1
+    → ((j : ℕ) → IsNear i j → slice_get fields j ≡ slice_get others j)
+    → ((j n : ℕ) → IsNear i j → few j n ≡ true → more j n ≡ true)
+    → weight_below few fields i n ≤ weight_below more others i n
+unfolding weight_below
+weight_below-within few more fields others i zero within agree passes = omega arith
+weight_below-within few more fields others i (suc n) within agree passes =
+    omega (
+      arith,
+      weight_below-within few more fields others i n (omega arith) agree passes,
+      weight_at-narrower few more fields others i n (omega arith) agree passes,
+    )
 
 pub weight_below-narrower : (few more : ℕ → ℕ → Bool) (fields : List Sightings) (i n : ℕ) → n ≤ 2 * reach + 1
     → ((j n : ℕ) → IsNear i j → few j n ≡ true → more j n ≡ true)
     → weight_below few fields i n ≤ weight_below more fields i n
-unfolding weight_below
-weight_below-narrower few more fields i zero within passes = omega arith
-weight_below-narrower few more fields i (suc n) within passes =
-    omega (
-      arith,
-      weight_below-narrower few more fields i n (omega arith) passes,
-      weight_at-narrower few more fields i n (omega arith) passes,
-    )
-
--- ---- captures that agree on the window
-
-weight_at-agree : (test : ℕ → ℕ → Bool) (fields others : List Sightings) (i k : ℕ) → k ≤ 2 * reach
-    → ((j : ℕ) → IsNear i j → slice_get fields j ≡ slice_get others j)
-    → weight_at test fields i k ≡ weight_at test others i k
-weight_at-agree test fields others i k within agree = go (leb_tells reach (i + k))
-  where
-    go : ((nat_le reach (i + k) ≡ true) × (reach ≤ i + k)) ⊎ ((nat_le reach (i + k) ≡ false) × (i + k < reach))
-        → weight_at test fields i k ≡ weight_at test others i k
-    go (inl (t, le)) =
-        rw t (ap (field_weight (test (i + k - reach))) (agree (i + k - reach) (omega arith, omega arith)))
-    go (inr (f, lt)) = rw f refl
+weight_below-narrower few more fields i n within =
+    weight_below-within few more fields fields i n within (λ j near. refl)
 
 pub weight_below-agree : (test : ℕ → ℕ → Bool) (fields others : List Sightings) (i n : ℕ) → n ≤ 2 * reach + 1
     → ((j : ℕ) → IsNear i j → slice_get fields j ≡ slice_get others j)
     → weight_below test fields i n ≡ weight_below test others i n
-unfolding weight_below
-weight_below-agree test fields others i zero within agree = refl
-weight_below-agree test fields others i (suc n) within agree =
-    omega (
-      arith,
-      weight_below-agree test fields others i n (omega arith) agree,
-      weight_at-agree test fields others i n (omega arith) agree,
-    )
+weight_below-agree test fields others i n within agree = omega (
+  arith,
+  weight_below-within test test fields others i n within agree (λ j n near e. e),
+  weight_below-within test test others fields i n within (λ j near. sym (agree j near)) (λ j n near e. e),
+)
 
 -- ---- a test that passes what one of two others does
 
@@ -137,14 +131,11 @@ field_split test some rest (Some field) passes =
 weight_at-split : (test some rest : ℕ → ℕ → Bool) (fields : List Sightings) (i k : ℕ) → k ≤ 2 * reach
     → ((j n : ℕ) → IsNear i j → test j n ≡ true → (some j n ≡ true) ⊎ (rest j n ≡ true))
     → weight_at test fields i k ≤ weight_at some fields i k + weight_at rest fields i k
-weight_at-split test some rest fields i k within passes = go (leb_tells reach (i + k))
-  where
-    go : ((nat_le reach (i + k) ≡ true) × (reach ≤ i + k)) ⊎ ((nat_le reach (i + k) ≡ false) × (i + k < reach))
-        → weight_at test fields i k ≤ weight_at some fields i k + weight_at rest fields i k
-    go (inl (t, le)) =
-        rw t (field_split (test (i + k - reach)) (some (i + k - reach)) (rest (i + k - reach))
-        (slice_get fields (i + k - reach)) (λ n. passes (i + k - reach) n (omega arith, omega arith)))
-    go (inr (f, lt)) = rw f (omega arith)
+weight_at-split test some rest fields i k within passes = elim (leb_tells reach (i + k)) [
+  | inl (t, le) ↦ rw t (field_split (test (i + k - reach)) (some (i + k - reach)) (rest (i + k - reach))
+      (slice_get fields (i + k - reach)) (λ n. passes (i + k - reach) n (omega arith, omega arith)))
+  | inr (f, lt) ↦ rw f (omega arith)
+]
 
 pub weight_below-split : (test some rest : ℕ → ℕ → Bool) (fields : List Sightings) (i n : ℕ) → n ≤ 2 * reach + 1
     → ((j m : ℕ) → IsNear i j → test j m ≡ true → (some j m ≡ true) ⊎ (rest j m ≡ true))
@@ -177,13 +168,10 @@ sighting_passes test sighting more = go (test sighting.number) refl
 
 pub field_passes : (test : ℕ → Bool) (field : Option Sightings) → 0 < field_weight test field → Passes test field
 field_passes test None more = absurd (omega arith)
-field_passes test (Some field) more = go (leb_tells 1 (sighting_weight test field.line_17))
-  where
-    go : ((nat_le 1 (sighting_weight test field.line_17) ≡ true) × (1 ≤ sighting_weight test field.line_17))
-        ⊎ ((nat_le 1 (sighting_weight test field.line_17) ≡ false) × (sighting_weight test field.line_17 < 1))
-        → Passes test (Some field)
-    go (inl (t, le)) = let p = sighting_passes test field.line_17 (omega (arith, le)) in (p.0, inl p.1, p.2)
-    go (inr (f, lt)) = let p = sighting_passes test field.line_18 (omega (arith, lt, more)) in (p.0, inr p.1, p.2)
+field_passes test (Some field) more = elim (cases_lt (sighting_weight test field.line_17) 1) [
+  | inl lt ↦ let p = sighting_passes test field.line_18 (omega (arith, lt, more)) in (p.0, inr p.1, p.2)
+  | inr le ↦ let p = sighting_passes test field.line_17 (omega (arith, le)) in (p.0, inl p.1, p.2)
+]
 
 pub weight_at-passes : (test : ℕ → ℕ → Bool) (fields : List Sightings) (i k : ℕ) → 0 < weight_at test fields i k
     → (reach ≤ i + k) × Passes (test (i + k - reach)) (slice_get fields (i + k - reach))
@@ -229,17 +217,15 @@ Spread test fields i c n =
 pub spread : (test : ℕ → ℕ → Bool) (fields : List Sightings) (i c n : ℕ) → Spread test fields i c n
 unfolding weight_below
 spread test fields i c zero = inl (omega arith, λ h. refl)
-spread test fields i c (suc n) = go (spread test fields i c n) (leb_tells 1 (weight_at test fields i n)) (eqb_tells n c)
+spread test fields i c (suc n) = go (spread test fields i c n) (cases_lt (weight_at test fields i n) 1) (cases_eq n c)
   where
-    go : Spread test fields i c n
-        → ((nat_le 1 (weight_at test fields i n) ≡ true) × (1 ≤ weight_at test fields i n))
-        ⊎ ((nat_le 1 (weight_at test fields i n) ≡ false) × (weight_at test fields i n < 1))
-        → ((eqb n c ≡ true) × (n ≡ c)) ⊎ ((eqb n c ≡ false) × (n ≢ c)) → Spread test fields i c (suc n)
+    go : Spread test fields i c n → (weight_at test fields i n < 1) ⊎ (1 ≤ weight_at test fields i n) → (n ≡ c)
+        ⊎ (n ≢ c) → Spread test fields i c (suc n)
     go (inr (k, less, apart, more)) weighs at = inr (k, omega (arith, less), apart, more)
-    go (inl (most, none)) (inr (f, lt)) at =
+    go (inl (most, none)) (inl lt) at =
         inl (omega (arith, most, lt), λ h. omega (arith, none (omega (arith, h)), lt))
-    go (inl (most, none)) (inl (t, le)) (inr (f, apart)) = inr (n, omega arith, apart, omega (arith, le))
-    go (inl (most, none)) (inl (t, le)) (inl (s, e)) =
+    go (inl (most, none)) (inr le) (inr apart) = inr (n, omega arith, apart, omega (arith, le))
+    go (inl (most, none)) (inr le) (inl e) =
         inl (omega (arith, none (omega (arith, e)), weight_at-most test fields i n), λ h. absurd (omega (arith, h, e)))
 
 -- where no two fields near i weigh something, the sum is what one field weighs at most
@@ -248,16 +234,15 @@ pub once : (test : ℕ → ℕ → Bool) (fields : List Sightings) (i n : ℕ) �
     → weight_below test fields i n ≤ field_most
 unfolding weight_below
 once test fields i zero within alone = omega arith
-once test fields i (suc n) within alone = go (leb_tells 1 (weight_at test fields i n)) (spread test fields i n n)
+once test fields i (suc n) within alone = go (cases_lt (weight_at test fields i n) 1) (spread test fields i n n)
     (once test fields i n (omega arith) alone)
   where
-    go : ((nat_le 1 (weight_at test fields i n) ≡ true) × (1 ≤ weight_at test fields i n))
-        ⊎ ((nat_le 1 (weight_at test fields i n) ≡ false) × (weight_at test fields i n < 1))
-        → Spread test fields i n n → weight_below test fields i n ≤ field_most
+    go : (weight_at test fields i n < 1) ⊎ (1 ≤ weight_at test fields i n) → Spread test fields i n n
+        → weight_below test fields i n ≤ field_most
         → weight_below test fields i n + weight_at test fields i n ≤ field_most
-    go (inr (f, lt)) at below = omega (arith, below, lt)
-    go (inl (t, le)) (inl (most, none)) below = omega (arith, none (omega arith), weight_at-most test fields i n)
-    go (inl (t, le)) (inr (k, less, apart, more)) below =
+    go (inl lt) at below = omega (arith, below, lt)
+    go (inr le) (inl (most, none)) below = omega (arith, none (omega arith), weight_at-most test fields i n)
+    go (inr le) (inr (k, less, apart, more)) below =
         let p = weight_at-passes test fields i n (omega (arith, le)) in
         let q = weight_at-passes test fields i k more in
         absurd (let e : i + n - reach ≡ i + k - reach

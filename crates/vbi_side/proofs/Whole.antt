@@ -1,11 +1,9 @@
 -- The pace of a disc that is read whole is found.
 use Rattle.std.proofs.Common.{◌≡◌, ◌≢◌, ℕ, zero, suc, ◌+◌, ◌*◌, ◌-◌, ◌<◌, ◌≤◌, Bool, true, false, List, length}
 use Rattle.std.proofs.Common.{refl, arith, ap, sym, ◌∙◌, subst, inl, inr}
-use Rattle.std.specs.Prelude.{Option, Some, None, slice_get, ◌⊎◌, nat_lt, not, ◌&&◌, ◌==◌}
-use Rattle.std.proofs.Math.Dec.{eqb}
-use Rattle.std.proofs.lemmas.Bool.{eqb-true, ltb-true, lt-ltb, and_parts, and_from}
+use Rattle.std.specs.Prelude.{Option, Some, slice_get, ◌⊎◌, nat_lt, not, ◌&&◌, ◌==◌}
+use Rattle.std.proofs.lemmas.Bool.{cases_eq, eqb-true, ltb-true, lt-ltb, and_parts, and_from}
 use Rattle.std.proofs.lemmas.Bool.Decides.{eqb_tells}
-use Rattle.std.proofs.lemmas.Option.{slice_get_within}
 use Rattle.vbi_words.specs.declared.system.System.{System}
 use Rattle.vbi_words.specs.declared.system.System.TheVariants.{Ntsc, Pal}
 use Rattle.vbi_side.specs.declared.lines.Counted.{Counted}
@@ -15,11 +13,12 @@ use Rattle.vbi_side.specs.declared.pace.Pace.{Pace}
 use Rattle.vbi_side.specs.declared.pace.Pace.TheVariants.{Video, Film}
 use Rattle.vbi_side.specs.Sightings.{Shows}
 use Rattle.vbi_side.specs.Paces.{fits}
-use Rattle.vbi_side.specs.Beliefs.{reach, field_most, window_weight, weight_at, Believed}
-use Rattle.vbi_side.specs.Found.{IsCount, pace_by, IsFound}
+use Rattle.vbi_side.specs.Beliefs.{reach, field_most, window_weight, Believed}
+use Rattle.vbi_side.specs.PaceSearch.{IsCount, pace_by, IsFound}
 use Rattle.vbi_side.specs.Truth.{IsNear, is_recorded, wrong_weight}
 use Rattle.vbi_side.specs.Whole.{IsWhole, TakesTurns}
-use Rattle.vbi_side.proofs.Recorded.{right_of, right_is, wrong_and_right}
+use Rattle.vbi_side.proofs.Filling.{shown_within}
+use Rattle.vbi_side.proofs.Recorded.{not_wrong, right_of, right_is, wrong_and_right}
 use Rattle.vbi_side.proofs.Truth.{complete, wrong_still}
 use Rattle.vbi_side.proofs.Weights.{weight_below-split, once, spread, weight_at-passes}
 
@@ -49,36 +48,27 @@ one_counted : (pace : Pace) (fields : List Sightings) (n count i m : ℕ) → Be
 one_counted pace fields zero count i m b less counted = absurd (omega (arith, less))
 one_counted pace fields (suc n) count i m b less (inl (k, fewer, c, counted, is)) = omega (arith, is)
 one_counted pace fields (suc n) count i m b less (inr (none, counted)) =
-    go (eqb_tells i n) (λ before. one_counted pace fields n count i m b before counted)
+    go (cases_eq i n) (λ before. one_counted pace fields n count i m b before counted)
   where
-    go : ((eqb i n ≡ true) × (i ≡ n)) ⊎ ((eqb i n ≡ false) × (i ≢ n)) → (i < n → 1 ≤ count) → 1 ≤ count
-    go (inl (t, e)) others = absurd (none m (subst (λ j. Believed pace fields j m) e b))
-    go (inr (f, apart)) others = others (omega (arith, less, apart))
+    go : (i ≡ n) ⊎ (i ≢ n) → (i < n → 1 ≤ count) → 1 ≤ count
+    go (inl e) others = absurd (none m (subst (λ j. Believed pace fields j m) e b))
+    go (inr apart) others = others (omega (arith, less, apart))
 
 -- ---- nothing is misread
 
 is_right : (o : Option ℕ) (n : ℕ) → o ≡ Some n → not (is_recorded o n) ≡ true → ⊥
-is_right o n e wrong = go (eqb_tells n n) (subst (λ p. not (is_recorded p n) ≡ true) e wrong)
-  where
-    go : ((eqb n n ≡ true) × (n ≡ n)) ⊎ ((eqb n n ≡ false) × (n ≢ n)) → not (n == n) ≡ true → ⊥
-    go (inl (t, same)) is = let turned : not true ≡ true = subst (λ b. not b ≡ true) t is in cc
-    go (inr (f, apart)) is = apart refl
+is_right o n e wrong = let right = not_wrong o n e in cc
 
 pub none_misread : (recorded : ℕ → Option ℕ) (fields : List Sightings) (i : ℕ)
     → ((j n : ℕ) → Shows (slice_get fields j) n → recorded j ≡ Some n) → wrong_weight recorded fields i ≡ 0
-none_misread recorded fields i right = go (spread wrong fields i (2 * reach + 1) (2 * reach + 1))
+none_misread recorded fields i right = elim (spread wrong fields i (2 * reach + 1) (2 * reach + 1)) [
+  | inl (most, none) ↦ none (omega arith)
+  | inr (k, less, apart, more) ↦ let p = weight_at-passes wrong fields i k more in
+      absurd (is_right (recorded (i + k - reach)) p.1.0 (right (i + k - reach) p.1.0 p.1.1) p.1.2)
+]
   where
     wrong : ℕ → ℕ → Bool
     wrong = λ j n. not (is_recorded (recorded j) n)
-
-    go : ((wrong_weight recorded fields i ≤ field_most)
-        × (2 * reach + 1 ≤ 2 * reach + 1 → wrong_weight recorded fields i ≡ 0))
-        ⊎ ((k : ℕ) × (k < 2 * reach + 1) × (k ≢ 2 * reach + 1) × (0 < weight_at wrong fields i k))
-        → wrong_weight recorded fields i ≡ 0
-    go (inl (most, none)) = none (omega arith)
-    go (inr (k, less, apart, more)) =
-        let p = weight_at-passes wrong fields i k more in
-        absurd (is_right (recorded (i + k - reach)) p.1.0 (right (i + k - reach) p.1.0 p.1.1) p.1.2)
 
 -- so each number that is shown is believed
 all_believed : (pace : Pace) (recorded : ℕ → Option ℕ) (fields : List Sightings) (i n : ℕ)
@@ -133,11 +123,10 @@ turns_weight recorded fields i m turns has =
     other = λ j n. not (j == i) && right j n
 
     apart : (j n : ℕ) → IsNear i j → right j n ≡ true → (here j n ≡ true) ⊎ (other j n ≡ true)
-    apart j n near e = go (eqb_tells j i)
-      where
-        go : ((eqb j i ≡ true) × (j ≡ i)) ⊎ ((eqb j i ≡ false) × (j ≢ i)) → (here j n ≡ true) ⊎ (other j n ≡ true)
-        go (inl (t, is)) = inl t
-        go (inr (f, isnt)) = inr (and_from (not (j == i)) (right j n) (ap not f) e)
+    apart j n near e = elim (eqb_tells j i) [
+      | inl (t, is) ↦ inl t
+      | inr (f, isnt) ↦ inr (and_from (not (j == i)) (right j n) (ap not f) e)
+    ]
 
     one : (j k l n : ℕ) → IsNear i j → IsNear i k → here j l ≡ true → here k n ≡ true → j ≡ k
     one j k l n near others e f = eqb-true j i e ∙ sym (eqb-true k i f)
@@ -173,8 +162,4 @@ finds_film recorded fields i n pace whole turns shown (video, film, videos, film
     (λ j m b. none_believed recorded fields j m whole turns b) videos in
     is ∙ ap (λ v. pace_by v film) none ∙ film_most film
     (one_counted Film fields (length fields) film i n (all_believed Film recorded fields i n whole shown)
-    (within (slice_get fields i) refl shown) films)
-  where
-    within : (field : Option Sightings) → slice_get fields i ≡ field → Shows field n → i < length fields
-    within None e shows = absurd shows
-    within (Some field) e shows = slice_get_within fields i field e
+    (shown_within fields i n shown) films)

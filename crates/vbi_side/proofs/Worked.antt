@@ -6,9 +6,15 @@ use Rattle.vbi_side.specs.Sightings.{Shows}
 use Rattle.vbi_side.specs.Beliefs.{enough, weight_below, support_of, Believed}
 use Rattle.vbi_side.specs.Truth.{IsSound, wrong_weight, video_disc, film_disc}
 use Rattle.vbi_side.specs.Whole.{IsWhole}
-use Rattle.vbi_side.specs.Worked.{wrong_by_9, wrong_by_10, field_of, film_side}
+use Rattle.vbi_side.specs.Worked.{blank, wrong_by_9, wrong_by_10, field_of, film_side}
 use Rattle.vbi_side.proofs.Discs.{video_runs, film_runs}
-use Rattle.vbi_side.proofs.WorkedPictures.{none_shown}
+
+-- a blank field shows no number
+pub none_shown : (n : ℕ) → Shows (Some blank) n → ⊥
+none_shown n shown = elim shown [
+  | inl h ↦ absurd (omega (arith, h.0))
+  | inr h ↦ absurd (omega (arith, h.0))
+]
 
 pub nine : wrong_weight video_disc wrong_by_9 4 ≡ 9
 unfolding weight_below
@@ -91,3 +97,5 @@ film_much (suc (suc (suc (suc (suc (suc k)))))) n shown = absurd shown
 
 pub whole_film : IsWhole Film film_disc film_side
 whole_film = record { runs = film_runs; right = film_right; much = film_much }
+
+pub ruleset sides = (nine, ten, sound_side, right, wrong)

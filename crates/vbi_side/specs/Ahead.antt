@@ -3,6 +3,7 @@ use Rattle.std.specs.Prelude.{◌≡◌, ℕ, ◌<◌, ◌≤◌, List, Bool}
 use Rattle.vbi_side.specs.declared.sighting.Sighting.{Sighting}
 use Rattle.vbi_side.specs.declared.sighting.Sightings.{Sightings}
 use Rattle.vbi_side.specs.declared.pace.Pace.{Pace}
+use Rattle.vbi_side.specs.declared.place.Place.{Place}
 use Rattle.vbi_side.specs.declared.belief.Fit.{Fit}
 use Rattle.vbi_side.specs.declared.belief.Fit.TheVariants.{Runs, Stays, Says, Opposes}
 use Rattle.vbi_side.specs.Sightings.{Has}
@@ -23,8 +24,9 @@ abbrev pub IsAhead : Pace → List Sightings → ℕ → ℕ → Sighting → Ty
 IsAhead pace fields i n other =
     (m : ℕ) → Has other m → (m ≡ n → ⊥) → support_of pace fields i m < support_of pace fields i n
 
--- the sighting has number n, enough supports it, and less supports another number that the other sighting has
-pub record IsBelieved (pace : Pace) (fields : List Sightings) (i : ℕ) (sighting other : Sighting) (n : ℕ) : Type 0 where
-  pub has : Has sighting n
-  pub enough : enough ≤ support_of pace fields i n
-  pub ahead : IsAhead pace fields i n other
+-- the sighting has the number of this place, enough supports it, and less supports another number that the other
+-- sighting has
+pub record IsBelieved (pace : Pace) (fields : List Sightings) (here : Place) (sighting other : Sighting) : Type 0 where
+  pub has : Has sighting here.number
+  pub enough : enough ≤ support_of pace fields here.field here.number
+  pub ahead : IsAhead pace fields here.field here.number other

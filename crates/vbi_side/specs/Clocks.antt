@@ -1,13 +1,13 @@
 -- Numbers that a disc leaves out to keep to the clock, and where the others stand.
-use Rattle.std.specs.Prelude.{◌%◌, ◌<◌, ◌==◌, ◌&&◌, nat_lt, nat_le}
-use Rattle.std.specs.Prelude.{◌≡◌, ℕ, ◌+◌, ◌*◌, ◌-◌, ◌/◌, ◌≤◌, Bool, true, false, List, Option, Some, None}
-use Rattle.std.specs.Prelude.{if◌then◌else◌}
+use Rattle.std.specs.Prelude.{◌%◌, ◌<◌, ◌==◌, ◌&&◌, nat_lt, nat_le, ◌≡◌, ℕ, ◌+◌, ◌*◌, ◌-◌, ◌/◌, ◌≤◌, Bool, true}
+use Rattle.std.specs.Prelude.{false, List, Option, Some, None, if◌then◌else◌}
 use Rattle.vbi_side.specs.declared.clock.Clock.{Clock}
 use Rattle.vbi_side.specs.declared.clock.Clock.TheVariants.{Plain, DropFrame, OneIn}
 use Rattle.vbi_side.specs.declared.pace.Pace.{Pace}
 use Rattle.vbi_side.specs.declared.pace.Pace.TheVariants.{Video}
 use Rattle.vbi_side.specs.declared.number.Number.{Number}
-use Rattle.vbi_side.specs.Paces.{fits, nearly}
+use Rattle.vbi_side.specs.declared.place.Place.{Place}
+use Rattle.vbi_side.specs.Paces.{spot, fits, nearly}
 use Rattle.vbi_side.specs.Numbers.{IsMarked}
 
 -- this many numbers below n leave this remainder by the period
@@ -50,9 +50,13 @@ place clock n = 2 * kept clock n
 abbrev pub clock_fits : Clock → ℕ → ℕ → ℕ → ℕ → Bool
 clock_fits clock i m k n = fits Video i (kept clock m) k (kept clock n)
 
--- by the clock they nearly fit, at this pace
-abbrev pub nearly_by : Clock → Pace → ℕ → ℕ → ℕ → ℕ → ℕ → Bool
-nearly_by clock pace slack i m k n = nearly pace slack i (kept clock m) k (kept clock n)
+-- a number in the place that the clock leaves it
+abbrev pub by_clock : Clock → Place → Place
+by_clock clock a = spot a.field (kept clock a.number)
+
+-- by the clock two places nearly fit, at this pace
+abbrev pub nearly_by : Clock → Pace → ℕ → Place → Place → Bool
+nearly_by clock pace slack a b = nearly pace slack (by_clock clock a) (by_clock clock b)
 
 -- no clock is known
 abbrev pub is_plain : Clock → Bool
@@ -67,7 +71,8 @@ abbrev pub DiscCountsBy : Clock → Pace → (ℕ → Option ℕ) → Type 0
 DiscCountsBy clock pace disc = (d e m n : ℕ) → disc d ≡ Some m → disc e ≡ Some n
     → fits pace d (kept clock m) e (kept clock n) ≡ true
 
--- the same of video, of a disc that may have a number on both fields of its picture: then `slack` is 1, else 0
+-- a disc of video, which may have a number on both fields of its picture, counts so by the clock: to within a slack of
+-- 1 if it has, else of 0
 abbrev pub DiscNearlyBy : Clock → ℕ → (ℕ → Option ℕ) → Type 0
 DiscNearlyBy clock slack disc = (d e m n : ℕ) → disc d ≡ Some m → disc e ≡ Some n
     → e + 2 * kept clock m ≤ d + 2 * kept clock n + slack
@@ -76,11 +81,11 @@ DiscNearlyBy clock slack disc = (d e m n : ℕ) → disc d ≡ Some m → disc e
 abbrev pub IsClear : Clock → ℕ → Type 0
 IsClear clock n = left_out clock (n + 12) ≡ left_out clock (n - 12)
 
--- this many of these are left out
+-- this many numbers within reach of number n are left out
 abbrev pub out_near : Clock → ℕ → ℕ
 out_near clock n = left_out clock (n + 12) - left_out clock (n - 12)
 
--- none is within reach of the number that is believed of field i
+-- the clock leaves out no number within reach of the one that is believed of field i
 abbrev pub IsClearAt : Clock → List Number → ℕ → Type 0
 IsClearAt clock answers i = (n : ℕ) → IsMarked answers i n → IsClear clock n
 
@@ -94,7 +99,7 @@ numbered number d = if d % 2 == 0 then Some (number (d / 2)) else None
 abbrev pub drop_number : ℕ → ℕ
 drop_number p = p + 18 * (p / 17982) + 2 * ((p % 17982 - 2) / 1798)
 
--- those of which one in 1,000 is left out, and one in 1,001
+-- the numbers of a disc that leaves out one in 1,000, and of one that leaves out one in 1,001
 abbrev pub thousand_number : ℕ → ℕ → ℕ
 thousand_number phase p = p + (p + (999 - phase)) / 999
 

@@ -4,20 +4,14 @@ use Rattle.std.specs.Prelude.{ℕ, ◌+◌, ◌*◌, ◌==◌, nat_lt, ◌&&◌,
 use Rattle.std.specs.Prelude.{Option, Some, None, option_map}
 use Rattle.vbi_words.specs.declared.system.System.{System}
 use Rattle.vbi_words.specs.declared.system.System.TheVariants.{Ntsc, Pal}
-use Rattle.vbi_words.specs.declared.outcome.Reading.{Reading}
 use Rattle.vbi_words.specs.declared.code.Code.{Code}
 use Rattle.vbi_words.specs.declared.code.Code.TheVariants.{Picture, Time, ClvPicture, Chapter, LeadIn, LeadOut}
-use Rattle.vbi_words.specs.Outcomes.{word_of}
 use Rattle.vbi_words.specs.Codes.{code_of}
 use Rattle.vbi_side.specs.declared.lines.Counted.{Counted}
 use Rattle.vbi_side.specs.declared.lines.Counted.TheVariants.{Pictures, Times}
 use Rattle.vbi_side.specs.declared.lines.Shown.{Shown}
 use Rattle.vbi_side.specs.declared.sighting.Sighting.{Sighting}
 use Rattle.vbi_side.specs.declared.sighting.Sightings.{Sightings}
-
--- what a line shows by its reading
-abbrev pub shown_of : Reading → Shown
-shown_of reading = record { word = word_of reading.outcome; pass = reading.pass }
 
 -- the pictures of a second
 abbrev pub rate_of : System → ℕ

@@ -1,6 +1,6 @@
 -- What was misread around a field, counted in words: what its lines 16, 17 and 18 show, beside the words on the disc.
 use Rattle.std.specs.Prelude.{◌≡◌, ℕ, zero, suc, ◌+◌, ◌*◌, ◌-◌, ◌<◌, ◌==◌, not, nat_le, if◌then◌else◌, ◌⊎◌}
-use Rattle.std.specs.Prelude.{Bool, true, false, List, Option, Some, None, option_map, slice_get}
+use Rattle.std.specs.Prelude.{Bool, true, false, List, map, Option, Some, None, option_map, slice_get}
 use Rattle.vbi_words.specs.declared.system.System.{System}
 use Rattle.vbi_words.specs.Codes.{code_of}
 use Rattle.vbi_side.specs.declared.lines.Counted.{Counted}
@@ -45,7 +45,7 @@ lines_weight Times lines words =
     2 * line_weight lines.line_16 words.line_16 + line_weight lines.line_17 words.line_17
     + line_weight lines.line_18 words.line_18
 
--- the same of a field that may not be there
+-- the weight of the misread words of a field, if it is there
 abbrev pub misread_in : Counted → Option Lines → Words → ℕ
 misread_in counted None words = 0
 misread_in counted (Some lines) words = lines_weight counted lines words
@@ -69,16 +69,29 @@ abbrev pub number_of : System → Counted → Option ℕ → Option ℕ → Opti
 number_of system counted word_16 word =
     number_from system counted (option_map code_of word_16) (option_map code_of word)
 
+-- a capture of a disc: what its fields' lines show, the words that they have on the disc, and the number that each
+-- field has there
+pub record Capture : Type 0 where
+  pub system : System
+  pub counted : Counted
+  pub lines : List Lines
+  pub disc : ℕ → Words
+  pub recorded : ℕ → Option ℕ
+
+-- the numbers that the fields show
+abbrev pub sightings_in : Capture → List Sightings
+sightings_in capture = map (numbers_in capture.system capture.counted) capture.lines
+
 -- each field has the number that its words tell on the disc
-abbrev pub AreTold : System → Counted → (ℕ → Words) → (ℕ → Option ℕ) → Type 0
-AreTold system counted disc recorded =
-    (i n : ℕ) → (number_of system counted (disc i).line_16 (disc i).line_17 ≡ Some n)
-    ⊎ (number_of system counted (disc i).line_16 (disc i).line_18 ≡ Some n) → recorded i ≡ Some n
+abbrev pub AreTold : Capture → Type 0
+AreTold capture = (i n : ℕ)
+    → (number_of capture.system capture.counted (capture.disc i).line_16 (capture.disc i).line_17 ≡ Some n)
+    ⊎ (number_of capture.system capture.counted (capture.disc i).line_16 (capture.disc i).line_18 ≡ Some n)
+    → capture.recorded i ≡ Some n
 
 -- around field i, which has a number on the disc, the disc ran on, and the misread words weigh less than enough
-pub record IsRead (system : System) (counted : Counted) (pace : Pace) (lines : List Lines) (disc : ℕ → Words)
-    (recorded : ℕ → Option ℕ) (i m : ℕ) : Type 0 where
-  pub told : AreTold system counted disc recorded
-  pub runs : RunsOn pace recorded i
-  pub has : recorded i ≡ Some m
-  pub few : misread_weight counted lines disc i < enough
+pub record IsRead (pace : Pace) (capture : Capture) (i m : ℕ) : Type 0 where
+  pub told : AreTold capture
+  pub runs : RunsOn pace capture.recorded i
+  pub has : capture.recorded i ≡ Some m
+  pub few : misread_weight capture.counted capture.lines capture.disc i < enough

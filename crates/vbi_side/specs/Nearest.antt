@@ -1,9 +1,10 @@
 -- How what is due is reckoned: the numbers nearest to a field that lie whole pictures away from it.
 use Rattle.std.specs.Prelude.{◌≡◌, ℕ, ◌+◌, ◌-◌, ◌%◌, ◌==◌, ◌<◌, ◌≤◌, Bool, true}
 use Rattle.vbi_side.specs.declared.pace.Pace.{Pace}
+use Rattle.vbi_side.specs.declared.place.Place.{Place}
 use Rattle.vbi_side.specs.declared.pace.Pace.TheVariants.{Video, Film}
-use Rattle.vbi_side.specs.Paces.{nearly}
 use Rattle.vbi_side.specs.Beliefs.{reach}
+use Rattle.vbi_side.specs.Paces.{spot}
 
 -- this many fields last whole pictures
 abbrev pub are_whole : Pace → ℕ → Bool
@@ -36,7 +37,6 @@ abbrev pub NoneAfter : (ℕ → ℕ → Type 0) → Pace → ℕ → Type 0
 NoneAfter HasNumber pace i =
     (k n : ℕ) → i < k → k ≤ i + reach → are_whole pace (k - i) ≡ true → HasNumber k n → ⊥
 
--- no number between fields j and k is off from number n in field i
-abbrev pub AllNearly : (ℕ → ℕ → Type 0) → Pace → ℕ → ℕ → ℕ → ℕ → ℕ → Type 0
-AllNearly HasNumber pace slack j k i n =
-    (h x : ℕ) → j < h → h < k → HasNumber h x → nearly pace slack i n h x ≡ true
+-- each number between fields j and k passes the test, which is told its place
+abbrev pub AllPass : (ℕ → ℕ → Type 0) → (Place → Bool) → ℕ → ℕ → Type 0
+AllPass HasNumber test j k = (h x : ℕ) → j < h → h < k → HasNumber h x → test (spot h x) ≡ true

@@ -5,7 +5,7 @@ use Rattle.vbi_side.specs.declared.sighting.Sightings.{Sightings}
 use Rattle.vbi_side.specs.declared.number.Number.{Number}
 use Rattle.vbi_side.specs.declared.pace.Pace.{Pace}
 use Rattle.vbi_side.specs.Beliefs.{Believed}
-use Rattle.vbi_side.specs.Due.{Due}
+use Rattle.vbi_side.specs.DueNumbers.{Due}
 use Rattle.vbi_side.specs.Truth.{IsNear}
 
 -- no number
@@ -36,7 +36,7 @@ doubtful_of field = doubtful_or field.line_17 (doubtful_or field.line_18 nothing
 abbrev pub IsMarked : List Number → ℕ → ℕ → Type 0
 IsMarked answers i n = slice_get answers i ≡ Some (believed n)
 
--- of field i: its believed number, or if there is none what it shows in doubt
+-- the answer has the believed number of field i, or if there is none what it shows in doubt
 abbrev pub IsMark : Pace → List Sightings → ℕ → Number → Type 0
 IsMark pace fields i answer =
     ((n : ℕ) × Believed pace fields i n × (answer ≡ believed n))

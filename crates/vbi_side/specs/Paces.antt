@@ -2,6 +2,11 @@
 use Rattle.std.specs.Prelude.{◌≡◌, ℕ, ◌+◌, ◌*◌, ◌%◌, ◌==◌, nat_le, ◌&&◌, Bool}
 use Rattle.vbi_side.specs.declared.pace.Pace.{Pace}
 use Rattle.vbi_side.specs.declared.pace.Pace.TheVariants.{Video, Film}
+use Rattle.vbi_side.specs.declared.place.Place.{Place}
+
+-- number n in field i
+abbrev pub spot : ℕ → ℕ → Place
+spot i n = record { field = i; number = n }
 
 -- number m in field i and number n in field j fit: of video they lie exactly 2 fields a picture apart, of film 2 1/2,
 -- to within a field
@@ -18,7 +23,9 @@ abbrev pub Count : Pace → ℕ → ℕ → ℕ → ℕ → Type 0
 Count Video i m j n = j + 2 * m ≡ i + 2 * n
 Count Film i m j n = 2 * j + 5 * m ≡ 2 * i + 5 * n
 
--- number m in field i and number n in field j nearly fit: of video to within this many fields
-abbrev pub nearly : Pace → ℕ → ℕ → ℕ → ℕ → ℕ → Bool
-nearly Video slack i m j n = nat_le (j + 2 * m) (i + 2 * n + slack) && nat_le (i + 2 * n) (j + 2 * m + slack)
-nearly Film slack i m j n = fits Film i m j n
+-- two places nearly fit: of video to within this many fields
+abbrev pub nearly : Pace → ℕ → Place → Place → Bool
+nearly Video slack a b =
+    nat_le (b.field + 2 * a.number) (a.field + 2 * b.number + slack)
+    && nat_le (a.field + 2 * b.number) (b.field + 2 * a.number + slack)
+nearly Film slack a b = fits Film a.field a.number b.field b.number

@@ -13,7 +13,8 @@ use Rattle.vbi_side.specs.Numbers.{IsMarked}
 abbrev pub DiscRuns : Pace → (ℕ → Option ℕ) → Type 0
 DiscRuns pace disc = (d e m n : ℕ) → disc d ≡ Some m → disc e ≡ Some n → fits pace d m e n ≡ true
 
--- the same of video, of a disc that may have a number on both fields of its picture: then `slack` is 1, else 0
+-- a disc of video, which may have a number on both fields of its picture, counts so: to within a slack of 1 if it has,
+-- else of 0
 abbrev pub DiscCounts : ℕ → (ℕ → Option ℕ) → Type 0
 DiscCounts slack disc = (d e m n : ℕ) → disc d ≡ Some m → disc e ≡ Some n → e + 2 * m ≤ d + 2 * n + slack
 
@@ -37,7 +38,7 @@ NoneLost place i j = (k : ℕ) → i ≤ k → k ≤ j → place k ≡ place i +
 abbrev pub IsOneRun : (ℕ → ℕ) → ℕ → ℕ → Type 0
 IsOneRun place i j = (k : ℕ) → i ≤ k → k < j → place (suc k) ≡ suc (place k)
 
--- of the fields of the disc between those of capture fields i and j this many are lost
+-- so many fields of the disc are lost between those of capture fields i and j
 abbrev pub AreLost : (ℕ → ℕ) → ℕ → ℕ → ℕ → Type 0
 AreLost place i j lost = place j ≡ place i + (j - i) + lost
 

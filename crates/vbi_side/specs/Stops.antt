@@ -23,11 +23,11 @@ stop_weight line = weight_as_stop (code_in line) (pass_weight line.pass)
 abbrev pub BelievedStop : Shown → Shown → Type 0
 BelievedStop line_16 line_17 = 2 ≤ stop_weight line_16 + stop_weight line_17
 
--- it is in doubt if they say it with less
+-- a stop is in doubt if lines 16 and 17 say it with less
 abbrev pub DoubtfulStop : Shown → Shown → Type 0
 DoubtfulStop line_16 line_17 = stop_weight line_16 + stop_weight line_17 ≡ 1
 
--- neither of the two says it
+-- neither of lines 16 and 17 says a stop
 abbrev pub NoStop : Shown → Shown → Type 0
 NoStop line_16 line_17 = stop_weight line_16 + stop_weight line_17 ≡ 0
 

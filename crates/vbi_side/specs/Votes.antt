@@ -36,16 +36,22 @@ part_from system (Some (ClvPicture seconds picture)) =
     if nat_lt picture (rate_of system) then Some (seconds * rate_of system + picture) else None
 part_from system _ = None
 
--- those that line 16 shows
+-- the second and picture that line 16 shows, as pictures from the beginning of their minute
 abbrev pub part_of : System → Shown → Option ℕ
 part_of system line_16 = part_from system (code_in line_16)
 
--- number n of field j votes in field i, which shows this part of a minute: it is within reach, and goes on with the
--- part of some minute
-abbrev pub votes : ℕ → ℕ → ℕ → ℕ → ℕ → Bool
-votes minute i part j n =
-    nat_le i (j + vote_reach) && nat_le j (i + vote_reach)
-    && ((2 * n + i) % (2 * minute) == (2 * part + j) % (2 * minute))
+-- an election: the pictures of a minute, the field in which it is, and the part of a minute that the field shows
+pub record Election : Type 0 where
+  pub minute : ℕ
+  pub field : ℕ
+  pub part : ℕ
+
+-- number n of field j votes in the field of the election, which shows a part of a minute: it is within reach, and goes
+-- on with the part of some minute
+abbrev pub votes : Election → ℕ → ℕ → Bool
+votes election j n =
+    nat_le election.field (j + vote_reach) && nat_le j (election.field + vote_reach)
+    && ((2 * n + election.field) % (2 * election.minute) == (2 * election.part + j) % (2 * election.minute))
 
 -- the weight of the sightings of the first k fields that pass the test, which is told the field and the number
 unfoldable pub weight_of_first : (ℕ → ℕ → Bool) → List Sightings → ℕ → ℕ
@@ -53,23 +59,23 @@ weight_of_first test fields zero = 0
 weight_of_first test fields (suc k) = weight_of_first test fields k + field_weight (test k) (slice_get fields k)
 
 -- the weight of all votes
-abbrev pub votes_cast : ℕ → List Sightings → ℕ → ℕ → ℕ
-votes_cast minute fields i part = weight_of_first (votes minute i part) fields (length fields)
+abbrev pub votes_cast : Election → List Sightings → ℕ
+votes_cast election fields = weight_of_first (votes election) fields (length fields)
 
--- number n of field j votes, and for number m in field i
-abbrev pub votes_as : ℕ → ℕ → ℕ → ℕ → ℕ → ℕ → Bool
-votes_as minute i part m j n = votes minute i part j n && fits Video i m j n
+-- number n of field j votes, and for number m in the election's field
+abbrev pub votes_as : Election → ℕ → ℕ → ℕ → Bool
+votes_as election m j n = votes election j n && fits Video election.field m j n
 
--- the weight of the votes for number m in field i
-abbrev pub votes_for : ℕ → List Sightings → ℕ → ℕ → ℕ → ℕ
-votes_for minute fields i part m = weight_of_first (votes_as minute i part m) fields (length fields)
+-- the weight of the votes for number m there
+abbrev pub votes_for : Election → List Sightings → ℕ → ℕ
+votes_for election fields m = weight_of_first (votes_as election m) fields (length fields)
 
--- number m is elected in field i: it has this part of a minute, more than half of the votes, and at least the weight
--- that both lines of one field have in pass 1
-pub record IsElected (minute : ℕ) (fields : List Sightings) (i part m : ℕ) : Type 0 where
-  pub part_is : m % minute ≡ part
-  pub majority : votes_cast minute fields i part < 2 * votes_for minute fields i part m
-  pub some : field_most ≤ votes_for minute fields i part m
+-- number m is elected: it has the part of a minute, more than half of the votes, and at least the weight that both
+-- lines of one field have in pass 1
+pub record IsElected (election : Election) (fields : List Sightings) (m : ℕ) : Type 0 where
+  pub part_is : m % election.minute ≡ election.part
+  pub majority : votes_cast election fields < 2 * votes_for election fields m
+  pub some : field_most ≤ votes_for election fields m
 
 -- ---- the word that this makes
 
@@ -78,20 +84,18 @@ pub record IsElected (minute : ℕ) (fields : List Sightings) (i part m : ℕ) :
 abbrev pub time_word : ℕ → ℕ
 time_word minute = 0xF0DD00 + minute / 60 * 65536 + minute % 60 / 10 * 16 + minute % 60 % 10
 
--- field i, of which no line shows a time, is completed by this word: it tells the minute of the number that is elected
--- with the second and the picture of line 16, and has an hour of one digit
-pub record IsCompletedBy (system : System) (line_16 : Shown) (fields : List Sightings) (i part m word : ℕ)
-    : Type 0 where
-  pub unseen : (n : ℕ) → Shows (slice_get fields i) n → ⊥
-  pub part_is : part_of system line_16 ≡ Some part
-  pub elected : IsElected (minute_of system) fields i part m
-  pub early : m / minute_of system < 600
-  pub word_is : word ≡ time_word (m / minute_of system)
+-- the election's field, of which no line shows a time, is completed by this word: it tells the minute of number m,
+-- which is elected, and has an hour of one digit
+pub record IsCompletedBy (election : Election) (fields : List Sightings) (m word : ℕ) : Type 0 where
+  pub unseen : (n : ℕ) → Shows (slice_get fields election.field) n → ⊥
+  pub elected : IsElected election fields m
+  pub early : m / election.minute < 600
+  pub word_is : word ≡ time_word (m / election.minute)
 
--- the same for some part of a minute and some number
+-- field i is so completed by some number that is elected with the second and the picture of line 16
 abbrev pub IsCompleted : System → Shown → List Sightings → ℕ → ℕ → Type 0
-IsCompleted system line_16 fields i word =
-    (part : ℕ) × (m : ℕ) × IsCompletedBy system line_16 fields i part m word
+IsCompleted system line_16 fields i word = (part : ℕ) × (m : ℕ) × (part_of system line_16 ≡ Some part)
+    × IsCompletedBy (record { minute = minute_of system; field = i; part = part }) fields m word
 
 -- ---- when it is right
 
@@ -106,34 +110,35 @@ RunsFromBy clock minute recorded i m = (j n : ℕ) → IsVoter i j → recorded 
     → (clock_fits clock i m j n ≡ true) × (left_out clock n < left_out clock m + minute)
     × (left_out clock m < left_out clock n + minute)
 
--- it ran on, or it counted by some clock, and its number there has this part of a minute
-abbrev pub RanAround : (ℕ → Option ℕ) → ℕ → ℕ → ℕ → ℕ → Type 0
-RanAround recorded minute i part m =
-    RunsFrom recorded i m ⊎ ((m % minute ≡ part) × ((clock : Clock) × RunsFromBy clock minute recorded i m))
+-- around the election's field it ran on, or it counted by some clock, and its number m there has the part of a minute
+abbrev pub RanAround : (ℕ → Option ℕ) → Election → ℕ → Type 0
+RanAround recorded election m = RunsFrom recorded election.field m
+    ⊎ ((m % election.minute ≡ election.part)
+    × ((clock : Clock) × RunsFromBy clock election.minute recorded election.field m))
 
 -- the weight of the votes that were read rightly
-abbrev pub right_votes : (ℕ → Option ℕ) → ℕ → List Sightings → ℕ → ℕ → ℕ
-right_votes recorded minute fields i part =
-    weight_of_first (λ j n. votes minute i part j n && is_recorded (recorded j) n) fields (length fields)
+abbrev pub right_votes : (ℕ → Option ℕ) → Election → List Sightings → ℕ
+right_votes recorded election fields =
+    weight_of_first (λ j n. votes election j n && is_recorded (recorded j) n) fields (length fields)
 
 -- the weight of those that were misread
-abbrev pub wrong_votes : (ℕ → Option ℕ) → ℕ → List Sightings → ℕ → ℕ → ℕ
-wrong_votes recorded minute fields i part =
-    weight_of_first (λ j n. votes minute i part j n && not (is_recorded (recorded j) n)) fields (length fields)
+abbrev pub wrong_votes : (ℕ → Option ℕ) → Election → List Sightings → ℕ
+wrong_votes recorded election fields =
+    weight_of_first (λ j n. votes election j n && not (is_recorded (recorded j) n)) fields (length fields)
 
--- around field i, where the disc counts number m, it ran on, maybe by a clock, and the wrong votes weigh less than the
--- right ones, or
--- less than a number needs to be elected
-pub record IsVotedSoundly (recorded : ℕ → Option ℕ) (minute : ℕ) (fields : List Sightings) (i part m : ℕ)
+-- around the election's field, where the disc counts number m, it ran on, maybe by a clock, and the wrong votes weigh
+-- less than the right ones, or less than a number needs to be elected
+pub record IsVotedSoundly (recorded : ℕ → Option ℕ) (election : Election) (fields : List Sightings) (m : ℕ)
     : Type 0 where
-  pub runs : RanAround recorded minute i part m
-  pub few : (wrong_votes recorded minute fields i part < right_votes recorded minute fields i part)
-      ⊎ (wrong_votes recorded minute fields i part < field_most)
+  pub runs : RanAround recorded election m
+  pub few : (wrong_votes recorded election fields < right_votes recorded election fields)
+      ⊎ (wrong_votes recorded election fields < field_most)
 
--- around field i, where the disc counts number m with this part of a minute, it ran on, and the wrong votes weigh less
--- than the right ones, which weigh at least what a number needs
-pub record IsVotedRightly (recorded : ℕ → Option ℕ) (minute : ℕ) (fields : List Sightings) (i part m : ℕ) : Type 0 where
-  pub runs : RanAround recorded minute i part m
-  pub part_is : m % minute ≡ part
-  pub most : wrong_votes recorded minute fields i part < right_votes recorded minute fields i part
-  pub some : field_most ≤ right_votes recorded minute fields i part
+-- around the election's field, where the disc counts number m with this part of a minute, it ran on, and the wrong
+-- votes weigh less than the right ones, which weigh at least what a number needs
+pub record IsVotedRightly (recorded : ℕ → Option ℕ) (election : Election) (fields : List Sightings) (m : ℕ)
+    : Type 0 where
+  pub runs : RanAround recorded election m
+  pub part_is : m % election.minute ≡ election.part
+  pub most : wrong_votes recorded election fields < right_votes recorded election fields
+  pub some : field_most ≤ right_votes recorded election fields

@@ -26,7 +26,7 @@ wrong_by_9 =
     field_of 0 2 100 2 ∷ blank ∷ field_of 1 2 101 2 ∷ blank ∷ field_of 2 2 102 2 ∷ blank ∷ field_of 3 2 103 2 ∷ blank
     ∷ field_of 4 2 104 1 ∷ blank ∷ field_of 5 2 0 0 ∷ []
 
--- the same with all five in pass 1, and nothing else in field 4
+-- the five wrong numbers are all read in pass 1, and in field 4 nothing else
 abbrev pub wrong_by_10 : List Sightings
 wrong_by_10 =
     field_of 0 2 100 2 ∷ blank ∷ field_of 1 2 101 2 ∷ blank ∷ field_of 0 0 102 2 ∷ blank ∷ field_of 3 2 103 2 ∷ blank
@@ -46,7 +46,7 @@ abbrev pub film_side : List Sightings
 film_side =
     field_of 0 2 0 2 ∷ blank ∷ field_of 1 2 1 2 ∷ blank ∷ blank ∷ field_of 2 2 2 2 ∷ []
 
--- the same beside a code that stands there in place of a number
+-- what two lines show beside a code that stands there in place of a number
 abbrev pub instead_of : ℕ → ℕ → ℕ → ℕ → Sightings
 instead_of first weight second other = record {
   line_17 = record { number = first; weight = weight };

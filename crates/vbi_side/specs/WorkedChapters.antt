@@ -28,14 +28,14 @@ said_by_10 = fields_of 5 7
 abbrev pub said_by_9 : List Sightings
 said_by_9 = fields_of 4 7 ++ field_of 7 1 0 0 ∷ []
 
--- the same weight of 10, with the last field 24 fields after field 0, or 25
+-- a weight of 10, with the last field 24 fields after field 0, or 25
 abbrev pub said_to_24 : List Sightings
 said_to_24 = fields_of 4 7 ++ blanks 20 ++ one 7 ∷ []
 
 abbrev pub said_to_25 : List Sightings
 said_to_25 = fields_of 4 7 ++ blanks 21 ++ one 7 ∷ []
 
--- the same with the last field to be judged, and the first one 24 fields before it, or 25
+-- a weight of 10, with the last field to be judged, and the first one 24 fields before it, or 25
 abbrev pub said_from_24 : List Sightings
 said_from_24 = one 7 ∷ blanks 20 ++ fields_of 4 7
 
@@ -62,11 +62,11 @@ opposed_in_its_field = field_of 7 2 3 2 ∷ fields_of 5 7 ++ fields_of 4 3
 abbrev pub rising : List Sightings
 rising = fields_of 5 7 ++ fields_of 5 8
 
--- the same with a field between them that shows both
+-- five fields of chapter 7 and five of chapter 8, with a field between them that shows both
 abbrev pub rising_at_both : List Sightings
 rising_at_both = fields_of 5 7 ++ field_of 7 2 8 2 ∷ fields_of 5 8
 
--- the same if one field more shows chapter 8 than chapter 7
+-- a field between them shows both, and one field more shows chapter 8 than chapter 7
 abbrev pub rising_to_8 : List Sightings
 rising_to_8 = fields_of 5 7 ++ field_of 7 2 8 2 ∷ fields_of 6 8
 

@@ -1,8 +1,13 @@
--- Worked elections of field 4 of an NTSC disc, which shows picture 10 of second 23: two minutes and this part are 4300
--- pictures.
+-- Worked elections.
 use Rattle.std.specs.Prelude.{ℕ, List, [], ◌∷◌, ◌++◌, replicate}
+use Rattle.vbi_words.specs.declared.system.System.TheVariants.{Ntsc}
 use Rattle.vbi_side.specs.declared.sighting.Sightings.{Sightings}
+use Rattle.vbi_side.specs.Votes.{Election, minute_of}
 use Rattle.vbi_side.specs.Worked.{field_of, blank}
+
+-- field 4 of an NTSC disc shows picture 10 of second 23: two minutes and this part are 4300 pictures
+abbrev pub in_field_4 : Election
+in_field_4 = record { minute = minute_of Ntsc; field = 4; part = 700 }
 
 -- two fields show the right minute, one of them on line 18, and one a minute more; another shows another second
 abbrev pub two_to_one : List Sightings
@@ -25,7 +30,7 @@ light_to_heavy =
 abbrev pub alone : List Sightings
 alone = blank ∷ blank ∷ field_of 4299 2 4299 2 ∷ blank ∷ blank ∷ []
 
--- the same with one of both in pass 2
+-- both lines of one field show a minute, one of them in pass 2, and no other field shows one
 abbrev pub light_alone : List Sightings
 light_alone = blank ∷ blank ∷ field_of 4299 2 4299 1 ∷ blank ∷ blank ∷ []
 

@@ -19,10 +19,10 @@
 //!
 //! chapters.rt weighs chapters by the same sums.
 //!
-//! answers.rt asks `judge_field` of each field, and found.rt counts what is believed at each pace to find the disc's.
-//! due.rt fills in what the believed numbers leave. gap.rt and verdict.rt say by these numbers where a side doesn't go
-//! on, and whether it is whole; the Python package believes the same ones, and names what is missing between them
-//! (docs/SIDES.md).
+//! judging.rt asks `judge_field` of each field, and pace_search.rt counts what is believed at each pace to find the
+//! disc's. due_numbers.rt fills in what the believed numbers leave. gap.rt and verdict.rt say by these numbers where a
+//! side doesn't go on, and whether it is whole; the Python package believes the same ones, and names what is missing
+//! between them (docs/SIDES.md).
 //!
 //! A change of a bound changes `specs/Beliefs.antt`, the laws and worked sides that are sharp at it (`Truth.antt`,
 //! `Worked.antt`), include/ldvbi.h, docs/PROMISES.md, and the plain judge in C that `bench/judge.c` compares this one
@@ -32,6 +32,7 @@ ghost use Rattle.std.specs.Prelude.{◌≡◌, ◌↔◌, ℕ, ◌+◌, ◌*◌,
 ghost use Rattle.vbi_side.specs.Beliefs.{reach, enough, field_most, sighting_weight, weight_at, window_weight};
 ghost use Rattle.vbi_side.specs.Beliefs.{support_of, Believed};
 ghost use Rattle.vbi_side.specs.Ahead.{fits_as, IsAhead, IsBelieved};
+ghost use Rattle.vbi_side.specs.Paces.{spot};
 
 use crate::pace::Pace;
 use crate::sighting::{Sighting, Sightings};
@@ -53,13 +54,13 @@ pub(crate) const FIELD_MOST: u32 = 4;
 /// How a sighting may stand to a number.
 #[derive(Clone, Copy)]
 pub(crate) enum Fit {
-    /// It fits at the disc's pace.
+    /// A number that fits at the disc's pace.
     Runs(Pace),
-    /// It fits as of one still.
+    /// A number that fits as of one still.
     Stays,
-    /// It says the same chapter.
+    /// A code that says the chapter.
     Says,
-    /// It speaks against the chapter: a later one that stands before it, or an earlier one that stands after it.
+    /// A code that speaks against the chapter: a later one that stands before it, or an earlier one after it.
     Opposes,
 }
 
@@ -193,7 +194,7 @@ fn believed(
     other: &Sighting,
 ) -> Option<u32>
     requires { field < length fields.now }
-    ensures { (n : ℕ) → (result ≡ Some n) ↔ IsBelieved pace fields.now field sighting.now other.now n }
+    ensures { (n : ℕ) → (result ≡ Some n) ↔ IsBelieved pace fields.now (spot field n) sighting.now other.now }
 {
     let number = sighting.number;
     if sighting.is_seen()

@@ -16,6 +16,7 @@ ghost use Rattle.vbi_side.specs.WorkedChapters.{line_of, said};
 
 /// If the chapters misread around a field weigh less than enough, a believed one stands on the disc near the field;
 /// and if enough codes before a field and after it say one chapter, no other is believed.
+#[tactic(auto, using(crate::proofs::ChapterTruth::sound))]
 pub fn chapters_sound()
     ensures { (recorded : ℕ → Option ℕ) (fields : List Sightings) (i n : ℕ)
         → BelievedChapter fields i n → IsSoundChapter recorded fields i n }
@@ -24,6 +25,7 @@ pub fn chapters_sound()
 /// If the chapters of a disc never fall around a field, what was misread there weighs less than enough, and enough
 /// codes say the field's own chapter, it is believed wherever the field shows it, unless as many say another one that
 /// the field shows.
+#[tactic(auto, using(crate::proofs::ChapterTruth::complete))]
 pub fn chapters_complete()
     ensures { (recorded : ℕ → Option ℕ) (fields : List Sightings) (i m : ℕ)
         → NeverFalls recorded i → recorded i ≡ Some m → wrong_weight recorded fields i < enough
@@ -32,19 +34,22 @@ pub fn chapters_complete()
         → BelievedChapter fields i m }
 {}
 
-/// Of a field at most one chapter is believed.
+/// At most one chapter is believed of a field.
+#[tactic(auto, using(crate::proofs::ChapterAnswers::one_chapter))]
 pub fn one_chapter()
     ensures { (fields : List Sightings) (i m n : ℕ)
         → BelievedChapter fields i m → BelievedChapter fields i n → m ≡ n }
 {}
 
-/// Of a field there is one answer.
+/// There is one answer of a field about its chapter.
+#[tactic(auto, using(crate::proofs::ChapterAnswers::one_answer))]
 pub fn one_chapter_answer()
     ensures { (fields : List Sightings) (i : ℕ) (one other : Number)
         → IsChapter fields i one → IsChapter fields i other → one ≡ other }
 {}
 
 /// Two captures that agree on the fields within reach of one believe the same chapter of it.
+#[tactic(auto, using(crate::proofs::ChapterTruth::only_near))]
 pub fn chapters_only_near()
     ensures { (fields others : List Sightings) (i n : ℕ)
         → ((j : ℕ) → IsNear i j → slice_get fields j ≡ slice_get others j)

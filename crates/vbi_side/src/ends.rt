@@ -6,16 +6,16 @@ ghost use Rattle.vbi_side.specs.Ends.{out_weight, in_weight, end_by, end_of};
 use crate::lines::Shown;
 use vbi_words::Code;
 
-/// The field shows neither.
+/// The field shows neither lead-out nor lead-in.
 pub const NO_END: u32 = 0;
-/// It is of lead-out: a line shows that in pass 1, or both lines do.
+/// The field is of lead-out: a line shows that in pass 1, or both lines do.
 pub const LEAD_OUT: u32 = 1;
-/// It shows one of the two, and too little supports it.
+/// The field shows lead-out or lead-in, and too little supports it.
 pub const DOUBTFUL_END: u32 = 2;
-/// It is of lead-in: a line shows that in pass 1, or both lines do, and it isn't of lead-out.
+/// The field is of lead-in: a line shows that in pass 1, or both lines do, and it isn't of lead-out.
 pub const LEAD_IN: u32 = 3;
-/// It is padding, and stands for a field that the capture lacks: `judge_end` never answers this, a caller who knows it
-/// says it in the place of the answer.
+/// The field is padding, and stands for one that the capture lacks: `judge_end` never answers this, a caller who knows
+/// it says it in the place of the answer.
 pub const PADDING: u32 = 4;
 
 /// How much a line says that its field is of lead-out.

@@ -26,21 +26,22 @@ ghost use Rattle.vbi_side.specs.declared.pace.Pace.TheVariants.{Video, Film};
 ghost use Rattle.vbi_side.specs.Sightings.{Shows};
 ghost use Rattle.vbi_side.specs.Lines.{number_from, code_in, sightings_of, pass_weight, number_weight};
 ghost use Rattle.vbi_side.specs.Lines.{is_instead};
-ghost use Rattle.vbi_side.specs.Paces.{fits, stays, nearly};
+ghost use Rattle.vbi_side.specs.Paces.{spot, fits, stays, nearly};
 ghost use Rattle.vbi_side.specs.Beliefs.{reach, enough, field_most, support_of, Believed};
-ghost use Rattle.vbi_side.specs.Due.{slack_of, Due};
-ghost use Rattle.vbi_side.specs.Found.{pace_by, IsFound};
+ghost use Rattle.vbi_side.specs.DueNumbers.{slack_of, Due};
+ghost use Rattle.vbi_side.specs.PaceSearch.{pace_by, IsFound};
 ghost use Rattle.vbi_side.specs.Numbers.{IsAnswer, IsKnown};
 ghost use Rattle.vbi_side.specs.Parts.{IsPart};
 ghost use Rattle.vbi_side.specs.Truth.{IsNear, AreEven, RunsOn, IsRegular, IsSound, IsSoundStill, wrong_weight};
 ghost use Rattle.vbi_side.specs.Truth.{StandsStill, video_disc, film_disc};
-ghost use Rattle.vbi_side.specs.Misread.{Lines, Words, numbers_in, misread_weight, AreTold, IsRead};
+ghost use Rattle.vbi_side.specs.Misread.{Capture, sightings_in, misread_weight, AreTold, IsRead};
 ghost use Rattle.vbi_side.specs.Whole.{IsWhole, TakesTurns};
 ghost use Rattle.vbi_side.specs.Worked.{wrong_by_9, wrong_by_10, apart_by, still_of, film_side};
 ghost use Rattle.vbi_side.specs.Worked.{field_of, instead_of, shown_in, told_by};
 
 /// If the disc ran on around a field that has a number and what was misread there weighs less than enough, a
 /// believed number is that number.
+#[tactic(auto, using(crate::proofs::Truth::sound))]
 pub fn sound()
     ensures { (pace : Pace) (recorded : ℕ → Option ℕ) (fields : List Sightings) (i m n : ℕ)
         → IsSound pace recorded fields i m → Believed pace fields i n → n ≡ m }
@@ -50,6 +51,7 @@ pub fn sound()
 /// of the field fits one that was recorded within reach of it and read, whether the field has a number on the disc or
 /// not. Of video it fits each that was recorded in a field an even number of fields away, so it is the one that the
 /// disc counts there.
+#[tactic(auto, using(crate::proofs::Truth::on_the_disc, crate::proofs::Truth::on_the_video))]
 pub fn on_the_disc()
     ensures one { (pace : Pace) (recorded : ℕ → Option ℕ) (fields : List Sightings) (i n : ℕ)
         → RunsOn pace recorded i → wrong_weight recorded fields i < enough → Believed pace fields i n
@@ -69,6 +71,7 @@ pub fn sound_still()
 
 /// If the disc is regular around a field and the numbers believed within reach of it are those recorded, the field
 /// has the number that is due in it.
+#[tactic(auto, using(crate::proofs::DueLemmas::due_sound))]
 pub fn due_sound()
     ensures { (pace : Pace) (recorded : ℕ → Option ℕ) (fields : List Sightings) (i n : ℕ)
         → IsRegular pace recorded i
@@ -78,6 +81,7 @@ pub fn due_sound()
 
 /// If the disc ran on around a field that shows the number that it has, and what fits that weighs enough and more
 /// than all that was misread there, it is believed.
+#[tactic(auto, using(crate::proofs::Truth::complete))]
 pub fn complete()
     ensures { (pace : Pace) (recorded : ℕ → Option ℕ) (fields : List Sightings) (i m : ℕ)
         → RunsOn pace recorded i → recorded i ≡ Some m → Shows (slice_get fields i) m
@@ -96,12 +100,14 @@ pub fn discs_run()
 {}
 
 /// A capture of film that is read whole: three pictures with their numbers on both lines.
+#[tactic(auto, using(crate::proofs::Worked::whole_film))]
 pub fn worked_capture()
     ensures { IsWhole Film film_disc film_side }
 {}
 
 /// The premise of `sound` can be met, and it is sharp. With wrong readings of weight 9 around a field its number is
 /// believed. With wrong ones of weight 10 a wrong number is believed if the right one wasn't read.
+#[tactic(auto, using(crate::proofs::Worked::sides))]
 pub fn worked_sides()
     ensures sound { IsSound Video video_disc wrong_by_9 4 2 }
     ensures nine { wrong_weight video_disc wrong_by_9 4 ≡ 9 }
@@ -110,19 +116,21 @@ pub fn worked_sides()
     ensures wrong { Believed Video wrong_by_10 4 102 }
 {}
 
-/// Of a field at most one number is believed.
+/// At most one number is believed of a field.
+#[tactic(auto, using(crate::proofs::Ahead::one_believed))]
 pub fn one_believed()
     ensures { (pace : Pace) (fields : List Sightings) (i m n : ℕ)
         → Believed pace fields i m → Believed pace fields i n → m ≡ n }
 {}
 
 /// In a field at most one number is due.
+#[tactic(auto, using(crate::proofs::DueLemmas::one_due))]
 pub fn one_due()
     ensures { (pace : Pace) (fields : List Sightings) (i m n : ℕ)
         → Due pace fields i m → Due pace fields i n → m ≡ n }
 {}
 
-/// Of a field there is one answer.
+/// There is one answer of a field.
 pub fn one_answer()
     ensures { (pace : Pace) (fields : List Sightings) (i : ℕ) (one other : Number)
         → IsAnswer pace fields i one → IsAnswer pace fields i other → one ≡ other }
@@ -152,7 +160,8 @@ pub fn worked_paces()
     ensures none { map (pace_by 0) (0 ∷ 1 ∷ []) ≡ Video ∷ Film ∷ [] }
 {}
 
-/// Of a capture one pace is found.
+/// One pace is found of a capture.
+#[tactic(auto, using(crate::proofs::Counts::one_found))]
 pub fn one_found()
     ensures { (system : System) (counted : Counted) (fields : List Sightings) (one other : Pace)
         → IsFound system counted fields one → IsFound system counted fields other → one ≡ other }
@@ -160,6 +169,7 @@ pub fn one_found()
 
 /// A number is never believed for its own field alone: another field within reach shows one that fits it, or that is of
 /// one still with it.
+#[tactic(auto, using(crate::proofs::Truth::never_alone))]
 pub fn never_alone()
     ensures { (pace : Pace) (fields : List Sightings) (i n : ℕ) → Believed pace fields i n
         → (j m : ℕ) × (j ≢ i) × IsNear i j × Shows (slice_get fields j) m
@@ -168,6 +178,7 @@ pub fn never_alone()
 
 /// Two captures that agree on the fields within reach of one believe the same of it. If they agree on those within
 /// twice that, the same is due in it. So a capture that goes on changes no more than its last 24 fields, and 48.
+#[tactic(auto, using(crate::proofs::Truth::only_near, crate::proofs::DueLemmas::due_near))]
 pub fn only_near()
     ensures believed { (pace : Pace) (fields others : List Sightings) (i n : ℕ)
         → ((j : ℕ) → IsNear i j → slice_get fields j ≡ slice_get others j)
@@ -186,6 +197,7 @@ pub fn same_in_part()
 
 /// The number that a line shows is that of the words on it and on line 16: if it is another than what was recorded,
 /// one of these two words is another.
+#[tactic(auto, using(crate::proofs::SameWords::same_words))]
 pub fn same_words()
     ensures { (system : System) (counted : Counted) (line_16 line recorded_16 recorded : Shown)
         → line_16.word ≡ recorded_16.word → line.word ≡ recorded.word
@@ -198,21 +210,19 @@ pub fn same_words()
 /// enough, a believed number is the one that the words on the disc tell; in a field without one it fits one that was
 /// recorded near it and read; and so of a still, if they weigh 4 less.
 pub fn misread_words()
-    ensures weight { (system : System) (counted : Counted) (lines : List Lines) (disc : ℕ → Words)
-        (recorded : ℕ → Option ℕ) (i : ℕ) → AreTold system counted disc recorded
-        → wrong_weight recorded (map (numbers_in system counted) lines) i ≤ misread_weight counted lines disc i }
-    ensures sound { (system : System) (counted : Counted) (pace : Pace) (lines : List Lines) (disc : ℕ → Words)
-        (recorded : ℕ → Option ℕ) (i m n : ℕ) → IsRead system counted pace lines disc recorded i m
-        → Believed pace (map (numbers_in system counted) lines) i n → n ≡ m }
-    ensures near { (system : System) (counted : Counted) (pace : Pace) (lines : List Lines) (disc : ℕ → Words)
-        (recorded : ℕ → Option ℕ) (i n : ℕ) → AreTold system counted disc recorded → RunsOn pace recorded i
-        → misread_weight counted lines disc i < enough → Believed pace (map (numbers_in system counted) lines) i n
-        → (j m : ℕ) × IsNear i j × (recorded j ≡ Some m)
-        × Shows (slice_get (map (numbers_in system counted) lines) j) m × (fits pace i n j m ≡ true) }
-    ensures still { (system : System) (counted : Counted) (lines : List Lines) (disc : ℕ → Words)
-        (recorded : ℕ → Option ℕ) (i m n : ℕ) → AreTold system counted disc recorded → StandsStill recorded i m
-        → misread_weight counted lines disc i + field_most < enough
-        → Believed Video (map (numbers_in system counted) lines) i n → n ≡ m }
+    ensures weight { (capture : Capture) (i : ℕ) → AreTold capture
+        → wrong_weight capture.recorded (sightings_in capture) i
+        ≤ misread_weight capture.counted capture.lines capture.disc i }
+    ensures sound { (pace : Pace) (capture : Capture) (i m n : ℕ) → IsRead pace capture i m
+        → Believed pace (sightings_in capture) i n → n ≡ m }
+    ensures near { (pace : Pace) (capture : Capture) (i n : ℕ) → AreTold capture → RunsOn pace capture.recorded i
+        → misread_weight capture.counted capture.lines capture.disc i < enough
+        → Believed pace (sightings_in capture) i n
+        → (j m : ℕ) × IsNear i j × (capture.recorded j ≡ Some m) × Shows (slice_get (sightings_in capture) j) m
+        × (fits pace i n j m ≡ true) }
+    ensures still { (capture : Capture) (i m n : ℕ) → AreTold capture → StandsStill capture.recorded i m
+        → misread_weight capture.counted capture.lines capture.disc i + field_most < enough
+        → Believed Video (sightings_in capture) i n → n ≡ m }
 {}
 
 /// The numbers that fields show by the words of their lines 16, 17 and 18, written down by hand; 0 stands for no word.
@@ -297,7 +307,7 @@ pub fn worked_fits()
     ensures film_two { map (λ j. fits Film 10 100 j 102) (13 ∷ 14 ∷ 15 ∷ 16 ∷ 17 ∷ [])
         ≡ false ∷ true ∷ true ∷ true ∷ false ∷ [] }
     ensures film_back { map (λ j. fits Film 10 100 j 97) (1 ∷ 2 ∷ 3 ∷ 4 ∷ []) ≡ false ∷ true ∷ true ∷ false ∷ [] }
-    ensures nearly { map (λ j. nearly Video 1 10 100 j 101) (10 ∷ 11 ∷ 12 ∷ 13 ∷ 14 ∷ [])
+    ensures nearly { map (λ j. nearly Video 1 (spot 10 100) (spot j 101)) (10 ∷ 11 ∷ 12 ∷ 13 ∷ 14 ∷ [])
         ≡ false ∷ true ∷ true ∷ true ∷ false ∷ [] }
 {}
 

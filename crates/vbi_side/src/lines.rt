@@ -1,11 +1,11 @@
 //! From the words of a field's lines to the numbers that they show.
 
 ghost use Rattle.std.specs.Prelude.{◌≡◌, ◌≤◌, ◌∷◌, [], List};
-ghost use Rattle.vbi_side.specs.Lines.{shown_of, rate_of, pass_weight, code_in, sighting_of};
+ghost use Rattle.vbi_side.specs.Lines.{rate_of, pass_weight, code_in, sighting_of};
 ghost use Rattle.vbi_side.specs.Lines.{is_instead, sightings_of};
 
 use crate::sighting::{Sighting, Sightings};
-use vbi_words::{Code, Reading, System, Word24, classify};
+use vbi_words::{Code, System, Word24, classify};
 
 /// What is counted.
 #[derive(Clone, Copy)]
@@ -19,23 +19,13 @@ pub enum Counted {
 /// What a line shows.
 #[derive(Clone, Copy)]
 pub struct Shown {
-    /// Its word, if it has one.
+    /// The word that the line shows, if it shows one.
     pub word: Option<Word24>,
     /// 2 if only the smoothed levels show the word, 3 if it is the nearest one: it then weighs half.
     pub pass: u8,
 }
 
 impl Shown {
-    /// What a line shows by its reading.
-    pub fn of(reading: &Reading) -> Shown
-        ensures { result ≡ shown_of reading.now }
-    {
-        Shown {
-            word: reading.outcome.word(),
-            pass: reading.pass,
-        }
-    }
-
     /// How much its word weighs.
     pub(crate) fn weight(&self) -> u32
         ensures value { result ≡ pass_weight self.now.pass }

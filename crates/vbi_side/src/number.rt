@@ -30,7 +30,7 @@ const _: () = prove!(size_of::<Number>() == 8);
 
 impl Number {
     /// A number that is believed.
-    pub(crate) fn believed(number: u32) -> Number
+    pub fn believed(number: u32) -> Number
         ensures { result ≡ believed number }
     {
         Number {
@@ -47,7 +47,7 @@ impl Number {
     }
 
     /// If no number is believed or due: that of line 17, else that of line 18, or nothing.
-    pub(crate) fn doubtful(field: &Sightings) -> Number
+    pub fn doubtful(field: &Sightings) -> Number
         ensures { result ≡ doubtful_of field.now }
     {
         let sighting = if field.line_17.is_seen() {
@@ -69,14 +69,14 @@ impl Number {
     }
 
     /// Whether the number is believed.
-    pub(crate) fn is_believed(&self) -> bool
+    pub fn is_believed(&self) -> bool
         ensures { (result ≡ true) ↔ (self.now.state ≡ 1) }
     {
         self.state == BELIEVED
     }
 
     /// Whether this number is the one that the field has, as believed or due.
-    pub(crate) fn is_known(&self, number: u32) -> bool
+    pub fn is_known(&self, number: u32) -> bool
         ensures { (result ≡ true) ↔ IsKnown self.now number }
     {
         self.number == number && (self.state == BELIEVED || self.state == DUE)

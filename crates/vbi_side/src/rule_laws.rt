@@ -7,8 +7,10 @@ ghost use Rattle.vbi_side.specs.declared.lines.Counted.TheVariants.{Times};
 ghost use Rattle.vbi_side.specs.declared.pace.Pace.{Pace};
 ghost use Rattle.vbi_side.specs.declared.pace.Pace.TheVariants.{Video};
 ghost use Rattle.vbi_side.specs.declared.sighting.Sightings.{Sightings};
-ghost use Rattle.vbi_side.specs.Due.{ShowsInstead, ShowsTwice};
-ghost use Rattle.vbi_side.specs.Found.{IsFound};
+ghost use Rattle.vbi_side.specs.declared.clock.Clock.TheVariants.{DropFrame, OneIn};
+ghost use Rattle.vbi_side.specs.Clocks.{left_out, leaves_out, place};
+ghost use Rattle.vbi_side.specs.DueNumbers.{ShowsInstead, ShowsTwice};
+ghost use Rattle.vbi_side.specs.PaceSearch.{IsFound};
 ghost use Rattle.vbi_side.specs.Numbers.{doubtful_of, doubtful, nothing};
 ghost use Rattle.vbi_side.specs.Chapters.{chapters_of, opposes};
 ghost use Rattle.vbi_side.specs.Worked.{field_of, instead_of};
@@ -30,4 +32,15 @@ pub fn worked_rules()
     ensures against { map (λ j. opposes 5 7 j 8) (4 ∷ 5 ∷ 6 ∷ []) ≡ true ∷ true ∷ false ∷ [] }
     ensures against_back { map (λ j. opposes 5 7 j 6) (4 ∷ 5 ∷ 6 ∷ []) ≡ false ∷ true ∷ true ∷ [] }
     ensures same { map (λ j. opposes 5 7 j 7) (4 ∷ 5 ∷ 6 ∷ []) ≡ false ∷ false ∷ false ∷ [] }
+{}
+
+/// What a clock leaves out, worked by hand: 0:00:59.29 is followed by 0:01:00.02, and 0:09:59.29 by 0:10:00.00.
+#[tactic(auto, unfolding(crate::specs::Clocks::left_out, crate::specs::Clocks::kept))]
+pub fn worked_clocks()
+    ensures minute { map (left_out DropFrame) (0 ∷ 1799 ∷ 1800 ∷ 1801 ∷ 1802 ∷ 3600 ∷ 3602 ∷ 18000 ∷ 19800 ∷ 19802
+        ∷ 107892 ∷ []) ≡ 0 ∷ 0 ∷ 0 ∷ 1 ∷ 2 ∷ 2 ∷ 4 ∷ 18 ∷ 18 ∷ 20 ∷ 108 ∷ [] }
+    ensures places { map (place DropFrame) (1799 ∷ 1802 ∷ 17999 ∷ 18000 ∷ []) ≡ 3598 ∷ 3600 ∷ 35962 ∷ 35964 ∷ [] }
+    ensures even { map (left_out (OneIn 1000 399)) (399 ∷ 400 ∷ 1399 ∷ 1400 ∷ []) ≡ 0 ∷ 1 ∷ 1 ∷ 2 ∷ [] }
+    ensures out { map (leaves_out DropFrame) (0 ∷ 1 ∷ 1799 ∷ 1800 ∷ 1801 ∷ 1802 ∷ 18000 ∷ 18001 ∷ 19800 ∷ [])
+        ≡ false ∷ false ∷ false ∷ true ∷ true ∷ false ∷ false ∷ false ∷ true ∷ [] }
 {}

@@ -25,8 +25,8 @@ pub fn none_lost()
         → d ≤ place j → disc d ≡ Some n → IsLost disc place n → ⊥ }
 {}
 
-/// If they count to this many fields more than lie between them, this many of the disc's fields are lost between two
-/// fields of which one is within 24 fields of each.
+/// If two believed numbers count to this many fields more than lie between them, this many of the disc's fields are
+/// lost between two fields of which one is within 24 fields of each.
 pub fn some_lost()
     ensures { (disc : ℕ → Option ℕ) (place : ℕ → ℕ) (fields : List Sightings) (i m j n lost : ℕ)
         → DiscRuns Video disc → Rises place → IsAnchor Video (captured disc place) fields i m
@@ -34,7 +34,7 @@ pub fn some_lost()
         → (p q : ℕ) × IsNear i p × IsNear j q × AreLost place p q lost }
 {}
 
-/// The same of a disc that may have a number on both fields of its picture, to within one field.
+/// On a disc that may have a number on both fields of its picture as many are lost, to within one field.
 pub fn nearly_lost()
     ensures { (disc : ℕ → Option ℕ) (place : ℕ → ℕ) (fields : List Sightings) (slack i m j n more : ℕ) → slack ≤ 1
         → DiscCounts slack disc → Rises place → IsAnchor Video (captured disc place) fields i m
@@ -43,7 +43,8 @@ pub fn nearly_lost()
         × (more ≤ lost + slack) }
 {}
 
-/// Of film the numbers fit to within a field: if two of them do, at most 4 fields are lost.
+/// Film fits to within a field: between two believed numbers that fit at most 4 fields are lost.
+#[tactic(auto, using(crate::proofs::Sides::film))]
 pub fn few_lost_of_film()
     ensures { (disc : ℕ → Option ℕ) (place : ℕ → ℕ) (fields : List Sightings) (i m j n : ℕ)
         → DiscRuns Film disc → Rises place → IsAnchor Film (captured disc place) fields i m
@@ -53,6 +54,7 @@ pub fn few_lost_of_film()
 
 /// There are discs that count so, with a number in the first field of each picture or in both, and captures that lack a
 /// field.
+#[tactic(auto, using(crate::proofs::Anchors::discs))]
 pub fn sides_are()
     ensures video { DiscRuns Video video_disc }
     ensures both { DiscCounts 1 (λ j. Some (j / 2)) }

@@ -1,8 +1,7 @@
 //! The numbers that a field's lines show.
 
 ghost use Rattle.std.specs.Prelude.{◌≡◌, ◌↔◌, ◌≤◌, true};
-ghost use Rattle.vbi_side.specs.Sightings.{weight_of, IsSeen};
-ghost use Rattle.vbi_side.specs.Gaps.{shows_between};
+ghost use Rattle.vbi_side.specs.Sightings.{weight_of, IsSeen, shows_between};
 
 use std::mem::size_of;
 
@@ -36,14 +35,14 @@ const _: () = prove!(size_of::<Sightings>() == 20);
 
 impl Sighting {
     /// Whether the line shows a number.
-    pub(crate) fn is_seen(&self) -> bool
+    pub fn is_seen(&self) -> bool
         ensures { (result ≡ true) ↔ IsSeen self.now }
     {
         self.weight != 0
     }
 
     /// How much it counts: 2 at most.
-    pub(crate) fn counts(&self) -> u32
+    pub fn counts(&self) -> u32
         ensures value { result ≡ weight_of self.now }
         ensures range { result ≤ 2 }
     {
@@ -59,7 +58,7 @@ impl Sightings {
         self.instead != 0
     }
     /// Whether both lines show one number, as they do if both were read in pass 1.
-    pub(crate) fn shows_twice(&self) -> bool
+    pub fn shows_twice(&self) -> bool
         ensures { (result ≡ true) ↔ ((2 ≤ self.now.line_17.weight) × (2 ≤ self.now.line_18.weight)
             × (self.now.line_17.number ≡ self.now.line_18.number)) }
     {
@@ -69,7 +68,7 @@ impl Sightings {
     }
 
     /// Whether both lines show, in pass 1, one number between these two.
-    pub(crate) fn shows_between(&self, from: u32, to: u32) -> bool
+    pub fn shows_between(&self, from: u32, to: u32) -> bool
         ensures { result ≡ shows_between from to self.now }
     {
         let number = self.line_17.number;

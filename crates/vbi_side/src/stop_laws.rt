@@ -37,7 +37,7 @@ pub fn stops_never_alone()
         → IsSure line_17 }
 {}
 
-/// Of a field there is one answer.
+/// There is one answer of a field about its picture stop.
 pub fn one_stop_answer()
     ensures { (line_16 line_17 : Shown) (one other : ℕ) → IsJudgedStop line_16 line_17 one
         → IsJudgedStop line_16 line_17 other → one ≡ other }

@@ -15,9 +15,10 @@ ghost use Rattle.std.specs.Prelude.{◌≡◌, ◌↔◌, ℕ, ◌+◌, ◌-◌,
 ghost use Rattle.std.specs.Prelude.{if◌then◌else◌, length, Some, true};
 ghost use Rattle.vbi_side.specs.Beliefs.{field_most, sighting_weight, field_weight};
 ghost use Rattle.vbi_side.specs.Votes.{vote_reach, minute_of, IsVoter, votes, weight_of_first, votes_cast, IsElected};
-ghost use Rattle.vbi_side.specs.Tallies.{key_of, votes_by, Leads};
+ghost use Rattle.vbi_side.specs.VoteCounts.{election_of, key_of, votes_by, Leads};
 
 use crate::belief::FIELD_MOST;
+use crate::election::Election;
 use crate::lines::rate;
 use crate::sighting::{Sighting, Sightings};
 use vbi_words::System;
@@ -25,15 +26,6 @@ use vbi_words::System;
 /// The fields on either side of one whose times vote: four seconds of NTSC, so that some line 17 or 18 of a worn disc
 /// is read among them, and few enough that a clock leaves out four numbers there at most (`few_left_out`).
 pub const VOTE_REACH: usize = 240;
-
-/// In which field a number is elected, with which part of a minute.
-#[derive(Clone, Copy)]
-struct Election {
-    system: System,
-    field: usize,
-    part: u32,
-    ghost far: { field < 2 ^ 60 },
-}
 
 /// A field whose times vote in an election.
 #[derive(Clone, Copy)]
@@ -45,7 +37,7 @@ struct Voter {
 
 /// What was counted of an election's votes.
 #[derive(Clone, Copy)]
-struct Tally {
+struct Count {
     /// The key in the lead: no other one has more than half of the votes.
     key: u64,
     /// By how much it may have more than half.
@@ -81,33 +73,33 @@ fn goes_on(election: Election, key: u64) -> bool
     key % round == (2 * u64::from(election.part) + VOTE_REACH as u64) % round
 }
 
-/// The tally with a vote of this weight for a key.
-fn with_vote(tally: Tally, key: u64, weight: u32) -> Tally
-    requires few { tally.all < 2 ^ 62 }
-    requires within { tally.ahead ≤ tally.all }
-    ensures all { result.all ≡ tally.all + weight }
+/// The count with a vote of this weight for a key.
+fn with_vote(count: Count, key: u64, weight: u32) -> Count
+    requires few { count.all < 2 ^ 62 }
+    requires within { count.ahead ≤ count.all }
+    ensures all { result.all ≡ count.all + weight }
     ensures within { result.ahead ≤ result.all }
-    ensures leads { (of : ℕ → ℕ) → Leads of tally
+    ensures leads { (of : ℕ → ℕ) → Leads of count
         → Leads (λ k. of k + (if key == k then weight else 0)) result }
 {
     let weight = u64::from(weight);
-    let all = tally.all + weight;
-    if key == tally.key {
-        Tally {
+    let all = count.all + weight;
+    if key == count.key {
+        Count {
             key,
-            ahead: tally.ahead + weight,
+            ahead: count.ahead + weight,
             all,
         }
-    } else if weight <= tally.ahead {
-        Tally {
-            key: tally.key,
-            ahead: tally.ahead - weight,
+    } else if weight <= count.ahead {
+        Count {
+            key: count.key,
+            ahead: count.ahead - weight,
             all,
         }
     } else {
-        Tally {
+        Count {
             key,
-            ahead: weight - tally.ahead,
+            ahead: weight - count.ahead,
             all,
         }
     }
@@ -115,8 +107,7 @@ fn with_vote(tally: Tally, key: u64, weight: u32) -> Tally
 
 /// The weight of a sighting, if it votes.
 fn vote_of(voter: Voter, sighting: &Sighting) -> u32
-    ensures value { result ≡ sighting_weight
-        (votes (minute_of voter.election.system) voter.election.field voter.election.part voter.field) sighting.now }
+    ensures value { result ≡ sighting_weight (votes (election_of voter.election) voter.field) sighting.now }
     ensures range { result ≤ 2 }
 {
     if sighting.is_seen() && goes_on(voter.election, key_of(voter, sighting.number)) {
@@ -126,35 +117,35 @@ fn vote_of(voter: Voter, sighting: &Sighting) -> u32
     }
 }
 
-/// The tally with a sighting of another field.
-fn with_sighting(voter: Voter, tally: Tally, sighting: &Sighting) -> Tally
-    requires few { tally.all < 2 ^ 62 }
-    requires within { tally.ahead ≤ tally.all }
-    ensures all { result.all ≡ tally.all + sighting_weight
-        (votes (minute_of voter.election.system) voter.election.field voter.election.part voter.field) sighting.now }
+/// The count with a sighting of another field.
+fn with_sighting(voter: Voter, count: Count, sighting: &Sighting) -> Count
+    requires few { count.all < 2 ^ 62 }
+    requires within { count.ahead ≤ count.all }
+    ensures all { result.all
+        ≡ count.all + sighting_weight (votes (election_of voter.election) voter.field) sighting.now }
     ensures within { result.ahead ≤ result.all }
-    ensures few { result.all ≤ tally.all + 2 }
-    ensures leads { (of : ℕ → ℕ) → Leads of tally → Leads (λ k. of k + sighting_weight
-        (votes_by (minute_of voter.election.system) voter.election.field voter.election.part k voter.field)
-        sighting.now) result }
+    ensures few { result.all ≤ count.all + 2 }
+    ensures leads { (of : ℕ → ℕ) → Leads of count
+        → Leads (λ k. of k + sighting_weight (votes_by (election_of voter.election) k voter.field) sighting.now)
+        result }
 {
     let key = key_of(voter, sighting.number);
-    with_vote(tally, key, vote_of(voter, sighting))
+    with_vote(count, key, vote_of(voter, sighting))
 }
 
-/// The tally with both sightings of another field.
-fn with_field(voter: Voter, tally: Tally, seen: &Sightings) -> Tally
-    requires few { tally.all < 2 ^ 61 }
-    requires within { tally.ahead ≤ tally.all }
-    ensures all { result.all ≡ tally.all + field_weight
-        (votes (minute_of voter.election.system) voter.election.field voter.election.part voter.field) (Some seen.now) }
+/// The count with both sightings of another field.
+fn with_both_lines(voter: Voter, count: Count, seen: &Sightings) -> Count
+    requires few { count.all < 2 ^ 61 }
+    requires within { count.ahead ≤ count.all }
+    ensures all { result.all
+        ≡ count.all + field_weight (votes (election_of voter.election) voter.field) (Some seen.now) }
     ensures within { result.ahead ≤ result.all }
-    ensures few { result.all ≤ tally.all + 4 }
-    ensures leads { (of : ℕ → ℕ) → Leads of tally → Leads (λ k. of k + field_weight
-        (votes_by (minute_of voter.election.system) voter.election.field voter.election.part k voter.field)
-        (Some seen.now)) result }
+    ensures few { result.all ≤ count.all + 4 }
+    ensures leads { (of : ℕ → ℕ) → Leads of count
+        → Leads (λ k. of k + field_weight (votes_by (election_of voter.election) k voter.field) (Some seen.now))
+        result }
 {
-    let first = with_sighting(voter, tally, &seen.line_17);
+    let first = with_sighting(voter, count, &seen.line_17);
     with_sighting(voter, first, &seen.line_18)
 }
 
@@ -166,15 +157,15 @@ fn first_voter(field: usize) -> usize
 }
 
 /// Who is in the lead when all votes are counted.
-fn counted(fields: &[Sightings], election: Election) -> Tally
+#[tactic(auto, using(crate::proofs::Voting::keyed))]
+fn counted(fields: &[Sightings], election: Election) -> Count
     requires { election.field < length fields.now }
-    ensures all { result.all ≡ votes_cast
-        (minute_of election.system) fields.now election.field election.part }
+    ensures all { result.all ≡ votes_cast (election_of election) fields.now }
     ensures few { result.all ≤ 4 * length fields.now }
-    ensures leads { Leads (λ k. weight_of_first (votes_by
-        (minute_of election.system) election.field election.part k) fields.now (length fields.now)) result }
+    ensures leads { Leads (λ k. weight_of_first (votes_by (election_of election) k) fields.now (length fields.now))
+        result }
 {
-    let mut tally = Tally {
+    let mut count = Count {
         key: 0,
         ahead: 0,
         all: 0,
@@ -185,16 +176,14 @@ fn counted(fields: &[Sightings], election: Election) -> Tally
             election,
             field: other,
         };
-        tally = with_field(voter, tally, &fields[other]);
+        count = with_both_lines(voter, count, &fields[other]);
     }
-    tally
+    count
 }
 
 /// The weight of a sighting, if it votes for this key.
 fn vote_by(voter: Voter, key: u64, sighting: &Sighting) -> u32
-    ensures value { result ≡ sighting_weight
-        (votes_by (minute_of voter.election.system) voter.election.field voter.election.part key voter.field)
-        sighting.now }
+    ensures value { result ≡ sighting_weight (votes_by (election_of voter.election) key voter.field) sighting.now }
     ensures range { result ≤ 2 }
 {
     if key_of(voter, sighting.number) == key {
@@ -205,10 +194,10 @@ fn vote_by(voter: Voter, key: u64, sighting: &Sighting) -> u32
 }
 
 /// The weight of the votes for this key.
+#[tactic(auto, using(crate::proofs::Voting::keyed))]
 fn votes_by(fields: &[Sightings], election: Election, key: u64) -> u64
     requires { election.field < length fields.now }
-    ensures value { result ≡ weight_of_first (votes_by
-        (minute_of election.system) election.field election.part key) fields.now (length fields.now) }
+    ensures value { result ≡ weight_of_first (votes_by (election_of election) key) fields.now (length fields.now) }
     ensures few { result ≤ 4 * length fields.now }
 {
     let mut weight = 0;
@@ -254,16 +243,17 @@ fn are_enough(votes: u64, all: u64) -> bool
 /// The number that is elected in a field that shows this part of a minute, if one is.
 pub fn elected(system: System, fields: &[Sightings], field: usize, part: u32) -> Option<u64>
     requires { field < length fields.now }
-    ensures { (m : ℕ) → (result ≡ Some m) ↔ IsElected (minute_of system) fields.now field part m }
+    ensures { (m : ℕ) → (result ≡ Some m)
+        ↔ IsElected (record { minute = minute_of system; field = field; part = part }) fields.now m }
 {
     let election = Election {
         system,
         field,
         part,
     };
-    let tally = counted(fields, election);
-    if are_enough(votes_by(fields, election, tally.key), tally.all) {
-        number_of(election, tally.key)
+    let count = counted(fields, election);
+    if are_enough(votes_by(fields, election, count.key), count.all) {
+        number_of(election, count.key)
     } else {
         None
     }

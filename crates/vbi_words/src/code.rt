@@ -2,9 +2,8 @@
 
 ghost use Rattle.std.specs.Prelude.{◌≡◌, ◌↔◌, ◌≤◌, ◌<◌, IsTrue};
 ghost use Rattle.vbi_words.specs.Codes.{digit_of, IsBetween, picture_of, chapter_of, seconds_of, last_two, code_of};
-ghost use Rattle.vbi_words.specs.Codes.{last_three, IsCode, pictures_in_second, may_stand};
+ghost use Rattle.vbi_words.specs.Codes.{last_three, IsCode};
 
-use crate::system::System;
 use crate::word::Word24;
 
 /// What a code word says, by its six hexadecimal digits. The ranges are those of the codes that `classify` returns.
@@ -164,38 +163,4 @@ pub fn classify(word: Word24) -> Code
     ensures { result ≡ code_of word }
 {
     code_of_number(word.value())
-}
-
-/// The pictures of a second.
-fn pictures_in_second(system: System) -> u8
-    ensures { result ≡ pictures_in_second system }
-{
-    match system {
-        System::Ntsc => 30,
-        System::Pal => 25,
-    }
-}
-
-/// Whether a code may stand on this line of a field, counted from 1 (IEC 60857 and IEC 60856).
-pub fn may_stand(system: System, line: u32, code: Code) -> bool
-    ensures { result ≡ may_stand system line code }
-{
-    let is_17_or_18 = line == 17 || line == 18;
-    match code {
-        Code::LeadIn | Code::LeadOut | Code::Picture(_) | Code::Chapter(_) | Code::ClvMark => {
-            is_17_or_18
-        }
-        Code::Time { hours: _, minutes } => is_17_or_18 && minutes < 60,
-        Code::PictureStop => line == 16 || is_17_or_18,
-        Code::ClvPicture {
-            seconds: _,
-            picture,
-        } => line == 16 && picture < pictures_in_second(system),
-        Code::CxOn(_) | Code::CxOff(_) => line == 16,
-        Code::Users {
-            digit: _,
-            number: _,
-        } => line == 16,
-        Code::Other => false,
-    }
 }

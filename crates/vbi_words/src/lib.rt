@@ -15,7 +15,7 @@ mod outcome;
 mod system;
 mod word;
 
-pub use code::{Code, classify, digit, may_stand};
+pub use code::{Code, classify, digit};
 pub use drawing::{draw_line, drawn_sample};
 pub use format::{Format, format_of};
 pub use levels::{Levels, LevelsFault};

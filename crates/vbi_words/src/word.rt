@@ -28,9 +28,9 @@ impl Model for Word24 {
 /// Why a number is not a code word.
 #[derive(Clone, Copy, Debug, PartialEq, Eq)]
 pub enum WordFault {
-    /// It has more than 24 bits.
+    /// The number has more than 24 bits.
     TooWide,
-    /// Its top bit, bit 23, is 0.
+    /// The number's top bit, bit 23, is 0.
     TopBitClear,
 }
 

@@ -4,8 +4,10 @@
 //! it says, or to one value. It may be null only if the length is 0.
 #![allow(clippy::missing_safety_doc)]
 use crate::c::{self, LdvbiClock, LdvbiCode, LdvbiErased, LdvbiFieldReadings, LdvbiNear, LdvbiReading, LdvbiRecord};
-use crate::c::{LdvbiPlace, LdvbiSought};
-use crate::side::{Capture, Checked, Finding, Gap, Number, Sightings, Stretch};
+use crate::c::{LdvbiChecked, LdvbiPlace, LdvbiSideRule, LdvbiSought};
+use crate::plan::{Capture, Stretch};
+use crate::side::{Number, Sightings};
+use crate::whole_side::{Finding, Gap};
 use std::mem::size_of;
 use std::slice::{from_raw_parts, from_raw_parts_mut};
 
@@ -78,12 +80,9 @@ exports! {
     fn ldvbi_read_field(system: u32, black: u32, white: u32, samples: &[u8], out: &mut LdvbiFieldReadings) -> u32;
     fn ldvbi_read_fields(system: u32, black: u32, white: u32, samples: &[u8], out: &mut [LdvbiFieldReadings]) -> u32;
     fn ldvbi_nearest(system: u32, black: u32, white: u32, samples: &[u8], out: &mut LdvbiNear) -> u32;
-    fn ldvbi_recover_rows(system: u32, black: u32, white: u32, samples: &[u8], out: &mut LdvbiFieldReadings) -> u32;
-    fn ldvbi_recover_fields(system: u32, black: u32, white: u32, samples: &[u8],
-        out: &mut [LdvbiFieldReadings]) -> u32;
-    fn ldvbi_recover_rows_without(system: u32, black: u32, white: u32, samples: &[u8], erased: &[LdvbiErased],
+    fn ldvbi_recover_rows(system: u32, black: u32, white: u32, samples: &[u8], erased: &[LdvbiErased],
         out: &mut LdvbiFieldReadings) -> u32;
-    fn ldvbi_recover_fields_without(system: u32, black: u32, white: u32, samples: &[u8], erased: &[LdvbiErased],
+    fn ldvbi_recover_fields(system: u32, black: u32, white: u32, samples: &[u8], erased: &[LdvbiErased],
         out: &mut [LdvbiFieldReadings]) -> u32;
     fn ldvbi_recovered_record(system: u32, black: u32, white: u32, number: u32, samples: &[u8],
         erased: &[LdvbiErased], out: &mut LdvbiRecord) -> u32;
@@ -112,15 +111,12 @@ exports! {
         stop: &mut LdvbiPlace) -> u32;
     fn ldvbi_judge_ends(readings: &[LdvbiFieldReadings], ends: &mut [u32]) -> u32;
     fn ldvbi_find_both(numbers: &[Number]) -> u32;
-    fn ldvbi_judge_side(system: u32, counted: u32, pace: u32, both: u32, may_end: u32, seen: &[Sightings],
-        numbers: &[Number], ends: &[u32], gaps: &mut [Gap], side: &mut Finding) -> u32;
-    fn ldvbi_find_clock(system: u32, counted: u32, pace: u32, both: u32, numbers: &[Number],
-        clock: &mut LdvbiClock) -> u32;
-    fn ldvbi_judge_side_by_clock(system: u32, counted: u32, pace: u32, both: u32, may_end: u32, clock: &LdvbiClock,
-        seen: &[Sightings], numbers: &[Number], ends: &[u32], gaps: &mut [Gap], side: &mut Finding) -> u32;
-    fn ldvbi_set_aside(system: u32, counted: u32, pace: u32, both: u32, clock: &LdvbiClock, gaps: &[Gap],
-        numbers: &[Number], left: &mut [Number], count: &mut usize) -> u32;
+    fn ldvbi_find_clock(rule: &LdvbiSideRule, numbers: &[Number], clock: &mut LdvbiClock) -> u32;
+    fn ldvbi_judge_side(rule: &LdvbiSideRule, may_end: u32, seen: &[Sightings], numbers: &[Number], ends: &[u32],
+        gaps: &mut [Gap], side: &mut Finding) -> u32;
+    fn ldvbi_set_aside(rule: &LdvbiSideRule, gaps: &[Gap], numbers: &[Number], left: &mut [Number],
+        count: &mut usize) -> u32;
     fn ldvbi_check_plan(spacing: u32, begin: usize, end: u32, clock: &LdvbiClock, numbers: &[Number],
-        captures: &[Capture], plan: &[Stretch], checked: &mut Checked) -> u32;
+        captures: &[Capture], plan: &[Stretch], checked: &mut LdvbiChecked) -> u32;
     fn ldvbi_first_of(numbers: &[Number], number: u32) -> usize;
 }

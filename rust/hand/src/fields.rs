@@ -1,10 +1,8 @@
 //! Fields one by one: an iterator that reads what it yields alone, and what the fields around one say of it.
 
-use crate::c::{self, LdvbiFieldReadings};
-use crate::judged::FIND_PACE;
-use crate::lines::{done, number_of};
-use crate::room::rooms;
-use crate::side::{self, Counted, BELIEVED};
+use crate::c::LdvbiFieldReadings;
+use crate::numbers::{chapters_of, ends_of, Numbers};
+use crate::side::{self, Counted, BELIEVED, LEAD_OUT};
 use crate::sides::{Field, Number, Side};
 
 /// What a function makes of each item. It isn't called for items that are skipped, as it is by `Map`.
@@ -51,25 +49,20 @@ const REACH: usize = 24;
 
 /// What is told of a field: chapters are between the two.
 const BEFORE_CHAPTERS: i64 = -1;
-const LEAD_OUT: i64 = 80;
-/// `LDVBI_IS_LEAD_OUT` of the library for C.
-const IS_LEAD_OUT: u32 = 1;
+const AFTER_CHAPTERS: i64 = 80;
 
 impl Side<'_> {
     /// The number of a field, as [`numbers`](Side::numbers) has it at the same pace: it is judged by 48 fields before
     /// the field and as many after it, and the pace is found by these. `None` if there is no such field.
     pub fn number(&self, counted: Counted, index: usize) -> Option<Number> {
         let (first, readings) = self.around(index, 2 * REACH)?;
-        let (mut seen, mut numbers) = (rooms(readings.len()), rooms(readings.len()));
-        let (system, counted) = (number_of(self.system()), counted as u32 + 1);
-        done(c::ldvbi_judge(system, counted, FIND_PACE, &readings, &mut seen, &mut numbers));
-        Some(Number::of(&numbers[index - first]))
+        Some(Number::of(&Numbers::of(self.system(), counted, &readings).numbers[index - first]))
     }
 
     /// The chapter of a field: the last one that is believed up to it. `None` before the first one, in lead-out, if
     /// there is none within 24 fields, or no such field.
     pub fn chapter(&self, index: usize) -> Option<u32> {
-        self.told(index).and_then(|told| u32::try_from(told).ok()).filter(|chapter| i64::from(*chapter) < LEAD_OUT)
+        self.told(index).filter(|told| *told < AFTER_CHAPTERS).and_then(|told| u32::try_from(told).ok())
     }
 
     /// The field in which the next chapter after that of this field begins, if halving finds one.
@@ -85,18 +78,15 @@ impl Side<'_> {
 
     /// The field in which this chapter begins, or the next one that halving finds, and which it is.
     pub(crate) fn first_from(&self, least: u32) -> Option<(usize, u32)> {
-        (least..LEAD_OUT as u32).find_map(|chapter| Some((self.begin_of(chapter)?, chapter)))
+        (least..AFTER_CHAPTERS as u32).find_map(|chapter| Some((self.begin_of(chapter)?, chapter)))
     }
 
     /// What the fields up to this one tell of its chapter.
     fn told(&self, index: usize) -> Option<i64> {
         let (first, readings) = self.around(index, REACH)?;
-        let count = readings.len();
-        let (mut seen, mut chapters, mut ends) = (rooms(count), rooms(count), rooms(count));
-        done(c::ldvbi_judge_chapters(&readings, &mut seen, &mut chapters));
-        done(c::ldvbi_judge_ends(&readings, &mut ends));
+        let (chapters, ends) = (chapters_of(&readings), ends_of(&readings));
         let told = |(chapter, end): (&side::Number, &u32)| match (*end, chapter.state) {
-            (IS_LEAD_OUT, _) => Some(LEAD_OUT),
+            (LEAD_OUT, _) => Some(AFTER_CHAPTERS),
             (_, BELIEVED) => Some(i64::from(chapter.number)),
             _ => None,
         };

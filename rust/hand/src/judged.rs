@@ -1,8 +1,8 @@
 //! The judgement of a whole side: the numbers and the chapters of all its fields, and where each is found.
 
-use crate::c::{self, LdvbiFieldReadings};
-use crate::lines::{done, number_of, reading};
-use crate::room::rooms;
+use crate::c::LdvbiFieldReadings;
+use crate::lines::reading;
+use crate::numbers::{chapters_of, Numbers};
 use crate::side::{self, Counted};
 use crate::sides::{Field, Number, Place};
 use crate::words::{Reading, System};
@@ -27,13 +27,9 @@ impl std::fmt::Debug for Judged {
 impl Judged {
     /// Judges the pictures, the times and the chapters of these fields.
     pub(crate) fn of(system: System, readings: Vec<LdvbiFieldReadings>) -> Judged {
-        let mut seen = rooms(readings.len());
-        let [mut pictures, mut times, mut chapters] = [(); 3].map(|()| rooms(readings.len()));
-        for (counted, numbers) in [(Counted::Pictures, &mut pictures), (Counted::Times, &mut times)] {
-            let counted = counted as u32 + 1;
-            done(c::ldvbi_judge(number_of(system), counted, FIND_PACE, &readings, &mut seen, numbers));
-        }
-        done(c::ldvbi_judge_chapters(&readings, &mut seen, &mut chapters));
+        let numbers = |counted| Numbers::of(system, counted, &readings).numbers;
+        let (pictures, times) = (numbers(Counted::Pictures), numbers(Counted::Times));
+        let chapters = chapters_of(&readings);
         Judged { system, readings, pictures, times, chapters }
     }
 
@@ -55,8 +51,8 @@ impl Judged {
     /// The first field of the whole side for which this number or chapter is believed or due.
     pub fn seek(&self, place: Place) -> Option<Field> {
         let (counted, number) = place.counted(self.system)?;
-        let index = c::ldvbi_first_of(self.judged(counted), number);
-        self.readings.get(index).map(|field| Field { index, readings: field.lines.map(reading) })
+        let index = side::first_of(self.judged(counted), number)?;
+        Some(Field { index, readings: self.readings[index].lines.map(reading) })
     }
 
     /// The readings of all fields, as the library's other calls take them.
@@ -73,6 +69,3 @@ impl Judged {
         }
     }
 }
-
-/// The pace that has the calls that judge find it.
-pub(crate) const FIND_PACE: u32 = 3;

@@ -68,7 +68,8 @@
     clippy::question_mark,
     clippy::redundant_closure,
     clippy::single_match,
-    clippy::too_many_arguments
+    clippy::too_many_arguments,
+    clippy::wrong_self_convention
 )]
 
 // The modules of the source. From the repository itself, as a git address has it, build.rs makes them one file.
@@ -105,14 +106,23 @@ mod near;
 #[cfg(all(feature = "metadata", unix, target_pointer_width = "64"))]
 #[allow(unsafe_code)]
 mod opened;
+#[cfg(not(one_file))]
+#[allow(dead_code, unused_imports)]
+mod plan;
 mod plans;
-#[allow(unsafe_code)]
+mod numbers;
 mod room;
+#[cfg(not(one_file))]
+#[allow(dead_code, unused_imports)]
+mod seek;
 #[cfg(not(one_file))]
 #[allow(dead_code, unused_imports)]
 mod side;
 mod sides;
 mod whole;
+#[cfg(not(one_file))]
+#[allow(dead_code, unused_imports)]
+mod whole_side;
 #[cfg(not(one_file))]
 #[allow(dead_code, unused_imports)]
 mod words;
@@ -125,9 +135,10 @@ pub use crate::near::Near;
 #[cfg(all(feature = "metadata", unix, target_pointer_width = "64"))]
 pub use crate::opened::OpenError;
 pub use crate::plans::{check_plan, Layout, PlanFault, Rule, Spacing, Stretch};
-pub use crate::side::{Counted, Tally};
+pub use crate::side::Counted;
 pub use crate::sides::{Beside, Field, Neighbour, Number, Place, Side};
 pub use crate::whole::{Clock, Gap, GapKind, Reason, SideOptions, Verdict, Whole};
+pub use crate::whole_side::Tally;
 pub use crate::words::{
     classify, draw_line, format_of, Code, Format, Levels, LevelsFault, Outcome, Reading, System, Word24, WordFault,
 };
@@ -136,7 +147,6 @@ pub use crate::words::{
 #[cfg(feature = "cli")]
 #[doc(hidden)]
 pub mod program {
-    pub use crate::cli::{do_command, read_words, settle, status, AppFault, Input, Job, Source, WordsFault};
-    pub use crate::field::Outlet;
+    pub use crate::cli::{read_words, run_job, status, AppFault, Input, Job, WordsFault};
     pub use crate::meta::{MetaFault, META_LIMIT};
 }

@@ -1,7 +1,6 @@
 //! What lines show, and fields that come in pieces.
 
 use crate::c::{self, LdvbiFieldReadings, LdvbiReading};
-use crate::room::room;
 use crate::words::{Levels, Outcome, Reading, System, Word24};
 
 /// Why what was given can't be right. Nothing was read.
@@ -45,8 +44,8 @@ pub(crate) fn rows_of(system: System) -> std::ops::Range<usize> {
 /// Reads these three lines, and recovers the words of worn ones.
 pub(crate) fn recover(system: System, levels: Levels, rows: &[u8]) -> LdvbiFieldReadings {
     let (black, white) = (levels.black().into(), levels.white().into());
-    let mut field = room();
-    done(c::ldvbi_recover_rows(number_of(system), black, white, rows, &mut field));
+    let mut field = LdvbiFieldReadings::default();
+    done(c::ldvbi_recover_rows(number_of(system), black, white, rows, &[], &mut field));
     field
 }
 

@@ -6,9 +6,7 @@
 #[allow(unsafe_code)]
 mod system;
 
-use ldvbi::program::{
-    do_command, read_words, settle, status, AppFault, Input, Job, MetaFault, Outlet, Source, WordsFault, META_LIMIT,
-};
+use ldvbi::program::{read_words, run_job, status, AppFault, Input, Job, MetaFault, WordsFault, META_LIMIT};
 use std::fs::File;
 use std::io::{self, BufReader, ErrorKind, Read, Write};
 use system::Stream;
@@ -64,13 +62,7 @@ fn run_with_files(job: &Job) -> Result<u8, String> {
         Some(path) => Input::File(File::open(path).map_err(|_| "cannot open input")?),
     };
     let mut output = Stream::output();
-    let ended = match settle(job, meta.as_deref()) {
-        Ok(config) => {
-            let mut source = Source::new(job.verb, job.recover, config.system(), &mut input);
-            do_command(&config, &mut source, &mut Outlet::new(&mut output))
-        }
-        Err(fault) => Err(AppFault::Meta(fault)),
-    };
+    let ended = run_job(job, meta.as_deref(), &mut input, &mut output);
     match (&ended, &beside) {
         (Err(AppFault::Meta(fault)), Some(name)) if is_in_metadata(fault) => complain(&format!("{name}: {fault}")),
         (Err(fault), _) => complain(&fault.to_string()),

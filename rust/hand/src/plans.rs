@@ -1,9 +1,7 @@
 //! Plans of a file that is made from several captures of a disc.
 
-use crate::c;
-use crate::lines::{done, Error};
-use crate::room::room;
-use crate::side;
+use crate::lines::Error;
+use crate::plan;
 use crate::sides::Number;
 use crate::whole::Clock;
 
@@ -11,7 +9,7 @@ use crate::whole::Clock;
 #[derive(Clone, Copy, Debug, PartialEq, Eq)]
 pub enum Spacing {
     /// Two fields.
-    Video = 1,
+    Video,
     /// Two or three fields.
     Film,
     /// Two fields, or one or three: numbers are on both fields of a picture.
@@ -72,38 +70,52 @@ pub struct PlanFault {
 /// `None` if a plan is done, else its first fault. Each capture is given by its numbers
 /// ([`Side::numbers`](crate::Side::numbers)). [`Error::NoClock`] if there is no such clock.
 pub fn check_plan(captures: &[&[Number]], plan: &[Stretch], layout: Layout) -> Result<Option<PlanFault>, Error> {
-    let clock = layout.clock.for_c()?;
+    let Layout { spacing, clock, begin, end } = layout;
+    let layout = plan::Layout { spacing: spacing.of_plans(), clock: clock.judged()?, begin, end };
     let (mut numbers, mut spans) = (Vec::new(), Vec::new());
     for capture in captures {
-        spans.push(side::Capture { first: numbers.len(), fields: capture.len() });
+        spans.push(plan::Capture { first: numbers.len(), fields: capture.len() });
         numbers.extend(capture.iter().map(|number| number.judged()));
     }
-    let stretches: Vec<_> = plan.iter().map(|one| one.for_c(&spans)).collect();
-    let mut found: side::Checked = room();
-    let spacing = layout.spacing as u32;
-    done(c::ldvbi_check_plan(spacing, layout.begin, layout.end, &clock, &numbers, &spans, &stretches, &mut found));
-    let rule = match found.rule {
-        side::PLANNED => return Ok(None),
-        side::DISORDERED => Rule::Disordered,
-        side::NOT_THERE => Rule::NotThere,
-        side::TWICE => Rule::Twice,
-        side::MISPLACED => Rule::Misplaced,
-        _ => Rule::Hidden,
-    };
-    Ok(Some(PlanFault { rule, stretch: found.stretch }))
+    let stretches: Vec<_> = plan.iter().map(|one| one.among(&spans)).collect();
+    let asked = plan::Plan { layout, numbers: &numbers, captures: &spans, stretches: &stretches };
+    Ok(plan::check_plan(&asked).map(|fault| PlanFault { rule: Rule::of(fault.rule), stretch: fault.stretch }))
+}
+
+impl Spacing {
+    fn of_plans(self) -> plan::Spacing {
+        match self {
+            Spacing::Video => plan::Spacing::Video,
+            Spacing::Film => plan::Spacing::Film,
+            Spacing::Both => plan::Spacing::Both,
+            Spacing::Rising => plan::Spacing::Rising,
+        }
+    }
+}
+
+impl Rule {
+    fn of(rule: plan::PlanRule) -> Rule {
+        match rule {
+            plan::PlanRule::Disordered => Rule::Disordered,
+            plan::PlanRule::NotThere => Rule::NotThere,
+            plan::PlanRule::Twice => Rule::Twice,
+            plan::PlanRule::Misplaced => Rule::Misplaced,
+            plan::PlanRule::Hidden => Rule::Hidden,
+        }
+    }
 }
 
 impl Stretch {
-    /// As the library's call takes it, whose fields are counted through all captures. One of no capture becomes the
-    /// greatest, which is none either.
-    fn for_c(&self, spans: &[side::Capture]) -> side::Stretch {
+    /// The stretch with its fields counted through all captures. A capture that isn't there becomes the greatest, which
+    /// isn't there either.
+    fn among(&self, spans: &[plan::Capture]) -> plan::Stretch {
         let Stretch { from, fields, number } = *self;
         match from {
             Some((capture, field)) => {
                 let first = spans.get(capture).map_or(usize::MAX, |span| span.first);
-                side::Stretch { field: first.saturating_add(field), fields, capture, number, ..room() }
+                plan::Stretch { field: first.saturating_add(field), fields, capture, number, padding: 0 }
             }
-            None => side::Stretch { fields, number, padding: 1, ..room() },
+            None => plan::Stretch { field: 0, fields, capture: 0, number, padding: 1 },
         }
     }
 }

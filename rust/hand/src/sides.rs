@@ -2,11 +2,11 @@
 
 use crate::c::{self, LdvbiFieldReadings, LdvbiNeighbour, LdvbiPlace, LdvbiSought};
 use crate::fields::Each;
-use crate::judged::{Judged, FIND_PACE};
+use crate::judged::Judged;
 use crate::lines::{check_lines, done, number_of, reading, recover, rows_of, Error};
 use crate::near::{nearest_of_lines, Near};
-use crate::room::room;
-use crate::side::{self, Counted, BELIEVED};
+use crate::numbers::shown;
+use crate::side::{self, judge_stop, Counted, BELIEVED};
 use crate::words::{Levels, Reading, System};
 use std::sync::{Arc, Mutex, PoisonError};
 
@@ -34,7 +34,7 @@ impl Number {
     pub(crate) fn judged(self) -> side::Number {
         match self {
             Number::Believed(number) => side::Number { number, state: BELIEVED },
-            _ => room(),
+            _ => side::Number::default(),
         }
     }
 
@@ -211,16 +211,16 @@ impl<'a> Side<'a> {
     /// The fields, from this one on, at which a player stops: line 16 or 17 shows a stop in pass 1, or both do.
     pub fn stops(&self, from: usize) -> impl Iterator<Item = Field> + 'a {
         self.read(from).enumerate().filter_map(move |(i, field)| {
-            let mut stop = [room()];
-            done(c::ldvbi_judge_stops(&[field], &mut stop));
-            (stop == [BELIEVED]).then(|| Field { index: from + i, readings: field.lines.map(reading) })
+            let [line_16, line_17, _] = shown(&field);
+            let is_stop = judge_stop(&line_16, &line_17) == BELIEVED;
+            is_stop.then(|| Field { index: from + i, readings: field.lines.map(reading) })
         })
     }
 
     /// The first of these stops, among so many fields at most. None after it is read.
     pub fn next_stop(&self, from: usize, most: usize) -> Option<Field> {
         let (system, black, white) = self.setup();
-        let mut stop: LdvbiPlace = room();
+        let mut stop = LdvbiPlace::default();
         done(c::ldvbi_next_stop(system, black, white, self.bytes, from, most, &mut stop));
         self.field(stop.field)
     }
@@ -291,10 +291,10 @@ impl<'a> Side<'a> {
         (sought.number.state != side::NOTHING).then_some(sought.field)
     }
 
-    /// What the library's call answers.
+    /// What the library's call answers, at the pace of the fields that it reads.
     fn sought(&self, counted: Counted, number: u32) -> LdvbiSought {
         let (system, black, white) = self.setup();
-        let mut sought = room();
+        let mut sought = LdvbiSought::default();
         done(c::ldvbi_seek(system, black, white, counted as u32 + 1, FIND_PACE, self.bytes, number, &mut sought));
         sought
     }
@@ -307,7 +307,7 @@ impl<'a> Side<'a> {
     /// The field in which this chapter begins, if halving finds it.
     pub(crate) fn begin_of(&self, chapter: u32) -> Option<usize> {
         let (system, black, white) = self.setup();
-        let mut place: LdvbiPlace = room();
+        let mut place = LdvbiPlace::default();
         done(c::ldvbi_seek_chapter(system, black, white, self.bytes, chapter, &mut place));
         Some(place.field).filter(|field| *field < self.len())
     }
@@ -332,3 +332,6 @@ impl<'a> Side<'a> {
         self.system
     }
 }
+
+/// The pace that has the call that seeks find it.
+const FIND_PACE: u32 = 3;

@@ -1,10 +1,10 @@
 //! Whole sides: whether a capture is whole, and where its numbers and fields don't go on together.
 
-use crate::c::{self, LdvbiClock};
-use crate::lines::{done, number_of, Error};
-use crate::room::{room, rooms};
-use crate::side::{self, Counted, Finding, Sightings, Tally};
+use crate::lines::Error;
+use crate::numbers::{ends_of, Numbers};
+use crate::side::{self, Counted, Pace, PADDING};
 use crate::sides::{Number, Side};
+use crate::whole_side::{self, is_on_both, judge_whole, set_aside, Finding, Numbering, Rule, Tally};
 
 /// How a whole side is judged.
 #[derive(Clone, Copy, Debug, PartialEq, Eq)]
@@ -38,21 +38,21 @@ pub enum Clock {
 }
 
 impl Clock {
-    /// As the library's calls take it, if it is one.
-    pub(crate) fn for_c(self) -> Result<LdvbiClock, Error> {
+    /// As the judge takes it, if it is one.
+    pub(crate) fn judged(self) -> Result<side::Clock, Error> {
         match self {
-            Clock::Plain => Ok(PLAIN),
-            Clock::DropFrame => Ok(LdvbiClock { kind: 1, period: 0, phase: 0 }),
-            Clock::OneIn { period, phase } if phase < period => Ok(LdvbiClock { kind: 2, period, phase }),
+            Clock::Plain => Ok(side::Clock::Plain),
+            Clock::DropFrame => Ok(side::Clock::DropFrame),
+            Clock::OneIn { period, phase } if phase < period => Ok(side::Clock::OneIn { period, phase }),
             Clock::OneIn { period, phase } => Err(Error::NoClock { period, phase }),
         }
     }
 
-    fn of(clock: &LdvbiClock) -> Clock {
-        match clock.kind {
-            1 => Clock::DropFrame,
-            2 => Clock::OneIn { period: clock.period, phase: clock.phase },
-            _ => Clock::Plain,
+    fn of(clock: side::Clock) -> Clock {
+        match clock {
+            side::Clock::Plain => Clock::Plain,
+            side::Clock::DropFrame => Clock::DropFrame,
+            side::Clock::OneIn { period, phase } => Clock::OneIn { period, phase },
         }
     }
 }
@@ -108,21 +108,21 @@ pub enum Reason {
 
 /// Each reason with its bit, in order.
 const REASONS: [(u32, Reason); 15] = [
-    (side::IS_LOST, Reason::IsLost),
-    (side::IS_HELD, Reason::IsHeld),
-    (side::GOES_BACK, Reason::GoesBack),
-    (side::IS_JOINED, Reason::IsJoined),
-    (side::BEGINS_LATE, Reason::BeginsLate),
-    (side::IS_SWAPPED, Reason::IsSwapped),
-    (side::IS_OFF, Reason::IsOff),
-    (side::NO_NUMBERS, Reason::NoNumbers),
-    (side::END_UNSEEN, Reason::EndUnseen),
-    (side::BEGIN_UNSEEN, Reason::BeginUnseen),
-    (side::MANY_DOUBTFUL, Reason::ManyDoubtful),
-    (side::IS_OPEN, Reason::IsOpen),
-    (side::IS_INSERTED, Reason::IsInserted),
-    (side::IS_PADDED, Reason::IsPadded),
-    (side::IS_BLANK, Reason::IsBlank),
+    (whole_side::IS_LOST, Reason::IsLost),
+    (whole_side::IS_HELD, Reason::IsHeld),
+    (whole_side::GOES_BACK, Reason::GoesBack),
+    (whole_side::IS_JOINED, Reason::IsJoined),
+    (whole_side::BEGINS_LATE, Reason::BeginsLate),
+    (whole_side::IS_SWAPPED, Reason::IsSwapped),
+    (whole_side::IS_OFF, Reason::IsOff),
+    (whole_side::NO_NUMBERS, Reason::NoNumbers),
+    (whole_side::END_UNSEEN, Reason::EndUnseen),
+    (whole_side::BEGIN_UNSEEN, Reason::BeginUnseen),
+    (whole_side::MANY_DOUBTFUL, Reason::ManyDoubtful),
+    (whole_side::IS_OPEN, Reason::IsOpen),
+    (whole_side::IS_INSERTED, Reason::IsInserted),
+    (whole_side::IS_PADDED, Reason::IsPadded),
+    (whole_side::IS_BLANK, Reason::IsBlank),
 ];
 
 /// The answer for the capture of a side.
@@ -149,16 +149,16 @@ impl Whole {
     fn of(found: &Finding) -> Whole {
         let has = |bit| found.reasons & bit != 0;
         let verdict = match found.verdict {
-            side::YES => Verdict::Yes,
-            side::NO => Verdict::No,
+            whole_side::YES => Verdict::Yes,
+            whole_side::NO => Verdict::No,
             _ => Verdict::CannotTell,
         };
         Whole {
             verdict,
             reasons: REASONS.iter().filter(|(bit, _)| has(*bit)).map(|(_, reason)| *reason).collect(),
-            ends: (!has(side::NO_NUMBERS)).then_some((found.first, found.last)),
-            swap: has(side::IS_SWAPPED).then_some(found.swap),
-            blank: has(side::IS_BLANK).then_some(found.blank),
+            ends: (!has(whole_side::NO_NUMBERS)).then_some((found.first, found.last)),
+            swap: has(whole_side::IS_SWAPPED).then_some(found.swap),
+            blank: has(whole_side::IS_BLANK).then_some(found.blank),
             padded: found.padded,
             tally: found.tally,
         }
@@ -213,35 +213,28 @@ pub struct Gap {
 }
 
 impl Gap {
-    fn of(gap: &side::Gap) -> Gap {
+    fn of(gap: &whole_side::Gap) -> Gap {
         let kind = match gap.kind {
-            side::LOST => GapKind::Lost,
-            side::HELD => GapKind::Held,
-            side::BACK => GapKind::Back,
-            side::STILL => GapKind::Still,
-            side::JOINED => GapKind::Joined,
-            side::INSERTED => GapKind::Inserted,
-            side::REPLACED => GapKind::Replaced,
+            whole_side::LOST => GapKind::Lost,
+            whole_side::HELD => GapKind::Held,
+            whole_side::BACK => GapKind::Back,
+            whole_side::STILL => GapKind::Still,
+            whole_side::JOINED => GapKind::Joined,
+            whole_side::INSERTED => GapKind::Inserted,
+            whole_side::REPLACED => GapKind::Replaced,
             _ => GapKind::Open,
         };
-        let side::Gap { after, before, from, to, fields, shown, .. } = *gap;
+        let whole_side::Gap { after, before, from, to, fields, shown, .. } = *gap;
         Gap { kind, after, before, from, to, fields, shown }
     }
 }
 
-/// What was judged of the fields of a side: the pace, what each field shows, its number, and the ends of the side.
+/// What was judged of the fields of a side: the rule by which its numbers go on, what each field shows, its number, and
+/// the ends of the side.
 struct Fields {
-    pace: u32,
-    seen: Vec<Sightings>,
-    numbers: Vec<side::Number>,
+    rule: Rule,
+    numbers: Numbers,
     ends: Vec<u32>,
-}
-
-/// The same with the answer for the side, and all its gaps.
-struct JudgedFields {
-    fields: Fields,
-    found: Finding,
-    gaps: Vec<side::Gap>,
 }
 
 impl Side<'_> {
@@ -249,87 +242,77 @@ impl Side<'_> {
     /// disc leaves out numbers: ask [`whole_by_clock`](Side::whole_by_clock) with the clock of
     /// [`find_clock`](Side::find_clock).
     pub fn whole(&self, options: SideOptions) -> Whole {
-        Whole::of(&self.judge_side(options, &PLAIN).found)
+        Whole::of(&self.judge_side(options, side::Clock::Plain).0)
     }
 
     /// The same of a disc that keeps to this clock. [`Error::NoClock`] if there is no such clock.
     pub fn whole_by_clock(&self, options: SideOptions, clock: Clock) -> Result<Whole, Error> {
-        Ok(Whole::of(&self.judge_side(options, &clock.for_c()?).found))
+        Ok(Whole::of(&self.judge_side(options, clock.judged()?).0))
     }
 
     /// The places where the numbers and the fields don't go on together, in order. The whole side is read and judged,
     /// at the pace that is found.
     pub fn gaps(&self, options: SideOptions) -> Vec<Gap> {
-        self.judge_side(options, &PLAIN).gaps.iter().map(Gap::of).collect()
+        self.judge_side(options, side::Clock::Plain).1.iter().map(Gap::of).collect()
     }
 
     /// The same of a disc that keeps to this clock. [`Error::NoClock`] if there is no such clock.
     pub fn gaps_by_clock(&self, options: SideOptions, clock: Clock) -> Result<Vec<Gap>, Error> {
-        Ok(self.judge_side(options, &clock.for_c()?).gaps.iter().map(Gap::of).collect())
+        Ok(self.judge_side(options, clock.judged()?).1.iter().map(Gap::of).collect())
     }
 
     /// The number of each field, at the pace that is found. Those of a run that is [`GapKind::Replaced`] are in doubt
     /// if on this side more numbers go on with those around it, and it has none of the numbers that are due there.
     pub fn numbers_left(&self, options: SideOptions) -> Vec<Number> {
-        self.set_aside(options, &PLAIN)
+        self.set_aside(options, side::Clock::Plain)
     }
 
     /// The same of a disc that keeps to this clock. [`Error::NoClock`] if there is no such clock.
     pub fn numbers_left_by_clock(&self, options: SideOptions, clock: Clock) -> Result<Vec<Number>, Error> {
-        Ok(self.set_aside(options, &clock.for_c()?))
+        Ok(self.set_aside(options, clock.judged()?))
     }
 
     /// The clock to which the believed numbers keep, at the pace that is found; [`Clock::Plain`] if they tell none, as
     /// those of PAL, of pictures, and of a few minutes.
     pub fn find_clock(&self, options: SideOptions) -> Clock {
-        let (system, counted, both) = asked(self, options);
-        let (Fields { pace, numbers, .. }, mut clock) = (self.judge_fields(options.counted), PLAIN);
-        done(c::ldvbi_find_clock(system, counted, pace, both, &numbers, &mut clock));
-        Clock::of(&clock)
+        let Fields { rule, numbers, .. } = self.judge_fields(options, side::Clock::Plain);
+        Clock::of(whole_side::find_clock(&numbers.numbers, rule))
     }
 
     /// Reads the side, and judges its fields.
-    fn judge_fields(&self, counted: Counted) -> Fields {
-        let judged = self.judged();
-        let readings = judged.readings();
-        let (system, counted) = (number_of(self.system()), counted as u32 + 1);
-        let (mut pace, mut ends) = (room(), rooms(readings.len()));
-        let (mut seen, mut numbers) = (rooms(readings.len()), rooms(readings.len()));
-        done(c::ldvbi_find_pace(system, counted, readings, &mut seen, &mut pace));
-        done(c::ldvbi_judge(system, counted, pace, readings, &mut seen, &mut numbers));
-        done(c::ldvbi_judge_ends(readings, &mut ends));
-        self.padding().iter().filter(|field| **field < readings.len()).for_each(|field| ends[*field] = side::PADDING);
-        Fields { pace, seen, numbers, ends }
+    fn judge_fields(&self, options: SideOptions, clock: side::Clock) -> Fields {
+        let (judged, system, counted) = (self.judged(), self.system(), options.counted);
+        let (numbers, mut ends) = (Numbers::of(system, counted, judged.readings()), ends_of(judged.readings()));
+        self.padding().iter().filter(|field| **field < self.len()).for_each(|field| ends[*field] = PADDING);
+        // Of film it isn't asked.
+        let is_both = || options.on_both.unwrap_or_else(|| is_on_both(&numbers.numbers));
+        let slack = u64::from(matches!(numbers.pace, Pace::Video) && is_both());
+        let rule = Rule { pace: numbers.pace, slack, numbering: Numbering { system, counted, clock } };
+        Fields { rule, numbers, ends }
     }
 
-    /// Reads and judges the side.
-    fn judge_side(&self, options: SideOptions, clock: &LdvbiClock) -> JudgedFields {
-        let fields = self.judge_fields(options.counted);
-        let Fields { pace, seen, numbers, ends } = &fields;
-        // Each gap ends at a field of its own, so there is room for all.
-        let (mut gaps, mut found): (Vec<side::Gap>, Finding) = (rooms(numbers.len()), room());
-        let ((system, counted, both), may_end) = (asked(self, options), u32::from(options.may_end));
-        done(c::ldvbi_judge_side_by_clock(
-            system, counted, *pace, both, may_end, clock, seen, numbers, ends, &mut gaps, &mut found,
-        ));
-        gaps.truncate(found.tally.gaps);
-        JudgedFields { fields, found, gaps }
+    /// Reads and judges the side. Answers what is found of it, and all its gaps.
+    fn judge_side(&self, options: SideOptions, clock: side::Clock) -> (Finding, Vec<whole_side::Gap>) {
+        gaps_of(&self.judge_fields(options, clock), options)
     }
 
     /// The numbers of the fields, without those that are set aside.
-    fn set_aside(&self, options: SideOptions, clock: &LdvbiClock) -> Vec<Number> {
-        let JudgedFields { fields: Fields { pace, numbers, .. }, gaps, .. } = self.judge_side(options, clock);
-        let (system, counted, both) = asked(self, options);
-        let (mut left, mut count) = (rooms(numbers.len()), room());
-        done(c::ldvbi_set_aside(system, counted, pace, both, clock, &gaps, &numbers, &mut left, &mut count));
+    fn set_aside(&self, options: SideOptions, clock: side::Clock) -> Vec<Number> {
+        let fields = self.judge_fields(options, clock);
+        let numbers = &fields.numbers.numbers;
+        let mut left = numbers.clone();
+        set_aside(&gaps_of(&fields, options).1, numbers, fields.rule, &mut left);
         left.iter().map(Number::of).collect()
     }
 }
 
-/// What is asked of a side, as the library's calls take it: its system, what is counted, and on which fields.
-fn asked(side: &Side, options: SideOptions) -> (u32, u32, u32) {
-    (number_of(side.system()), options.counted as u32 + 1, options.on_both.map_or(FIND_BOTH, u32::from))
+/// What is found of a side by its fields, and all its gaps.
+fn gaps_of(fields: &Fields, options: SideOptions) -> (Finding, Vec<whole_side::Gap>) {
+    let Fields { rule, numbers: Numbers { seen, numbers, .. }, ends } = fields;
+    // Each gap ends at a field of its own, so there is room for all.
+    let mut gaps = vec![whole_side::Gap::default(); numbers.len()];
+    let judged = whole_side::Side { rule: *rule, seen, numbers, ends };
+    let found = judge_whole(&judged, options.may_end, &mut gaps);
+    gaps.truncate(found.tally.gaps);
+    (found, gaps)
 }
-
-const PLAIN: LdvbiClock = LdvbiClock { kind: 0, period: 0, phase: 0 };
-const FIND_BOTH: u32 = 3;

@@ -1,7 +1,7 @@
 use Rattle.std.proofs.Common.{Bool, ap, subst, sym, ◌∙◌}
 use Rattle.std.specs.Prelude.{Result, IfOk}
 use Rattle.vbi_side.specs.declared.pace.Pace as paces
-use Rattle.vbi_c.specs.declared.judging.Judging.{Judging}
+use Rattle.vbi_seek.specs.declared.asked.Judging.{Judging}
 use Rattle.vbi_c.specs.declared.status.Refusal.{Refusal}
 use Rattle.vbi_c.specs.Judging.{AreJudged, with_pace, with_lengths, counted_of, asked_of}
 use Rattle.vbi_c.specs.Setups.{system_of}

@@ -1,5 +1,5 @@
 use Rattle.std.proofs.Common.{refl}
-use Rattle.vbi_side.specs.Both.{last_known, turns, odd_turns}
+use Rattle.vbi_whole.specs.NumbersOnBoth.{last_known, turns, odd_turns}
 use Rattle.vbi_c.proofs.laws.worked_sides.Goals as goal
 
 pub returns-clause-on_one : goal.returns-clause-on_one

@@ -1,7 +1,7 @@
 use Rattle.std.proofs.Common.{◌≡◌, ℕ, ◌/◌, length, subst, ap, IfOk}
 use Rattle.vbi_near.specs.Distances.{lines_of}
 use Rattle.vbi_near.specs.Nearest.{IsNearest}
-use Rattle.vbi_near.specs.Longer.{IsLonger}
+use Rattle.vbi_near.specs.LongerSignal.{IsLonger}
 use Rattle.vbi_words.specs.Geometry.{line_bytes}
 use Rattle.vbi_c.specs.Nearest.{IsNearestOf}
 use Rattle.vbi_c.proofs.nearest.ldvbi_nearest.Goals as goal

@@ -1,11 +1,11 @@
 use Rattle.std.proofs.Common.{ap}
-use Rattle.vbi_side.specs.declared.verdict.Finding.{Finding}
+use Rattle.vbi_whole.specs.declared.verdict.Finding.{Finding}
 use Rattle.vbi_c.proofs.CleanJudged.{clean_whole}
 use Rattle.vbi_c.proofs.whole_laws.clean_side_is_whole.Goals as goal
 
 pub returns : goal.returns
-returns c number judging readings seen numbers ends siding both may_end begin last side is =
-    let e = clean_whole number judging readings seen numbers ends siding both may_end begin last side is is.asked
+returns c number called begin last is =
+    let e = clean_whole number called begin last is is.asked
     in (
       ap (λ (f : Finding). f.verdict) e,
       ap (λ (f : Finding). f.reasons) e,

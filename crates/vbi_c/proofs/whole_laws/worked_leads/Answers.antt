@@ -5,20 +5,19 @@ use Rattle.vbi_words.specs.declared.system.System.{System}
 use Rattle.vbi_words.specs.Levels.{Slicing}
 use Rattle.vbi_side.specs.declared.clock.Clock.TheVariants.{Plain}
 use Rattle.vbi_side.specs.declared.sighting.Sightings.{Sightings}
-use Rattle.vbi_side.specs.CleanRuns.{IsReadTwice}
+use Rattle.vbi_whole.specs.CleanRuns.{IsReadTwice}
 use Rattle.vbi_side.specs.Sightings.{Shows}
 use Rattle.vbi_side.specs.Worked.{field_of, blank}
-use Rattle.vbi_side.proofs.ThreeInRow.{plain_steps, plain_in_row}
-use Rattle.vbi_side.proofs.WorkedPictures.{none_shown}
-use Rattle.vbi_c.specs.declared.judging.Asked.{Asked}
+use Rattle.vbi_whole.proofs.ThreeInRow.{plain_steps, plain_in_row}
+use Rattle.vbi_side.proofs.Worked.{none_shown}
+use Rattle.vbi_seek.specs.declared.asked.Asked.{Asked}
 use Rattle.vbi_field.specs.declared.word_row.WordRow.{WordRow}
 use Rattle.vbi_field.specs.Draws.{AreDrawable, no_words}
 use Rattle.vbi_side.specs.declared.lines.Counted.TheVariants.{Pictures}
 use Rattle.vbi_side.specs.Misread.{numbers_in}
-use Rattle.vbi_c.specs.Judging.{lines_of}
-use Rattle.vbi_c.specs.Recovering.{recovered_for_c}
-use Rattle.vbi_c.specs.DrawnSides.{picture_row, picture_rows, drawn_side, sought_on}
-use Rattle.vbi_c.specs.Seeking.{shown_at, shown_of}
+use Rattle.vbi_c.specs.DrawnSides.{picture_row, picture_rows, drawn_numbers}
+use Rattle.vbi_seek.specs.FieldLines.{lines_by}
+use Rattle.vbi_seek.specs.NumberSearch.{shown_at, shown_of}
 use Rattle.vbi_c.proofs.CleanLeading.{clean_leads}
 use Rattle.vbi_c.proofs.DrawnSides.{drawn_shown, drawn_as}
 use Rattle.vbi_c.proofs.whole_laws.worked_leads.Goals as goal
@@ -30,34 +29,33 @@ module _ (system : System) (levels : Slicing) (asked : Asked) (order : levels.bl
   -- ---- what the fields show
 
   drawn : (i : ℕ) (words : WordRow) → slice_get picture_rows i ≡ Some words → AreDrawable words
-      → shown_at (sought_on system levels asked) (drawn_side system levels) i ≡ numbers_in system Pictures
-      (lines_of (recovered_for_c (drawn_as words.first) ∷ recovered_for_c (drawn_as words.second)
-      ∷ recovered_for_c (drawn_as words.third) ∷ []))
+      → shown_at (drawn_numbers system levels asked) i ≡ numbers_in system Pictures
+      (lines_by (drawn_as words.first ∷ drawn_as words.second ∷ drawn_as words.third ∷ []))
   drawn i words at are =
-      drawn_shown (sought_on system levels asked) (drawn_side system levels) picture_rows i words order refl at are
+      drawn_shown (drawn_numbers system levels asked) picture_rows i words order refl at are
 
   none : AreDrawable no_words
   none = record { first = tt; second = tt; third = tt }
 
-  first : slice_get (shown_of (sought_on system levels asked) (drawn_side system levels) 5) 0
+  first : slice_get (shown_of (drawn_numbers system levels asked)) 0
       ≡ Some (field_of 1 2 1 2)
   unfolding code_of
   first = ap Some (drawn 0 (picture_row 0xF00001) refl (word 0xF00001 (omega arith) (omega arith)))
 
-  second : slice_get (shown_of (sought_on system levels asked) (drawn_side system levels) 5) 2
+  second : slice_get (shown_of (drawn_numbers system levels asked)) 2
       ≡ Some (field_of 2 2 2 2)
   unfolding code_of
   second = ap Some (drawn 2 (picture_row 0xF00002) refl (word 0xF00002 (omega arith) (omega arith)))
 
-  third : slice_get (shown_of (sought_on system levels asked) (drawn_side system levels) 5) 4
+  third : slice_get (shown_of (drawn_numbers system levels asked)) 4
       ≡ Some (field_of 3 2 3 2)
   unfolding code_of
   third = ap Some (drawn 4 (picture_row 0xF00003) refl (word 0xF00003 (omega arith) (omega arith)))
 
-  between : slice_get (shown_of (sought_on system levels asked) (drawn_side system levels) 5) 1 ≡ Some blank
+  between : slice_get (shown_of (drawn_numbers system levels asked)) 1 ≡ Some blank
   between = ap Some (drawn 1 no_words refl none)
 
-  later : slice_get (shown_of (sought_on system levels asked) (drawn_side system levels) 5) 3 ≡ Some blank
+  later : slice_get (shown_of (drawn_numbers system levels asked)) 3 ≡ Some blank
   later = ap Some (drawn 3 no_words refl none)
 
   -- ---- so they are a run
@@ -71,26 +69,26 @@ module _ (system : System) (levels : Slicing) (asked : Asked) (order : levels.bl
   dark fields i n at shown = none_shown n (subst (λ o. Shows o n) at shown)
 
   each : (p : ℕ) → p ≤ 2
-      → IsReadTwice (shown_of (sought_on system levels asked) (drawn_side system levels) 5) (0 + 2 * p) (1 + p)
-  each zero low = twice (shown_of (sought_on system levels asked) (drawn_side system levels) 5) 0 1 first
-  each (suc zero) low = twice (shown_of (sought_on system levels asked) (drawn_side system levels) 5) 2 2 second
-  each (suc (suc zero)) low = twice (shown_of (sought_on system levels asked) (drawn_side system levels) 5) 4 3 third
+      → IsReadTwice (shown_of (drawn_numbers system levels asked)) (0 + 2 * p) (1 + p)
+  each zero low = twice (shown_of (drawn_numbers system levels asked)) 0 1 first
+  each (suc zero) low = twice (shown_of (drawn_numbers system levels asked)) 2 2 second
+  each (suc (suc zero)) low = twice (shown_of (drawn_numbers system levels asked)) 4 3 third
   each (suc (suc (suc p))) low = absurd (omega (arith, low))
 
   others : (i n : ℕ)
-      → Shows (slice_get (shown_of (sought_on system levels asked) (drawn_side system levels) 5) i) n
+      → Shows (slice_get (shown_of (drawn_numbers system levels asked)) i) n
       → (p : ℕ) × (p ≤ 2) × (i ≡ 0 + 2 * p)
   others zero n shown = (0, omega arith, refl)
   others (suc zero) n shown =
-      absurd (dark (shown_of (sought_on system levels asked) (drawn_side system levels) 5) 1 n between shown)
+      absurd (dark (shown_of (drawn_numbers system levels asked)) 1 n between shown)
   others (suc (suc zero)) n shown = (1, omega arith, refl)
   others (suc (suc (suc zero))) n shown =
-      absurd (dark (shown_of (sought_on system levels asked) (drawn_side system levels) 5) 3 n later shown)
+      absurd (dark (shown_of (drawn_numbers system levels asked)) 3 n later shown)
   others (suc (suc (suc (suc zero)))) n shown = (2, omega arith, refl)
   others (suc (suc (suc (suc (suc k))))) n shown = absurd shown
 
 pub returns : goal.returns
 returns c system levels asked order =
-    clean_leads (sought_on system levels asked) (drawn_side system levels) 5 Plain (λ p. 1 + p) 0 2
+    clean_leads (drawn_numbers system levels asked) Plain (λ p. 1 + p) 0 2
     (each system levels asked order) (others system levels asked order) (plain_in_row 1 2 (omega arith))
     (λ p low. plain_steps 1 p) 1 (omega arith) (omega arith)

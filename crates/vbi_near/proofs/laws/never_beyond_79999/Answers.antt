@@ -1,7 +1,7 @@
 use Rattle.std.specs.Prelude.{Some, length}
 use Rattle.vbi_near.specs.Distances.{unit_of}
-use Rattle.vbi_near.specs.Levelled.{levelled_unit}
-use Rattle.vbi_near.specs.Piled.{pile_margins}
+use Rattle.vbi_near.specs.LevelledLines.{levelled_unit}
+use Rattle.vbi_near.specs.PileRule.{pile_margins}
 use Rattle.vbi_near.proofs.NeverBeyond.{field-within, two-within}
 use Rattle.vbi_near.proofs.laws.never_beyond_79999.Goals as goal
 

@@ -1,5 +1,5 @@
 use Rattle.std.proofs.Common.{refl}
-use Rattle.vbi_near.specs.Levelled.{levelled_sample, smoothed, smoothed_after}
+use Rattle.vbi_near.specs.LevelledLines.{levelled_sample, smoothed, smoothed_after}
 use Rattle.vbi_near.proofs.levelled_laws.worked_samples.Goals as goal
 
 pub returns : goal.returns

@@ -1,5 +1,5 @@
 use Rattle.std.proofs.Common.{refl}
-use Rattle.vbi_near.specs.Levelled.{swing_of, levelled_sample, levelled_each, smoothed, smoothed_after}
+use Rattle.vbi_near.specs.LevelledLines.{swing_of, levelled_sample, levelled_each, smoothed, smoothed_after}
 use Rattle.vbi_near.proofs.levelled_laws.worked_waves.Goals as goal
 
 pub returns : goal.returns

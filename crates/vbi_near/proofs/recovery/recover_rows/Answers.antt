@@ -3,9 +3,9 @@ use Rattle.vbi_words.specs.declared.system.System.{System}
 use Rattle.vbi_words.specs.Levels.{Slicing}
 use Rattle.vbi_near.specs.declared.recovery.Recovered.{Recovered}
 use Rattle.vbi_near.specs.Distances.{unit_of}
-use Rattle.vbi_near.specs.Candidates.{Row, AreOfBoth}
+use Rattle.vbi_near.specs.Candidates.{Line, line_of, AreOfBoth}
 use Rattle.vbi_near.specs.Lines.{row_in}
-use Rattle.vbi_near.specs.Recovery.{row_at, row_reading, alone, stands_of, IsSeen, IsRecovered, IsKept}
+use Rattle.vbi_near.specs.Recovery.{field_line, row_reading, alone, stands_of, shown_in, IsSeen, IsRecovered, IsKept}
 use Rattle.vbi_near.proofs.SomeSeen.{some_seen, some_of_both}
 use Rattle.vbi_near.proofs.Kept.{sure-shown}
 use Rattle.vbi_near.proofs.recovery.recover_rows.Goals as goal
@@ -29,20 +29,20 @@ pub returns : goal.returns
 returns c =
     let system = c.args.system in
     let levels = c.args.levels in
-    let row : ℕ → Row = row_at system c.args.rows.now c.args.erased.now in
-    let first = some_seen system 16 levels (row 0) in
-    let second = some_seen system 17 levels (row 1) in
-    let third = some_seen system 18 levels (row 2) in
-    let both = some_of_both system 17 levels (row 1) (row 2) in
+    let line : ℕ → Line = field_line system levels c.args.rows.now c.args.erased.now in
+    let first = some_seen (line 0) in
+    let second = some_seen (line 1) in
+    let third = some_seen (line 2) in
+    let both = some_of_both (line 1) (line 2).row in
     let shows = c.shown_first-first.ensures first.0 both.0
-    (subst (λ (s : System). IsSeen s 16 levels (row_in c.row.result) first.0) (sym c.row.ensures.system)
-    (subst (λ (r : Row). IsSeen system 16 levels r first.0) (sym c.row.ensures.row) first.1)) in
+    (subst (λ (l : Line). IsSeen l first.0) (sym c.line.ensures) first.1)
+    ∙ ap (λ (l : Line). shown_in alone (unit_of l.slicing) first.0 both.0) c.line.ensures in
     let others = c.shown_pair-others.ensures second.0 third.0 both.0
-    (subst (λ (r : Row). IsSeen system 17 levels r second.0) (sym c.row-second.ensures.row) second.1)
-    (subst (λ (r : Row). IsSeen system 18 levels r third.0) (sym c.row-third.ensures.row) third.1)
-    (λ opened. subst (λ (r : Row). AreOfBoth system 17 levels r (row_in c.row-third.result) both.0)
-    (sym c.row-second.ensures.row)
-    (subst (λ (r : Row). AreOfBoth system 17 levels (row 1) r both.0) (sym c.row-third.ensures.row) both.1)) in
+    (subst (λ (l : Line). IsSeen (line_of system 17 levels l.row) second.0) (sym c.line-second.ensures) second.1)
+    (subst (λ (l : Line). IsSeen (line_of system 18 levels l.row) third.0) (sym c.line-third.ensures) third.1)
+    (λ opened. subst (λ (l : Line). AreOfBoth (line_of system 17 levels l.row) (row_in c.line-third.result) both.0)
+    (sym c.line-second.ensures)
+    (subst (λ (l : Line). AreOfBoth (line 1) l.row both.0) (sym c.line-third.ensures) both.1)) in
     let is : IsRecovered system levels c.args.rows.now c.args.erased.now _ = (
       first.0,
       second.0,

@@ -2,18 +2,19 @@ use Rattle.std.proofs.Common.{◌≡◌, ℕ, true, refl, ap, ◌∙◌, rules}
 use Rattle.std.specs.Prelude.{Option, Some, is_some}
 use Rattle.vbi_near.specs.Distances.{unit_of}
 use Rattle.vbi_near.specs.Margins.{given_margins}
-use Rattle.vbi_near.specs.Said.{said_in, stand_of, first_said}
+use Rattle.vbi_near.specs.Recovery.{levelled_of, given_of}
+use Rattle.vbi_near.specs.WordRule.{said_in, stand_of, first_said}
 use Rattle.vbi_near.proofs.Asked.{first-says}
 use Rattle.vbi_near.proofs.recovery.said_by_both.Goals as goal
 
 pub returns-then-is_some-2 : goal.returns-then-is_some-2
 returns-then-is_some-2 c near other both is are pair =
-    let unit = unit_of c.args.levels in
+    let unit = unit_of c.args.pair.now.levels in
     let some : is_some c.levelled_said-said.result.0 ≡ true = search rules in
     let some_other : is_some c.levelled_said-said.result.1 ≡ true = search rules in
-    let says = c.levelled_said-said.ensures near.levelled other.levelled both.levelled is.levelled are.levelled
-    pair.levelled in
-    let stand = stand_of given_margins unit (Some near.given) (Some other.given) (Some both.given) in
+    let says = c.levelled_said-said.ensures (levelled_of near other both)
+    (record { line_17 = is.levelled; line_18 = are.levelled; pair = pair.levelled }) in
+    let stand = stand_of given_margins unit (given_of near other both) in
     let given : Option ℕ = said_in given_margins stand unit (Some near.given) (Some both.given) in
     let other_given : Option ℕ = said_in given_margins stand unit (Some other.given) (Some both.given) in (
       first-says c.levelled_said-said.result.0 given some ∙ ap (λ (s : Option ℕ). first_said s given) says.0,
@@ -23,9 +24,9 @@ returns-then-is_some-2 c near other both is are pair =
 
 pub returns : goal.returns
 returns c near other both is are pair =
-    let says = c.levelled_said-said.ensures near.levelled other.levelled both.levelled is.levelled are.levelled
-    pair.levelled in
-    let given = c.pair_said-given.ensures (Some near.given) (Some other.given) (Some both.given)
+    let says = c.levelled_said-said.ensures (levelled_of near other both)
+    (record { line_17 = is.levelled; line_18 = are.levelled; pair = pair.levelled }) in
+    let given = c.pair_said-given.ensures (given_of near other both)
     (record { line_17 = (refl, is.given); line_18 = (refl, are.given); pair = (refl, pair.given) }) in (
       c.first_said.ensures ∙ (λ j. first_said (says.0 j) (given.0 j)),
       c.first_said-2.ensures ∙ (λ j. first_said (says.1 j) (given.1 j)),

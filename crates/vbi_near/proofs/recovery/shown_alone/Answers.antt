@@ -1,15 +1,15 @@
 use Rattle.std.proofs.Common.{◌∙◌, rules}
 use Rattle.std.specs.Prelude.{IsTrue}
 use Rattle.vbi_near.specs.Recovery.{is_open, alone}
-use Rattle.vbi_near.specs.Lines.{row_in}
+use Rattle.vbi_near.specs.Lines.{line_in}
 use Rattle.vbi_near.proofs.Asked.{open-near, open-shows}
 use Rattle.vbi_near.proofs.recovery.shown_alone.Goals as goal
 
 pub returns-then-is_open : goal.returns-then-is_open
 returns-then-is_open c seen both is =
-    let row = row_in c.args.row.now in
+    let line = line_in c.args.line.now in
     let opened : IsTrue (is_open c.args.own.outcome) = search rules in
-    let near = open-near c.args.row.now.system c.args.number c.args.levels row c.args.own c.requires seen is opened in
+    let near = open-near line c.args.own c.requires seen is opened in
     c.recovered_as.ensures
-    ∙ open-shows c.args.row.now.system c.args.number c.args.levels row c.args.own c.requires alone seen both
-    c.recovered_alone.result is opened (c.recovered_alone.ensures seen.near near)
+    ∙ open-shows line c.args.own c.requires alone seen both c.recovered_alone.result is opened
+    (c.recovered_alone.ensures seen.near near)

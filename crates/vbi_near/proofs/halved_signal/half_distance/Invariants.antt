@@ -1,0 +1,15 @@
+use Rattle.std.proofs.Common.{◌≡◌, ◌+◌, ◌*◌, ◌<◌, take}
+use Rattle.vbi_near.specs.Pictures.{column_of}
+use Rattle.vbi_near.specs.Costs.{half_cost}
+use Rattle.vbi_near.specs.StretchedCells.{halves_cost}
+use Rattle.vbi_near.specs.HalvedSignal.{half_of}
+use Rattle.vbi_near.specs.Rows.{shades_of, around_cost}
+use Rattle.vbi_near.proofs.halved_signal.half_distance.Given as goal
+
+abbrev pub invariant-loop-half : goal.invariant-loop-half
+invariant-loop-half l = record {
+  value : l.sum
+      ≡ around_cost (shades_of l.sums) l.sums.system l.start
+      + halves_cost (half_cost (shades_of l.sums) l.sums.system l.start) 0 (take l.half (half_of l.is_late l.word));
+  few : l.sum + 1834980 * l.start < 536870912 + 1834980 * column_of l.sums.system l.start l.half;
+}

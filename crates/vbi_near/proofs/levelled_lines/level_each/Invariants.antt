@@ -1,0 +1,12 @@
+use Rattle.std.proofs.Common.{◌≡◌, length}
+use Rattle.vbi_words.specs.Geometry.{width_of}
+use Rattle.vbi_words.specs.Levels.{samples_of}
+use Rattle.vbi_near.specs.LevelledLines.{levelled_at}
+use Rattle.vbi_near.proofs.Levelling.{AreTo}
+use Rattle.vbi_near.proofs.levelled_lines.level_each.Given as goal
+
+abbrev pub invariant-loop-column : goal.invariant-loop-column
+invariant-loop-column l = record {
+  long : length l.samples ≡ width_of l.line.system;
+  levelled : AreTo (levelled_at l.line.system l.scale (samples_of l.line.row.now)) l.samples l.column;
+}

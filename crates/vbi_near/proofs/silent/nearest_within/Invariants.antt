@@ -1,5 +1,0 @@
-use Rattle.vbi_near.specs.Silent.{IsLeadWithin}
-use Rattle.vbi_near.proofs.silent.nearest_within.Given as goal
-
-abbrev pub invariant-loop-start : goal.invariant-loop-start
-invariant-loop-start l = IsLeadWithin l.fn.sought.sums l.line l.limit l.start l.best

@@ -1,4 +1,0 @@
-use Rattle.vbi_near.proofs.silent.nears_if.Goals as goal
-
-pub returns-else-is_silent : goal.returns-else-is_silent
-returns-else-is_silent c slicing lines costs unit row = c.nears.ensures slicing lines costs row

@@ -1,7 +1,0 @@
-use Rattle.vbi_near.specs.Rows.{shades_of}
-use Rattle.vbi_near.specs.Stretched.{stretched_row_cost, IsLeastAt, IsRateBefore}
-use Rattle.vbi_near.proofs.stretched.stretched_distance.Given as goal
-
-abbrev pub invariant-loop-rate : goal.invariant-loop-rate
-invariant-loop-rate l =
-    IsLeastAt (IsRateBefore l.sums.system l.rate) (stretched_row_cost (shades_of l.sums) l.sums.system l.word) l.least

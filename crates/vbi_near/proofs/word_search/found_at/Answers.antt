@@ -1,0 +1,8 @@
+use Rattle.vbi_near.specs.Rows.{shades_of}
+use Rattle.vbi_near.proofs.BestBits.{found_at_is}
+use Rattle.vbi_near.proofs.word_search.found_at.Goals as goal
+
+pub returns-clause-found : goal.returns-clause-found
+returns-clause-found c =
+    found_at_is (shades_of c.args.sums.now) c.args.sums.now.system c.args.start c.args.best c.requires.best
+    c.around.result c.around.ensures.value

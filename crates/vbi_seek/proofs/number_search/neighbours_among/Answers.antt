@@ -1,0 +1,13 @@
+use Rattle.vbi_seek.proofs.Beside.{before_among, after_among}
+use Rattle.vbi_seek.proofs.number_search.neighbours_among.Goals as goal
+
+pub returns-clause-before : goal.returns-clause-before
+returns-clause-before c = λ pace judged.
+    before_among c.args.search.now c.args.around.now pace c.args.numbers.now c.last_lower-before.result
+    c.neighbour_at.result judged c.last_lower-before.ensures c.neighbour_at.ensures.none c.neighbour_at.ensures.some
+
+pub returns-clause-after : goal.returns-clause-after
+returns-clause-after c = λ pace judged.
+    after_among c.args.search.now c.args.around.now pace c.args.numbers.now c.first_higher-after.result
+    c.neighbour_at-2.result judged c.first_higher-after.ensures c.neighbour_at-2.ensures.none
+    c.neighbour_at-2.ensures.some

@@ -1,0 +1,12 @@
+pub mod Asked
+pub mod FieldLines
+pub mod NumberSearch
+pub mod Searches
+pub mod NumberSpots
+pub mod Spots
+pub mod NumberLeads
+pub mod Neighbours
+pub mod StopSearch
+pub mod ChapterSearch
+pub mod ChapterLeads
+pub mod Worked

@@ -1,5 +1,0 @@
-use Rattle.vbi_side.proofs.SetAside.{all_aside}
-use Rattle.vbi_side.proofs.aside_laws.aside_all.Goals as goal
-
-pub returns : goal.returns
-returns c = all_aside

@@ -1,5 +1,0 @@
-use Rattle.vbi_side.proofs.ChapterTruth.{sound}
-use Rattle.vbi_side.proofs.chapter_laws.chapters_sound.Goals as goal
-
-pub returns : goal.returns
-returns c = sound

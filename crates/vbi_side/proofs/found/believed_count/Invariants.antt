@@ -1,9 +1,0 @@
-use Rattle.std.proofs.Common.{◌≤◌}
-use Rattle.vbi_side.specs.Found.{IsCount}
-use Rattle.vbi_side.proofs.found.believed_count.Given as goal
-
-abbrev pub invariant-loop-field : goal.invariant-loop-field
-invariant-loop-field l = record {
-  counted : IsCount l.pace l.fields l.field l.count;
-  bound : l.count ≤ l.field;
-}

@@ -1,5 +1,0 @@
-use Rattle.vbi_side.proofs.GapLaws.{all_count}
-use Rattle.vbi_side.proofs.gap_laws.all_count.Goals as goal
-
-pub returns : goal.returns
-returns c = all_count

@@ -1,5 +1,0 @@
-use Rattle.vbi_side.proofs.WholeSides.{none_known}
-use Rattle.vbi_side.proofs.gap_laws.none_known.Goals as goal
-
-pub returns : goal.returns
-returns c = none_known

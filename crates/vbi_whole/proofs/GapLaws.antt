@@ -1,0 +1,287 @@
+-- What the gaps of a capture say of it.
+use Rattle.vbi_side.proofs.Truth.{near_same}
+use Rattle.std.proofs.Common.{◌-◌, ◌≡◌, ◌≢◌, ℕ, zero, suc, ◌+◌, ◌*◌, ◌<◌, ◌≤◌, Bool, true, false, List, [], ◌∷◌, ◌++◌}
+use Rattle.std.proofs.Common.{arith, ap, sym, ◌∙◌, subst, inl, inr, length, refl}
+use Rattle.std.specs.Prelude.{Option, Some, None, ◌⊎◌, nat_le, nat_lt, if◌then◌else◌, ◌&&◌, not, ◌==◌}
+use Rattle.std.proofs.lemmas.Bool.Decides.{leb_tells, eqb_tells}
+use Rattle.std.proofs.lemmas.List.{length_push}
+use Rattle.std.proofs.Math.Dec.{eqb}
+use Rattle.vbi_side.specs.declared.number.Number.{Number}
+use Rattle.vbi_whole.specs.declared.gap.Gap.{Gap}
+use Rattle.vbi_side.specs.declared.pace.Pace.{Pace}
+use Rattle.vbi_side.specs.declared.pace.Pace.TheVariants.{Video, Film}
+use Rattle.vbi_side.specs.Paces.{nearly, fits, stays}
+use Rattle.vbi_side.specs.Clocks.{kept, DiscCountsBy}
+use Rattle.vbi_side.specs.Numbers.{believed, IsMarked}
+use Rattle.vbi_side.specs.Side.{captured, AreLost}
+use Rattle.vbi_side.specs.declared.sighting.Sightings.{Sightings}
+use Rattle.vbi_whole.specs.declared.gap.Numbering.{Numbering}
+use Rattle.vbi_whole.specs.Gaps.{lost, held, back, still, joined, open_gap, has_stills, is_open, lacking_by, gap_as}
+use Rattle.vbi_whole.specs.Gaps.{kind_of}
+use Rattle.vbi_whole.specs.Gaps.{fields_of, ended_between, shown_between, AreNeighbours, IsGap, AreGaps}
+use Rattle.vbi_whole.specs.Gaps.{CountTo, HasRightEnds, LostAtLeast, HeldAtLeast, lacking}
+use Rattle.std.proofs.lemmas.Bool.{and_parts}
+use Rattle.vbi_side.proofs.Truth.{video_fits, film_fits}
+use Rattle.vbi_whole.proofs.Telling.{gap_is, some_is}
+use Rattle.vbi_side.specs.Paces.{spot}
+use Rattle.vbi_side.specs.Clocks.{by_clock}
+use Rattle.vbi_whole.specs.Gaps.{Judged, amid_of, from_of, to_of, goes_on, of_video}
+use Rattle.vbi_whole.specs.declared.gap.Rule.{Rule}
+use Rattle.vbi_side.specs.declared.place.Place.{Place}
+
+-- ---- one gap
+
+-- it is what lies between its ends
+is_made : (judged : Judged) (gap : Gap) → IsGap judged gap
+    → gap ≡ gap_as judged.rule (kind_of judged.rule (ended_between judged.ends gap.after gap.before) (from_of gap)
+    (to_of gap)) (shown_between judged.seen (from_of gap) (to_of gap)) (from_of gap) (to_of gap)
+is_made judged gap is =
+    gap_is judged.rule (amid_of judged (from_of gap) (to_of gap)) (from_of gap) (to_of gap) gap is.found
+
+-- the fields of a gap of this kind between its ends
+abbrev fields_as : Judged → Gap → ℕ → ℕ
+fields_as judged gap kind =
+    fields_of judged.rule kind (by_clock judged.rule.numbering.clock (from_of gap))
+    (by_clock judged.rule.numbering.clock (to_of gap))
+
+-- its fields are those of its kind
+gap_fields : (judged : Judged) (gap : Gap) → IsGap judged gap → gap.fields ≡ fields_as judged gap gap.kind
+gap_fields judged gap is =
+    let e = is_made judged gap is in
+    ap (λ (g : Gap). g.fields) e ∙ ap (fields_as judged gap) (sym (ap (λ (g : Gap). g.kind) e))
+
+-- between numbers that are told to lack fields some are too few, and none is where too many are told
+kind_tells : (rule : Rule) (ended : Bool) (a b : Place)
+    → (kind_of rule ended a b ≡ lost → 0 < lacking_by rule.numbering.clock rule.pace a b)
+    × (kind_of rule ended a b ≡ held → lacking_by rule.numbering.clock rule.pace a b ≡ 0)
+kind_tells rule ended x y =
+    go (has_stills rule.numbering && stays x.field x.number y.field y.number) (ended && not (y.number == x.number))
+    (nat_lt y.number x.number) (is_open rule.pace rule.numbering x y) (leb_tells 1 few)
+  where
+    few : ℕ
+    few = lacking_by rule.numbering.clock rule.pace x y
+
+    -- what is told, by the tests before
+    told : Bool → Bool → Bool → Bool → ℕ
+    told a b c d = if a then still else (if b then joined else (if c then back else (if d then open_gap
+        else (if nat_le 1 few then lost else held))))
+
+    go : (a b c d : Bool) → ((nat_le 1 few ≡ true) × (1 ≤ few)) ⊎ ((nat_le 1 few ≡ false) × (few < 1))
+        → (told a b c d ≡ lost → 0 < few) × (told a b c d ≡ held → few ≡ 0)
+    go true b c d l = (λ e. absurd (omega (arith, e)), λ e. absurd (omega (arith, e)))
+    go false true c d l = (λ e. absurd (omega (arith, e)), λ e. absurd (omega (arith, e)))
+    go false false true d l = (λ e. absurd (omega (arith, e)), λ e. absurd (omega (arith, e)))
+    go false false false true l = (λ e. absurd (omega (arith, e)), λ e. absurd (omega (arith, e)))
+    go false false false false (inl (t, le)) =
+        (λ e. le, λ e. let h : lost ≡ held = rw t at e in absurd (omega (arith, h)))
+    go false false false false (inr (f, lt)) =
+        (λ e. let h : held ≡ lost = rw f at e in absurd (omega (arith, h)), λ e. omega (arith, lt))
+
+-- of a gap with lost fields so many are too few between its numbers, and some are
+lost_lacks : (judged : Judged) (gap : Gap) → IsGap judged gap → gap.kind ≡ lost
+    → (gap.fields ≡ lacking_by judged.rule.numbering.clock judged.rule.pace (from_of gap) (to_of gap)
+    - judged.rule.slack) × (0 < lacking_by judged.rule.numbering.clock judged.rule.pace (from_of gap) (to_of gap))
+lost_lacks judged gap is kind = (
+  gap_fields judged gap is ∙ ap (fields_as judged gap) kind,
+  (kind_tells judged.rule (ended_between judged.ends gap.after gap.before) (from_of gap) (to_of gap)).0
+      (sym (ap (λ (g : Gap). g.kind) (is_made judged gap is)) ∙ kind),
+)
+
+-- of video just so many are lost
+pub gap_exact : (disc : ℕ → Option ℕ) (place : ℕ → ℕ) (numbering : Numbering) (seen : List Sightings)
+    (answers : List Number)
+    (ends : List ℕ) (gap : Gap)
+    → DiscCountsBy numbering.clock Video disc → IsGap (of_video numbering seen answers ends) gap
+    → gap.kind ≡ lost
+    → HasRightEnds (captured disc place) gap → AreLost place gap.after gap.before gap.fields
+gap_exact disc place numbering seen answers ends gap runs is kind (first, last) =
+    let p = lost_lacks (of_video numbering seen answers ends) gap is kind in
+    let on = video_fits (place gap.after) (kept numbering.clock gap.from) (place gap.before)
+    (kept numbering.clock gap.to)
+    (runs (place gap.after) (place gap.before) gap.from gap.to first last) in
+    let order : gap.after < gap.before = is.neighbours.order in
+    omega (arith, p.0, p.1, on, order)
+
+-- so many at least are lost between two places, at either pace
+least_by : (pace : Pace) (slack lost : ℕ) (place : ℕ → ℕ) (i m j n : ℕ) → i < j
+    → (lost ≡ lacking pace (spot i m) (spot j n) - slack) × (0 < lacking pace (spot i m) (spot j n))
+    → fits pace (place i) m (place j) n ≡ true → LostAtLeast place i j lost
+least_by Video slack lost place i m j n order (is, some) runs =
+    omega (arith, is, some, video_fits (place i) m (place j) n runs, order)
+least_by Film slack lost place i m j n order (is, some) runs =
+    let on = film_fits (place i) m (place j) n runs in omega (arith, is, some, on.0, on.1, order)
+
+pub gap_least : (judged : Judged) (disc : ℕ → Option ℕ) (place : ℕ → ℕ) (gap : Gap)
+    → DiscCountsBy judged.rule.numbering.clock judged.rule.pace disc → IsGap judged gap → gap.kind ≡ lost
+    → HasRightEnds (captured disc place) gap → LostAtLeast place gap.after gap.before gap.fields
+gap_least judged disc place gap runs is kind (first, last) =
+    least_by judged.rule.pace judged.rule.slack gap.fields place gap.after
+    (kept judged.rule.numbering.clock gap.from) gap.before (kept judged.rule.numbering.clock gap.to)
+    is.neighbours.order (lost_lacks judged gap is kind)
+    (runs (place gap.after) (place gap.before) gap.from gap.to first last)
+
+-- numbers that go on leave no gap
+pub none_found : (b : Bool) (one gap : Gap) → b ≡ true → (if b then None else Some one) ≡ Some gap → ⊥
+none_found true one gap e found = absurd cc
+none_found false one gap e found = absurd (let h : false ≡ true = e in cc)
+
+-- the numbers of a gap don't go on
+pub not_on : (judged : Judged) (gap : Gap) → IsGap judged gap → goes_on judged.rule (from_of gap) (to_of gap) ≡ true → ⊥
+not_on judged gap is near =
+    none_found (goes_on judged.rule (from_of gap) (to_of gap))
+    (gap_as judged.rule (kind_of judged.rule (ended_between judged.ends gap.after gap.before) (from_of gap) (to_of gap))
+    (shown_between judged.seen (from_of gap) (to_of gap)) (from_of gap) (to_of gap)) gap near is.found
+
+-- of a gap with too many fields so many are too many between its numbers, and none is too few
+held_holds : (judged : Judged) (gap : Gap) → IsGap judged gap → gap.kind ≡ held
+    → (gap.fields ≡ lacking_by judged.rule.numbering.clock judged.rule.pace (to_of gap) (from_of gap)
+    - judged.rule.slack) × (lacking_by judged.rule.numbering.clock judged.rule.pace (from_of gap) (to_of gap) ≡ 0)
+held_holds judged gap is kind = (
+  gap_fields judged gap is ∙ ap (fields_as judged gap) kind,
+  (kind_tells judged.rule (ended_between judged.ends gap.after gap.before) (from_of gap) (to_of gap)).1
+      (sym (ap (λ (g : Gap). g.kind) (is_made judged gap is)) ∙ kind),
+)
+
+-- numbers of film that don't fit and don't lack a field have one too many
+film_apart : (i m k n : ℕ) → (fits Film i m k n ≡ true → ⊥) → lacking Film (spot i m) (spot k n) ≡ 0
+    → 2 * i + 5 * n + 2 < 2 * k + 5 * m
+film_apart i m k n apart none =
+    elim (leb_tells (2 * k + 5 * m) (2 * i + 5 * n + 2)) [
+      | inr (f, more) ↦ more
+      | inl (t, le) ↦ elim (leb_tells (2 * i + 5 * n) (2 * k + 5 * m + 2)) [
+        | inl (u, few) ↦ absurd (apart (rw (t, u) refl))
+        | inr (u, less) ↦ absurd (omega (arith, none, less))
+      ]
+    ]
+
+-- so many at least are there in place of the disc's
+more_by : (pace : Pace) (slack held : ℕ) (place : ℕ → ℕ) (i m j n : ℕ) → i < j
+    → (nearly pace slack (spot i m) (spot j n) ≡ true → ⊥)
+    → (held ≡ lacking pace (spot j n) (spot i m) - slack) × (lacking pace (spot i m) (spot j n) ≡ 0)
+    → fits pace (place i) m (place j) n ≡ true → HeldAtLeast place i j held
+more_by Video slack held place i m j n order apart (is, none) runs =
+    omega (arith, is, none, video_fits (place i) m (place j) n runs, order)
+more_by Film slack held place i m j n order apart (is, none) runs =
+    let on = film_fits (place i) m (place j) n runs in
+    omega (arith, is, film_apart i m j n apart none, on.0, on.1, order)
+
+pub gap_more : (judged : Judged) (disc : ℕ → Option ℕ) (place : ℕ → ℕ) (gap : Gap)
+    → DiscCountsBy judged.rule.numbering.clock judged.rule.pace disc → IsGap judged gap → gap.kind ≡ held
+    → HasRightEnds (captured disc place) gap → HeldAtLeast place gap.after gap.before gap.fields
+gap_more judged disc place gap runs is kind (first, last) =
+    more_by judged.rule.pace judged.rule.slack gap.fields place gap.after
+    (kept judged.rule.numbering.clock gap.from) gap.before (kept judged.rule.numbering.clock gap.to)
+    is.neighbours.order (not_on judged gap is) (held_holds judged gap is kind)
+    (runs (place gap.after) (place gap.before) gap.from gap.to first last)
+
+-- ---- neighbours
+
+number_is : (m n : ℕ) → believed m ≡ believed n → m ≡ n
+number_is m n e = ap (λ (x : Number). x.number) e
+
+pub same_number : (answers : List Number) (i m n : ℕ) → IsMarked answers i m → IsMarked answers i n → m ≡ n
+same_number answers i m n one other =
+    number_is m n (some_is (believed m) (believed n) (sym one ∙ other))
+
+-- the one before a field is one alone
+pub same_before : (answers : List Number) (i m k n h l o : ℕ) → AreNeighbours answers (spot i m) (spot k n)
+    → AreNeighbours answers (spot h l) (spot k o)
+    → i ≡ h
+same_before answers i m k n h l o one other = go (leb_tells i h) (leb_tells h i)
+  where
+    go : ((nat_le i h ≡ true) × (i ≤ h)) ⊎ ((nat_le i h ≡ false) × (h < i))
+        → ((nat_le h i ≡ true) × (h ≤ i)) ⊎ ((nat_le h i ≡ false) × (i < h)) → i ≡ h
+    go (inl (t, le)) (inl (u, more)) = omega (arith, le, more)
+    go (inr (f, lt)) _ = absurd (other.between i m lt one.order one.here)
+    go _ (inr (f, lt)) = absurd (one.between h l lt other.order other.here)
+
+-- ---- all numbers count to each other where there is no gap
+
+no_push : (xs : List Gap) (y : Gap) → [] ≡ xs ++ y ∷ [] → ⊥
+no_push xs y e = absurd (omega (arith, ap (λ (zs : List Gap). length zs) e, length_push xs y))
+
+pub on_video : (i m k n : ℕ) → nearly Video 0 (spot i m) (spot k n) ≡ true → k + 2 * m ≡ i + 2 * n
+on_video i m k n is =
+    let p = and_parts (nat_le (k + 2 * m) (i + 2 * n + 0)) (nat_le (i + 2 * n) (k + 2 * m + 0)) is in
+    let a = leb_tells (k + 2 * m) (i + 2 * n + 0) in
+    let b = leb_tells (i + 2 * n) (k + 2 * m + 0) in
+    elim a [
+      | inl (t, le) ↦ elim b [
+        | inl (u, more) ↦ omega (arith, le, more)
+        | inr (u, less) ↦ absurd (let h : true ≡ false = sym p.1 ∙ u in cc)
+      ]
+      | inr (t, lt) ↦ absurd (let h : true ≡ false = sym p.0 ∙ t in cc)
+    ]
+
+pub all_count : (numbering : Numbering) (seen : List Sightings) (answers : List Number) (ends : List ℕ) (k unread : ℕ)
+    → AreGaps (of_video numbering seen answers ends) k [] unread
+    → (i m j n : ℕ) → IsMarked answers i m → IsMarked answers j n → i ≤ j → j < k
+    → CountTo numbering.clock i m j n
+unfolding AreGaps
+all_count numbering seen answers ends zero unread all i m j n here there order inside = absurd (omega (arith, inside))
+all_count numbering seen answers ends (suc k) unread all i m j n here there order inside =
+    go (λ other fewer. all_count numbering seen answers ends k other fewer) all (eqb_tells j k) (eqb_tells i k)
+  where
+    go : ((other : ℕ) → AreGaps (of_video numbering seen answers ends) k [] other → (a b c d : ℕ)
+        → IsMarked answers a b
+        → IsMarked answers c d
+        → a ≤ c → c < k → CountTo numbering.clock a b c d)
+        → AreGaps (of_video numbering seen answers ends) (suc k) [] unread
+        → ((eqb j k ≡ true) × (j ≡ k)) ⊎ ((eqb j k ≡ false) × (j ≢ k))
+        → ((eqb i k ≡ true) × (i ≡ k)) ⊎ ((eqb i k ≡ false) × (i ≢ k)) → CountTo numbering.clock i m j n
+    go ih (inl (free, fewer)) (inr (f, differ)) _ =
+        ih unread fewer i m j n here there order (omega (arith, inside, differ))
+    go ih (inr (inl (h, l, o, other, on, fewer, e))) (inr (f, differ)) _ =
+        ih other fewer i m j n here there order (omega (arith, inside, differ))
+    go ih (inr (inr (one, others, is, last, fewer, e))) _ _ = absurd (no_push others one e)
+    go ih (inl (free, fewer)) (inl (t, same)) (inl (u, first)) =
+        let e : i ≡ j = omega (arith, same, first) in
+        omega (
+          arith,
+          e,
+          ap (kept numbering.clock) (same_number answers j m n (subst (λ x. IsMarked answers x m) e here) there),
+        )
+    go ih (inr (inl (h, l, o, other, on, fewer, e))) (inl (t, same)) (inl (u, first)) =
+        let e : i ≡ j = omega (arith, same, first) in
+        omega (
+          arith,
+          e,
+          ap (kept numbering.clock) (same_number answers j m n (subst (λ x. IsMarked answers x m) e here) there),
+        )
+    go ih (inl (inl never, fewer)) (inl (t, same)) (inr (u, differ)) =
+        absurd (never n (subst (λ x. IsMarked answers x n) same there))
+    go ih (inl (inr never, fewer)) (inl (t, same)) (inr (u, differ)) =
+        absurd (never i m (omega (arith, order, same, differ)) here)
+    go ih (inr (inl (h, l, o, other, on, fewer, e))) (inl (t, same)) (inr (u, differ)) =
+        let number = ap (kept numbering.clock)
+        (same_number answers k n o (subst (λ x. IsMarked answers x n) same there) on.neighbours.there) in
+        elim (leb_tells i h) [
+          | inl (v, le) ↦ omega (
+            arith,
+            same,
+            number,
+            on_video h (kept numbering.clock l) k (kept numbering.clock o) on.near,
+            ih other fewer i m h l here on.neighbours.here le on.neighbours.order,
+          )
+          | inr (v, lt) ↦ absurd (on.neighbours.between i m lt (omega (arith, order, same, differ)) here)
+        ]
+
+-- ---- a gap is a cut
+
+-- with right numbers at both ends, of a disc that counts on, the capture isn't one run of the disc there
+pub gap_is_cut : (disc : ℕ → Option ℕ) (place : ℕ → ℕ) (numbering : Numbering) (seen : List Sightings)
+    (answers : List Number)
+    (ends : List ℕ) (gap : Gap)
+    → DiscCountsBy numbering.clock Video disc → IsGap (of_video numbering seen answers ends) gap
+    → HasRightEnds (captured disc place) gap
+    → place gap.before ≢ place gap.after + (gap.before - gap.after)
+gap_is_cut disc place numbering seen answers ends gap runs is (first, last) same =
+    let on = video_fits (place gap.after) (kept numbering.clock gap.from) (place gap.before)
+    (kept numbering.clock gap.to)
+    (runs (place gap.after) (place gap.before) gap.from gap.to first last) in
+    let order : gap.after < gap.before = is.neighbours.order in
+    let from = kept numbering.clock gap.from in
+    let to = kept numbering.clock gap.to in
+    let counts : gap.before + 2 * from ≡ gap.after + 2 * to = omega (arith, on, order, same) in
+    not_on (of_video numbering seen answers ends) gap is
+    (near_same (gap.before + 2 * from) (gap.after + 2 * to) counts)

@@ -1,0 +1,83 @@
+-- How the pairs of neighbours are told, field by field.
+use Rattle.std.proofs.Common.{◌≡◌, ℕ, zero, suc, ◌+◌, ◌≤◌, ◌∙◌, List, length, refl, sym, ap, arith, subst, inl, inr}
+use Rattle.std.specs.Prelude.{◌⊎◌}
+use Rattle.vbi_side.specs.Numbers.{IsMarked}
+use Rattle.vbi_whole.proofs.GapLaws.{same_before, same_number}
+use Rattle.vbi_side.specs.declared.clock.Clock.{Clock}
+use Rattle.vbi_whole.specs.declared.clock_search.Pairs.{Pairs}
+use Rattle.vbi_side.specs.declared.number.Number.{Number}
+use Rattle.vbi_side.specs.Paces.{spot}
+use Rattle.vbi_whole.specs.declared.gap.Rule.{Rule}
+use Rattle.vbi_whole.specs.ClockSearch.{with_pair, ArePairs, AreEnough, ExplainsMost}
+use Rattle.vbi_whole.specs.Gaps.{AreNeighbours, IsFree}
+
+-- a field that ends no pair ends none
+taken : (answers : List Number) (i m k n : ℕ) → IsFree answers k → AreNeighbours answers (spot i m) (spot k n) → ⊥
+taken answers i m k n (inl never) pair = never n pair.there
+taken answers i m k n (inr never) pair = never i m pair.order pair.here
+
+pub none_yet : (clock : Clock) (rule : Rule) (answers : List Number)
+    → ArePairs clock rule answers 0 (record { explained = 0; opposed = 0 })
+unfolding ArePairs
+none_yet clock rule answers = refl
+
+pub no_pair : (clock : Clock) (rule : Rule) (answers : List Number) (k : ℕ) (pairs : Pairs)
+    → IsFree answers k → ArePairs clock rule answers k pairs → ArePairs clock rule answers (k + 1) pairs
+unfolding ArePairs
+no_pair clock rule answers k pairs free before =
+    let next : suc k ≡ k + 1 = omega arith in
+    subst (λ x. ArePairs clock rule answers x pairs) next (inl (free, before))
+
+pub one_pair : (clock : Clock) (rule : Rule) (answers : List Number) (i m k n : ℕ) (pairs : Pairs)
+    → AreNeighbours answers (spot i m) (spot k n) → ArePairs clock rule answers k pairs
+    → ArePairs clock rule answers (k + 1) (with_pair clock rule (spot i m) (spot k n) pairs)
+unfolding ArePairs
+one_pair clock rule answers i m k n pairs neighbours before =
+    let next : suc k ≡ k + 1 = omega arith in
+    subst (λ x. ArePairs clock rule answers x (with_pair clock rule (spot i m) (spot k n) pairs)) next
+    (inr (i, m, n, pairs, neighbours, before, refl))
+
+-- the pairs of a clock are told in one way
+pub one_count : (clock : Clock) (rule : Rule) (answers : List Number) (k : ℕ) (a b : Pairs)
+    → ArePairs clock rule answers k a → ArePairs clock rule answers k b → a ≡ b
+unfolding ArePairs
+one_count clock rule answers zero a b one other = one ∙ sym other
+one_count clock rule answers (suc k) a b (inl (free, one)) (inl (free_too, other)) =
+    one_count clock rule answers k a b one other
+one_count clock rule answers (suc k) a b (inl (free, one)) (inr (i, m, n, fewer, pair, other, e)) =
+    absurd (taken answers i m k n free pair)
+one_count clock rule answers (suc k) a b (inr (i, m, n, fewer, pair, one, e)) (inl (free, other)) =
+    absurd (taken answers i m k n free pair)
+one_count clock rule answers (suc k) a b (inr (i, m, n, fewer, pair, one, e))
+    (inr (h, l, o, less, pair_too, other, f)) =
+    let first : i ≡ h = same_before answers i m k n h l o pair pair_too in
+    let from : m ≡ l = same_number answers h m l (subst (λ x. IsMarked answers x m) first pair.here) pair_too.here in
+    let to : n ≡ o = same_number answers k n o pair.there pair_too.there in
+    let same : fewer ≡ less = one_count clock rule answers k fewer less one other in
+    e ∙ ap (λ x. with_pair clock rule (spot x m) (spot k n) fewer) first
+    ∙ ap (λ x. with_pair clock rule (spot h x) (spot k n) fewer) from
+    ∙ ap (λ x. with_pair clock rule (spot h l) (spot k x) fewer) to
+    ∙ ap (λ (x : Pairs). with_pair clock rule (spot h l) (spot k o) x) same ∙ sym f
+
+-- what is told of a clock that explains most is no less than what is told of another
+pub most_told : (clock other : Clock) (rule : Rule) (answers : List Number) (pairs others : Pairs)
+    (weight less : ℕ) → ExplainsMost clock rule answers
+    → ArePairs clock rule answers (length answers) pairs
+    → (AreEnough pairs × (weight ≡ pairs.explained)) ⊎ ((AreEnough pairs → ⊥) × (weight ≡ 0))
+    → ArePairs other rule answers (length answers) others
+    → (AreEnough others × (less ≡ others.explained)) ⊎ ((AreEnough others → ⊥) × (less ≡ 0))
+    → (3 ≤ weight) × (less ≤ weight)
+most_told clock other rule answers pairs others weight less (one, are, enough, most) here told there tells =
+    let same : one ≡ pairs = one_count clock rule answers (length answers) one pairs are here in
+    let much : AreEnough pairs = subst AreEnough same enough in
+    let explained : one.explained ≡ pairs.explained = ap (λ (x : Pairs). x.explained) same in
+    elim told [
+      | inl is ↦ (
+        omega (arith, is.1, much.0),
+        elim tells [
+          | inl more ↦ omega (arith, is.1, more.1, explained, most other others there more.0)
+          | inr none ↦ omega (arith, none.1)
+        ],
+      )
+      | inr is ↦ absurd (is.0 much)
+    ]

@@ -1,0 +1,12 @@
+pub mod Gaps
+pub mod Detours
+pub mod Told
+pub mod ClockSearch
+pub mod Verdicts
+pub mod AsideNumbers
+pub mod Swaps
+pub mod BlankFields
+pub mod NumbersOnBoth
+pub mod WorkedSides
+pub mod Drifts
+pub mod CleanRuns

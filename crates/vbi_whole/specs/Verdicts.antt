@@ -1,0 +1,155 @@
+-- Whether a capture of a side is whole: yes, no, or it can't be told, with the reasons.
+use Rattle.std.specs.Prelude.{◌≡◌, ℕ, ◌+◌, ◌*◌, ◌-◌, ◌/◌, ◌%◌, ◌==◌, nat_lt, nat_le, not, ◌&&◌, ◌||◌, ◌⊎◌, Bool}
+use Rattle.std.specs.Prelude.{if◌then◌else◌, List, [], length, count_by, drop}
+use Rattle.vbi_side.specs.declared.number.Number.{Number}
+use Rattle.vbi_whole.specs.declared.gap.Gap.{Gap}
+use Rattle.vbi_whole.specs.declared.tally.Tally.{Tally}
+use Rattle.vbi_whole.specs.declared.verdict.Finding.{Finding}
+use Rattle.vbi_whole.specs.declared.verdict.Found.{Found}
+use Rattle.vbi_side.specs.declared.pace.Pace.{Pace}
+use Rattle.vbi_side.specs.declared.pace.Pace.TheVariants.{Video, Film}
+use Rattle.vbi_side.specs.declared.place.Place.{Place}
+use Rattle.vbi_side.specs.Paces.{spot, nearly}
+use Rattle.vbi_side.specs.declared.clock.Clock.TheVariants.{Plain}
+use Rattle.vbi_side.specs.Numbers.{IsMarked}
+use Rattle.vbi_side.specs.Side.{AreEnds}
+use Rattle.vbi_side.specs.Clocks.{by_clock}
+use Rattle.vbi_whole.specs.Gaps.{since_end, Judged}
+use Rattle.vbi_whole.specs.Told.{IsTold, tally_of}
+use Rattle.vbi_side.specs.Ends.{lead_out, padding}
+use Rattle.vbi_whole.specs.BlankFields.{IsBlankTold}
+use Rattle.vbi_whole.specs.Swaps.{IsSwapTold}
+use Rattle.vbi_whole.specs.Drifts.{IsDriftTold}
+use Rattle.vbi_whole.specs.declared.gap.Rule.{Rule}
+
+-- the verdicts
+abbrev pub cannot_tell : ℕ
+cannot_tell = 0
+
+abbrev pub yes : ℕ
+yes = 1
+
+abbrev pub no : ℕ
+no = 2
+
+-- one of the first six is among these reasons, or one of 4096 and 8192: those that are seen on the capture
+abbrev pub is_seen : ℕ → Bool
+is_seen reasons = nat_lt 0 (reasons % 64) || nat_lt 0 ((reasons / 4096) % 4)
+
+-- the verdict that reasons leave: yes if there is none, no if one is seen on the capture, else it can't be told
+abbrev pub verdict_of : ℕ → ℕ
+verdict_of reasons = if reasons == 0 then yes else (if is_seen reasons then no else cannot_tell)
+
+-- a reason, if it holds
+abbrev pub reason : ℕ → Bool → ℕ
+reason bit holds = if holds then bit else 0
+
+-- this many fields are fewer than the numbers before number m take, if 1 is the first; of film by more than a field
+abbrev pub too_few : Pace → ℕ → ℕ → Bool
+too_few Video fields m = nat_lt fields (2 * (m - 1))
+too_few Film fields m = nat_lt (2 * fields + 2) (5 * (m - 1))
+
+-- fields are lost; too many are there; the numbers go back; another side begins; the capture begins late
+abbrev pub seen_reasons : Pace → List ℕ → Tally → Place → ℕ
+seen_reasons pace ends tally first =
+    reason 1 (nat_lt 0 tally.lost) + reason 2 (nat_lt 0 tally.held) + reason 4 (nat_lt 0 tally.back)
+    + reason 8 (nat_lt 0 tally.joined) + reason 16 (too_few pace (since_end ends first.field) first.number)
+
+-- no gap is open, and the first and the last number don't count to each other, less the fields for which the player
+-- stood still, and those that detours insert
+abbrev pub is_off : Rule → Tally → Place → Place → Bool
+is_off rule tally first last =
+    (tally.open_gaps == 0) && not (nearly rule.pace rule.slack
+    (spot (first.field + tally.stood + tally.inserted) first.number) last)
+
+-- the first number isn't the disc's first, and over a hundred fields without numbers stand before it
+abbrev pub is_begin_unseen : List ℕ → Place → Bool
+is_begin_unseen ends first = nat_lt 1 first.number && nat_lt 100 (since_end ends first.field)
+
+-- a field after field k is of lead-out
+abbrev pub lead_out_follows : List ℕ → ℕ → Bool
+lead_out_follows ends k = nat_lt 0 (count_by (λ e. e == lead_out) (drop (k + 1) ends))
+
+-- no lead-out is seen after the last number, and the caller doesn't say that the capture may end before the disc
+abbrev pub is_end_unseen : Bool → List ℕ → ℕ → Bool
+is_end_unseen may_end ends last = not may_end && not (lead_out_follows ends last)
+
+-- this many answers are of this state
+abbrev pub count_of : ℕ → List Number → ℕ
+count_of state answers = count_by (λ (a : Number). a.state == state) answers
+
+-- of the numbers that were read a tenth or more is in doubt
+abbrev pub are_doubtful : List Number → Bool
+are_doubtful answers =
+    nat_le (count_of 1 answers + count_of 2 answers) (10 * count_of 2 answers)
+
+-- this many fields are padding
+abbrev pub padded_in : List ℕ → ℕ
+padded_in ends = count_by (λ e. e == padding) ends
+
+-- all reasons against a capture of which this is found; how far its first and its last number are from each other and
+-- from the disc's beginning is counted by the clock
+abbrev pub reasons_of : Judged → Bool → Found → ℕ
+reasons_of judged may_end found =
+    let rule = judged.rule in
+    let first = by_clock rule.numbering.clock found.first in
+    let last = by_clock rule.numbering.clock found.last in
+    seen_reasons rule.pace judged.ends found.tally first + reason 32 found.swap.is_seen
+    + reason 64 (found.drifts || is_off rule found.tally first last)
+    + reason 256 (is_end_unseen may_end judged.ends found.last.field)
+    + reason 512 (is_begin_unseen judged.ends found.first)
+    + reason 1024 (are_doubtful judged.numbers) + reason 2048 (nat_lt 0 found.tally.open_gaps)
+    + reason 4096 (nat_lt 0 found.tally.inserted) + reason 8192 (nat_lt 0 (padded_in judged.ends))
+    + reason 16384 (nat_lt 0 found.blank)
+
+-- no number is believed
+abbrev pub HasNone : List Number → Type 0
+HasNone answers = (i k : ℕ) → IsMarked answers i k → ⊥
+
+-- no number is believed, and nothing else is said of the capture
+abbrev pub IsUntold : List Number → Finding → Type 0
+IsUntold answers finding =
+    HasNone answers × (finding.reasons ≡ 128) × (finding.first ≡ 0) × (finding.last ≡ 0)
+
+-- what is found of a capture with these first and last numbers, if it is swapped or drifts as this says
+abbrev pub found_by : Finding → Bool → Bool → ℕ → ℕ → Found
+found_by finding swapped drifts m n = record {
+  tally = finding.tally;
+  padded = finding.padded;
+  swap = record { field = finding.swap; is_seen = swapped };
+  drifts = drifts;
+  blank = finding.blank;
+  first = spot finding.first m;
+  last = spot finding.last n;
+}
+
+-- its reasons: that no number is believed, or all that there are against what is found
+abbrev pub AreReasons : Judged → Bool → Finding → Bool → Bool → Type 0
+AreReasons judged may_end finding swapped drifts = IsUntold judged.numbers finding
+    ⊎ ((m n : ℕ) × AreEnds judged.numbers finding.first m finding.last n
+    × (finding.reasons ≡ reasons_of judged may_end (found_by finding swapped drifts m n)))
+
+-- what is said of a capture
+pub record IsFinding (judged : Judged) (may_end : Bool) (finding : Finding) (old new : List Gap) : Type 0 where
+  pub told : IsTold judged (length judged.numbers) finding.tally old new
+  pub swapped : Bool
+  pub swap : IsSwapTold judged.rule judged.seen judged.numbers finding.swap swapped
+  pub drifts : Bool
+  pub drift : IsDriftTold judged.rule judged.numbers drifts
+  pub padded : finding.padded ≡ padded_in judged.ends
+  pub blank : IsBlankTold judged.rule judged.numbers finding.blank
+  pub verdict : finding.verdict ≡ verdict_of finding.reasons
+  pub reasons : AreReasons judged may_end finding swapped drifts
+
+-- what is said of a capture with no gap from the first field with a number to the last, to which nothing is to be said
+abbrev pub found_whole : ℕ → ℕ → Finding
+found_whole first last = record {
+  tally = tally_of Plain [] 0;
+  first = first;
+  last = last;
+  swap = 0;
+  padded = 0;
+  blank = 0;
+  verdict = yes;
+  reasons = 0;
+}
