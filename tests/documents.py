@@ -13,6 +13,8 @@ import pathlib
 import re
 import sys
 
+import checks
+
 # Where a path that a document names may begin
 FOLDERS = ("", "crates/", "crates/*/", "crates/*/src/", "crates/*/specs/", "rust/hand/src/", "tests/*/", "bench/*/")
 # What is built isn't there before; git is told to leave it out.
@@ -198,16 +200,5 @@ CHECKS = {"promises": (promises, 17), "links": (links, 70), "paths": (paths, 120
           "faults": (faults, 28), "manuals": (manuals, 120), "measured": (measured, 20)}
 
 
-def main():
-    faults_found = []
-    for name in sys.argv[1:] or CHECKS:
-        check, least = CHECKS[name]
-        looked_at = list(check())
-        print(f"{name}: {len(looked_at)} looked at")
-        looked_at.append((len(looked_at) >= least, f"{name}: there were {least}"))
-        faults_found += [fault for fits, fault in looked_at if not fits]
-    return "\n".join(faults_found) or None
-
-
 if __name__ == "__main__":
-    sys.exit(main())
+    sys.exit(checks.run(CHECKS))

@@ -12,6 +12,8 @@ import re
 import subprocess
 import sys
 
+import checks
+
 # The most columns of a line, lines of a file and of a function, files of a folder, and columns of a commit's subject
 COLUMNS, LINES, FUNCTION, FILES, SUBJECT = 120, 400, 45, 40, 72
 NEWEST = 3  # commits
@@ -127,16 +129,5 @@ CHECKS = {"lines": (lines, 100000), "lengths": (lengths, 1300), "functions": (fu
           "folders": (folders, 20), "modules": (modules, 180), "names": (names, 70), "subjects": (subjects, 0)}
 
 
-def main():
-    faults = []
-    for name in sys.argv[1:] or CHECKS:
-        check, least = CHECKS[name]
-        looked_at = list(check())
-        print(f"{name}: {len(looked_at)} looked at")
-        looked_at.append((len(looked_at) >= least, f"{name}: there were {least}"))
-        faults += [fault for fits, fault in looked_at if not fits]
-    return "\n".join(faults) or None
-
-
 if __name__ == "__main__":
-    sys.exit(main())
+    sys.exit(checks.run(CHECKS))

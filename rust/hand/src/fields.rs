@@ -1,9 +1,9 @@
 //! Fields one by one: an iterator that reads what it yields alone, and what the fields around one say of it.
 
-use crate::c::LdvbiFieldReadings;
 use crate::numbers::{chapters_of, ends_of, Numbers};
 use crate::side::{self, Counted, BELIEVED, LEAD_OUT};
 use crate::sides::{Field, Number, Side};
+use crate::words::Reading;
 
 /// What a function makes of each item. It isn't called for items that are skipped, as it is by `Map`.
 pub(crate) struct Each<I, F>(pub(crate) I, pub(crate) F);
@@ -95,7 +95,7 @@ impl Side<'_> {
     }
 
     /// The readings of a field and of so many on either side of it, as far as there are any, and which is the first.
-    fn around(&self, index: usize, reach: usize) -> Option<(usize, Vec<LdvbiFieldReadings>)> {
+    fn around(&self, index: usize, reach: usize) -> Option<(usize, Vec<[Reading; 3]>)> {
         let first = index.saturating_sub(reach);
         (index < self.len()).then(|| (first, self.read(first).take(index - first + reach + 1).collect()))
     }

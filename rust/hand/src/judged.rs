@@ -1,17 +1,15 @@
 //! The judgement of a whole side: the numbers and the chapters of all its fields, and where each is found.
 
-use crate::c::LdvbiFieldReadings;
-use crate::lines::reading;
 use crate::numbers::{chapters_of, Numbers};
 use crate::side::{self, Counted};
 use crate::sides::{Field, Number, Place};
 use crate::words::{Reading, System};
 
-/// What is judged of a side by the readings of all its fields. It takes 48 bytes a field, 5 MB for half an hour.
+/// What is judged of a side by the readings of all its fields. It takes 60 bytes a field, 6.5 MB for half an hour.
 /// [`Side::judged`](crate::Side::judged) makes it, and no call of it reads the side again.
 pub struct Judged {
     system: System,
-    readings: Vec<LdvbiFieldReadings>,
+    readings: Vec<[Reading; 3]>,
     pictures: Vec<side::Number>,
     times: Vec<side::Number>,
     chapters: Vec<side::Number>,
@@ -26,7 +24,7 @@ impl std::fmt::Debug for Judged {
 
 impl Judged {
     /// Judges the pictures, the times and the chapters of these fields.
-    pub(crate) fn of(system: System, readings: Vec<LdvbiFieldReadings>) -> Judged {
+    pub(crate) fn of(system: System, readings: Vec<[Reading; 3]>) -> Judged {
         let numbers = |counted| Numbers::of(system, counted, &readings).numbers;
         let (pictures, times) = (numbers(Counted::Pictures), numbers(Counted::Times));
         let chapters = chapters_of(&readings);
@@ -35,7 +33,7 @@ impl Judged {
 
     /// What lines 16, 17 and 18 of each field show.
     pub fn fields(&self) -> impl ExactSizeIterator<Item = [Reading; 3]> + DoubleEndedIterator + '_ {
-        self.readings.iter().map(|field| field.lines.map(reading))
+        self.readings.iter().copied()
     }
 
     /// The number of each field, at the pace that is found, which is that of video or of film.
@@ -52,11 +50,11 @@ impl Judged {
     pub fn seek(&self, place: Place) -> Option<Field> {
         let (counted, number) = place.counted(self.system)?;
         let index = side::first_of(self.judged(counted), number)?;
-        Some(Field { index, readings: self.readings[index].lines.map(reading) })
+        Some(Field { index, readings: self.readings[index] })
     }
 
-    /// The readings of all fields, as the library's other calls take them.
-    pub(crate) fn readings(&self) -> &[LdvbiFieldReadings] {
+    /// The readings of all fields.
+    pub(crate) fn readings(&self) -> &[[Reading; 3]] {
         &self.readings
     }
 

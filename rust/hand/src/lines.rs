@@ -1,7 +1,7 @@
 //! What lines show, and fields that come in pieces.
 
-use crate::c::{self, LdvbiFieldReadings, LdvbiReading};
-use crate::words::{Levels, Outcome, Reading, System, Word24};
+use crate::near::recover_rows;
+use crate::words::{Levels, Reading, System};
 
 /// Why what was given can't be right. Nothing was read.
 #[derive(Clone, Copy, Debug, PartialEq, Eq, thiserror::Error)]
@@ -19,21 +19,14 @@ pub enum Error {
     NoClock { period: u32, phase: u32 },
 }
 
+/// The samples of the longest line, that of PAL.
+const WIDEST: usize = 1135;
+
 /// Refuses bytes that aren't 1 to `most` lines of this system.
 pub(crate) fn check_lines(system: System, bytes: usize, most: usize) -> Result<(), Error> {
     let line = system.line_bytes();
     let is_right = bytes % line == 0 && (1..=most).contains(&(bytes / line));
     is_right.then_some(()).ok_or(Error::NoLine { bytes, line })
-}
-
-/// Takes the status of a call whose arguments are right, by their types or because they were tested: it is done.
-pub(crate) fn done(status: u32) {
-    assert!(status == 0);
-}
-
-/// The system as the library's calls take it.
-pub(crate) fn number_of(system: System) -> u32 {
-    system as u32 + 1
 }
 
 /// Where lines 16, 17 and 18 lie in a field.
@@ -42,23 +35,10 @@ pub(crate) fn rows_of(system: System) -> std::ops::Range<usize> {
 }
 
 /// Reads these three lines, and recovers the words of worn ones.
-pub(crate) fn recover(system: System, levels: Levels, rows: &[u8]) -> LdvbiFieldReadings {
-    let (black, white) = (levels.black().into(), levels.white().into());
-    let mut field = LdvbiFieldReadings::default();
-    done(c::ldvbi_recover_rows(number_of(system), black, white, rows, &[], &mut field));
-    field
-}
-
-/// What a line shows, by the library's reading of it.
-pub(crate) fn reading(line: LdvbiReading) -> Reading {
-    let outcome = match (line.cause, Word24::new(line.word)) {
-        (0, Ok(word)) => Outcome::Word(word),
-        (2, _) => Outcome::Unfinished,
-        (3, _) => Outcome::Change(line.column),
-        (4, _) => Outcome::Hold(line.column),
-        _ => Outcome::Blank,
-    };
-    Reading { outcome, pass: line.pass }
+pub(crate) fn recover(system: System, levels: Levels, rows: &[u8]) -> [Reading; 3] {
+    let none_erased = [false; 3 * WIDEST];
+    let lines = recover_rows(system, levels, rows, &none_erased[..3 * system.width()]);
+    lines.map(|line| Reading { outcome: line.outcome, pass: line.pass })
 }
 
 /// A stream of fields that comes in pieces of any length. It holds three lines of the field that isn't whole yet.
@@ -86,7 +66,7 @@ impl Feeder {
             self.at = (self.at + now.len()) % size;
             if self.at == 0 {
                 let rows = std::mem::take(&mut self.rows);
-                whole.push(recover(self.system, self.levels, &rows).lines.map(reading));
+                whole.push(recover(self.system, self.levels, &rows));
             }
             piece = later;
         }
@@ -96,14 +76,5 @@ impl Feeder {
     /// How many bytes of the field that isn't whole have come. If the stream ends now, this field is cut.
     pub fn cut_bytes(&self) -> usize {
         self.at
-    }
-}
-
-#[cfg(test)]
-mod tests {
-    #[test]
-    #[should_panic]
-    fn a_call_that_is_refused_is_a_fault() {
-        super::done(1);
     }
 }

@@ -1,9 +1,8 @@
 //! What fields show, and the numbers, chapters and ends that are judged of them, as the judge has them.
 
-use crate::c::LdvbiFieldReadings;
 use crate::side::{chapters_shown, found_pace, judge, judge_chapters, judge_end, sightings, Counted};
 use crate::side::{Number, Pace, Shown, Sightings};
-use crate::words::{System, Word24};
+use crate::words::{Reading, System};
 
 /// What fields show of their numbers, and which they have, at the pace that is found.
 pub(crate) struct Numbers {
@@ -14,7 +13,7 @@ pub(crate) struct Numbers {
 
 impl Numbers {
     /// Those of fields of a disc that counts this.
-    pub(crate) fn of(system: System, counted: Counted, readings: &[LdvbiFieldReadings]) -> Numbers {
+    pub(crate) fn of(system: System, counted: Counted, readings: &[[Reading; 3]]) -> Numbers {
         let seen: Vec<_> = readings.iter().map(|field| sightings(system, counted, &shown(field))).collect();
         let (pace, mut numbers) = (found_pace(system, counted, &seen), vec![Number::default(); seen.len()]);
         judge(&seen, pace, &mut numbers);
@@ -23,12 +22,12 @@ impl Numbers {
 }
 
 /// What the lines of a field show.
-pub(crate) fn shown(field: &LdvbiFieldReadings) -> [Shown; 3] {
-    field.lines.map(|line| Shown { word: Word24::new(line.word).ok(), pass: line.pass })
+pub(crate) fn shown(field: &[Reading; 3]) -> [Shown; 3] {
+    field.map(|line| Shown { word: line.outcome.word(), pass: line.pass })
 }
 
 /// The chapters of fields.
-pub(crate) fn chapters_of(readings: &[LdvbiFieldReadings]) -> Vec<Number> {
+pub(crate) fn chapters_of(readings: &[[Reading; 3]]) -> Vec<Number> {
     let seen: Vec<_> = readings
         .iter()
         .map(|field| {
@@ -42,7 +41,7 @@ pub(crate) fn chapters_of(readings: &[LdvbiFieldReadings]) -> Vec<Number> {
 }
 
 /// Which fields are of lead-in or lead-out.
-pub(crate) fn ends_of(readings: &[LdvbiFieldReadings]) -> Vec<u32> {
+pub(crate) fn ends_of(readings: &[[Reading; 3]]) -> Vec<u32> {
     readings
         .iter()
         .map(|field| {

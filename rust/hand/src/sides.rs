@@ -1,11 +1,11 @@
 //! Sides: what their fields show, which number each field has, where a place is found, and where a player stops.
 
-use crate::c::{self, LdvbiFieldReadings, LdvbiNeighbour, LdvbiPlace, LdvbiSought};
 use crate::fields::Each;
 use crate::judged::Judged;
-use crate::lines::{check_lines, done, number_of, reading, recover, rows_of, Error};
+use crate::lines::{check_lines, recover, rows_of, Error};
 use crate::near::{nearest_of_lines, Near};
 use crate::numbers::shown;
+use crate::seek::{self, next_stop, seek_chapter, seek_number, Asked, Judging, Seek, Setup, Sought};
 use crate::side::{self, judge_stop, Counted, BELIEVED};
 use crate::words::{Levels, Reading, System};
 use std::sync::{Arc, Mutex, PoisonError};
@@ -115,7 +115,7 @@ pub struct Field {
 /// | `seek`, `seek_on`, `beside`, `next_chapter`, `previous_chapter` | at most 1,000 fields for each place asked for |
 /// | `numbers`, `chapters`, `whole`, `gaps`, `find_clock`, `judged` | the whole side, once |
 ///
-/// What is judged of the whole side is kept, 48 bytes a field, and clones and threads share it. `open` maps a file. If
+/// What is judged of the whole side is kept, 60 bytes a field, and clones and threads share it. `open` maps a file. If
 /// you map it yourself, do so with `MADV_RANDOM`: without it, the system reads far more of the file. docs/RUST.md says
 /// what the calls cost.
 #[derive(Clone)]
@@ -170,7 +170,7 @@ impl<'a> Side<'a> {
     /// What lines 16, 17 and 18 of each field show. Fields that are skipped, as by `nth`, `skip` or `step_by`, aren't
     /// read.
     pub fn fields(&self) -> impl ExactSizeIterator<Item = [Reading; 3]> + DoubleEndedIterator + 'a {
-        Each(self.read(0), |field: LdvbiFieldReadings| field.lines.map(reading))
+        self.read(0)
     }
 
     /// The field with this index, counted from 0, if there is one. No other is read.
@@ -213,16 +213,13 @@ impl<'a> Side<'a> {
         self.read(from).enumerate().filter_map(move |(i, field)| {
             let [line_16, line_17, _] = shown(&field);
             let is_stop = judge_stop(&line_16, &line_17) == BELIEVED;
-            is_stop.then(|| Field { index: from + i, readings: field.lines.map(reading) })
+            is_stop.then_some(Field { index: from + i, readings: field })
         })
     }
 
     /// The first of these stops, among so many fields at most. None after it is read.
     pub fn next_stop(&self, from: usize, most: usize) -> Option<Field> {
-        let (system, black, white) = self.setup();
-        let mut stop = LdvbiPlace::default();
-        done(c::ldvbi_next_stop(system, black, white, self.bytes, from, most, &mut stop));
-        self.field(stop.field)
+        self.field(next_stop(self.setup(), self.bytes, from, most).field)
     }
 
     /// The first field for which this number or chapter is believed or due, if halving finds one. A picture or a time
@@ -279,7 +276,7 @@ impl<'a> Side<'a> {
     pub fn beside(&self, place: Place) -> Option<Beside> {
         let (counted, number) = place.counted(self.system)?;
         let sought = self.sought(counted?, number);
-        let told = |one: LdvbiNeighbour| {
+        let told = |one: seek::Neighbour| {
             (one.number.state != side::NOTHING).then_some(Neighbour { number: one.number.number, field: one.field })
         };
         Some(Beside { before: told(sought.before), after: told(sought.after) })
@@ -291,12 +288,10 @@ impl<'a> Side<'a> {
         (sought.number.state != side::NOTHING).then_some(sought.field)
     }
 
-    /// What the library's call answers, at the pace of the fields that it reads.
-    fn sought(&self, counted: Counted, number: u32) -> LdvbiSought {
-        let (system, black, white) = self.setup();
-        let mut sought = LdvbiSought::default();
-        done(c::ldvbi_seek(system, black, white, counted as u32 + 1, FIND_PACE, self.bytes, number, &mut sought));
-        sought
+    /// What the search answers, at the pace of the fields that it reads.
+    fn sought(&self, counted: Counted, number: u32) -> Sought {
+        let judging = Judging { system: self.system, counted, asked: Asked::Found };
+        seek_number(Seek { setup: self.setup(), judging }, self.bytes, number)
     }
 
     /// The fields that are padding.
@@ -306,22 +301,17 @@ impl<'a> Side<'a> {
 
     /// The field in which this chapter begins, if halving finds it.
     pub(crate) fn begin_of(&self, chapter: u32) -> Option<usize> {
-        let (system, black, white) = self.setup();
-        let mut place = LdvbiPlace::default();
-        done(c::ldvbi_seek_chapter(system, black, white, self.bytes, chapter, &mut place));
+        let place = seek_chapter(self.setup(), self.bytes, chapter);
         Some(place.field).filter(|field| *field < self.len())
     }
 
-    /// System, black and white, as the library's calls take them.
-    fn setup(&self) -> (u32, u32, u32) {
-        (number_of(self.system), self.levels.black().into(), self.levels.white().into())
+    /// The system and the levels, as the searches take them.
+    fn setup(&self) -> Setup {
+        Setup { system: self.system, levels: self.levels }
     }
 
-    /// The readings of the fields from this one on, as the library's other calls take them.
-    pub(crate) fn read(
-        &self,
-        from: usize,
-    ) -> impl ExactSizeIterator<Item = LdvbiFieldReadings> + DoubleEndedIterator + 'a {
+    /// The readings of the fields from this one on.
+    pub(crate) fn read(&self, from: usize) -> impl ExactSizeIterator<Item = [Reading; 3]> + DoubleEndedIterator + 'a {
         let (bytes, system, levels, size) = (self.bytes, self.system, self.levels, self.system.field_bytes());
         let fields = bytes[from.saturating_mul(size).min(bytes.len())..].chunks_exact(size);
         Each(fields, move |field: &[u8]| recover(system, levels, &field[rows_of(system)]))
@@ -332,6 +322,3 @@ impl<'a> Side<'a> {
         self.system
     }
 }
-
-/// The pace that has the call that seeks find it.
-const FIND_PACE: u32 = 3;
