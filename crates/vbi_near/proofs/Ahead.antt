@@ -1,28 +1,21 @@
 -- By how much the samples of lines are nearer to a word that they say than to what may have been recorded.
 -- recovered_costs stands on it.
-use Rattle.std.proofs.Common.{◌≡◌, ℕ, ◌+◌, ◌≤◌, ◌⊎◌, inl, inr, Bool, true, false, refl, ap, ◌∙◌}
-use Rattle.std.proofs.Common.{subst, arith}
+use Rattle.std.proofs.Common.{◌≡◌, ℕ, ◌+◌, ◌≤◌, ◌⊎◌, inl, inr, Bool, true, false, refl, ap, ◌∙◌, subst, arith}
 use Rattle.std.specs.Prelude.{Option, Some, None, is_some, ◌&&◌, ◌*◌, if◌then◌else◌}
 use Rattle.std.proofs.lemmas.Bool.{leb-true}
 use Rattle.std.proofs.Math.Nat.{mul-le-mul_right}
-use Rattle.vbi_words.specs.declared.outcome.Outcome.TheVariants.{Word}
+use Rattle.vbi_near.proofs.Common.{Word, Near, Nears, IsPlace, unit_of, codes_of, IsCodePlace, is_beyond_79999}
+use Rattle.vbi_near.proofs.Common.{IsNearestBy, far_from}
 use Rattle.vbi_words.specs.Outcomes.{word_of}
-use Rattle.vbi_near.specs.declared.near.Near.{Near}
-use Rattle.vbi_near.specs.declared.near.Nears.{Nears}
 use Rattle.vbi_near.specs.declared.margins.Margins.{Margins}
 use Rattle.vbi_near.specs.declared.margins.MarginSet.{MarginSet}
 use Rattle.vbi_near.specs.declared.word_rule.Stand.{Stand}
 use Rattle.vbi_near.specs.declared.word_rule.Stand.TheVariants.{Alone, Apart, Together}
 use Rattle.vbi_near.specs.declared.recovery.Recovered.{Recovered}
-use Rattle.vbi_near.specs.Pictures.{IsPlace}
-use Rattle.vbi_near.specs.Distances.{unit_of}
-use Rattle.vbi_near.specs.LineCodes.{codes_of, IsCodePlace, is_beyond_79999}
-use Rattle.vbi_near.specs.Nearest.{IsNearestBy, far_from}
 use Rattle.vbi_near.specs.LevelledLines.{levelled_unit}
 use Rattle.vbi_near.specs.WordRule.{said_of, unless_beyond, recovered_by, first_said, said_in, is_ahead, is_clear}
-use Rattle.vbi_near.specs.WordRule.{word_in, code_in}
+use Rattle.vbi_near.specs.WordRule.{word_in, code_in, is_close}
 use Rattle.vbi_near.specs.Margins.{levelled_margins, given_margins}
-use Rattle.vbi_near.specs.WordRule.{is_close}
 use Rattle.vbi_near.specs.Candidates.{HasNear, HasNearIf, Candidates, Row, Line, Lines, AreOf, AreOfBoth, has_swing}
 use Rattle.vbi_near.specs.Candidates.{are_alike, given_line, levelled_line, given_pair, levelled_pair}
 use Rattle.vbi_near.specs.Recovery.{Seen, IsSeen, Stands, alone, own_of, is_open, said_by, recovered_as, shown_in}

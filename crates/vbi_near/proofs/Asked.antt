@@ -2,22 +2,19 @@
 -- The functions of line_rule, pair_rule and recovery stand on it.
 use Rattle.std.proofs.Common.{◌≡◌, ℕ, Bool, true, false, List, refl, sym, ap, ◌∙◌, subst}
 use Rattle.std.specs.Prelude.{◌*◌, nat_le, Option, Some, None, is_some, IsTrue, if◌then◌else◌, ◌&&◌}
-use Rattle.vbi_words.specs.Levels.{samples_of}
-use Rattle.vbi_near.specs.declared.near.Nears.{Nears}
+use Rattle.vbi_near.proofs.Common.{samples_of, Nears, unit_of, known_but}
 use Rattle.vbi_near.specs.declared.margins.Margins.{Margins}
 use Rattle.vbi_near.specs.declared.margins.MarginSet.{MarginSet}
 use Rattle.vbi_near.specs.declared.word_rule.PairNears.{PairNears}
 use Rattle.vbi_near.specs.declared.word_rule.Stand.TheVariants.{Apart, Together}
 use Rattle.vbi_near.specs.declared.recovery.Recovered.{Recovered}
-use Rattle.vbi_near.specs.Distances.{unit_of, known_but}
 use Rattle.vbi_near.specs.WordRule.{said_of, said_if, unless_beyond, said_in, stand_of, may_agree, first_said, is_said}
 use Rattle.vbi_near.specs.LevelledLines.{levelled, is_swing}
 use Rattle.vbi_near.specs.Candidates.{Candidates, Row, Line, Lines, line_of, HasNear, HasNearIf, AreOf, has_swing}
 use Rattle.vbi_near.specs.Candidates.{filled_samples, levelled_samples, are_alike_by}
 use Rattle.vbi_near.specs.Silence.{HasNearUnlessSilent, HasNearIfUnlessSilent}
-use Rattle.vbi_near.specs.Recovery.{said_by, stands_by, stands_of, alone}
-use Rattle.vbi_near.specs.Recovery.{IsSeen, IsOwn, own_of, is_open, are_open, recovered_as, shown_in}
-use Rattle.vbi_near.specs.Recovery.{Seen, Stands}
+use Rattle.vbi_near.specs.Recovery.{said_by, stands_by, stands_of, alone, IsSeen, IsOwn, own_of, is_open, are_open}
+use Rattle.vbi_near.specs.Recovery.{recovered_as, shown_in, Seen, Stands}
 use Rattle.vbi_near.proofs.OneSeen.{one_nears, open_asked}
 
 -- ---- what is found first

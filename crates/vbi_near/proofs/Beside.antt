@@ -5,18 +5,10 @@ use Rattle.std.proofs.Common.{sym, ◌∙◌, get_or, true, min, ◌⊎◌}
 use Rattle.std.proofs.Math.ListN.{replicate}
 use Rattle.std.proofs.lemmas.List.{length-append, length-replicate}
 use Rattle.std.proofs.Math.Nat.{min-le_left, min-le_right}
-use Rattle.vbi_words.specs.declared.system.System.{System}
-use Rattle.vbi_words.specs.Geometry.{width_of, start_of}
-use Rattle.vbi_words.specs.Words.{cell_of, halves_of}
-use Rattle.vbi_words.specs.Drawn.{boundary}
-use Rattle.vbi_near.specs.declared.word_search.Found.{Found}
-use Rattle.vbi_near.specs.Pictures.{column_of, word_length, drawn_halves, starts}
-use Rattle.vbi_near.specs.Distances.{Shades, distance_from}
-use Rattle.vbi_near.specs.Sums.{AreRowSums, total_in, span, AreBoth, IsRising}
-use Rattle.vbi_near.specs.Costs.{cell_cost, place_cost}
-use Rattle.vbi_near.specs.LongerSignal.{cell_length, begun_earlier, ended_later, GoesOn, IsLeastRow, IsBeside}
-use Rattle.vbi_near.specs.LongerSignal.{IsWithCell}
-use Rattle.vbi_near.specs.LongerSignal.{IsLongerFound}
+use Rattle.vbi_near.proofs.Common.{System, width_of, start_of, cell_of, halves_of, boundary, Found, column_of}
+use Rattle.vbi_near.proofs.Common.{word_length, drawn_halves, starts, Shades, distance_from, AreRowSums, total_in, span}
+use Rattle.vbi_near.proofs.Common.{AreBoth, IsRising, cell_cost, place_cost, cell_length, begun_earlier, ended_later}
+use Rattle.vbi_near.proofs.Common.{GoesOn, IsLeastRow, IsBeside, IsWithCell, IsLongerFound}
 use Rattle.vbi_near.proofs.Columns.{column-first, column-drawn, word-drawn, word-fits}
 use Rattle.vbi_near.proofs.Costs.{distance-append, distance-run, cell-at, word-at, cell-read}
 use Rattle.vbi_near.proofs.BestBits.{min_is}

@@ -3,14 +3,9 @@
 use Rattle.std.proofs.Common.{◌≡◌, ◌≢◌, ℕ, ◌≤◌, ◌<◌, ◌+◌, ◌^◌, ◌⊎◌, inl, inr, arith, ap, ◌∙◌, suc, ◌-◌, ◌*◌, ◌/◌, ◌%◌}
 use Rattle.std.proofs.Common.{Bool, true, false, not, add-one, eqb, eq-eqb, ne_eqb, pow-suc, min}
 use Rattle.std.proofs.Math.Nat.{min-eq_left, min-eq_right}
-use Rattle.vbi_words.specs.Words.{IsWord}
-use Rattle.vbi_words.specs.declared.system.System.{System}
+use Rattle.vbi_near.proofs.Common.{IsWord, System, IsFound, IsBest, HasOther, IsBits, Bits, Shades, around_cost}
+use Rattle.vbi_near.proofs.Common.{cell_cost, bits_cost, place_cost}
 use Rattle.vbi_words.proofs.Bits.{bit_of}
-use Rattle.vbi_near.specs.Best.{IsFound, IsBest, HasOther, IsBits}
-use Rattle.vbi_near.specs.declared.bits.Bits.{Bits}
-use Rattle.vbi_near.specs.Distances.{Shades}
-use Rattle.vbi_near.specs.Rows.{around_cost}
-use Rattle.vbi_near.specs.Costs.{cell_cost, bits_cost, place_cost}
 
 -- the least of two is one of them
 pub min_is : (a b : ℕ) → ((min a b ≡ a) × (a ≤ b)) ⊎ ((min a b ≡ b) × (b < a))

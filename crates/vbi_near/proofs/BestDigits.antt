@@ -1,9 +1,8 @@
 -- The best digits of one digit more.
 -- best_digits and with_digit stand on it.
 use Rattle.std.proofs.Common.{◌≡◌, ◌≢◌, ℕ, suc, ◌≤◌, ◌<◌, ◌+◌, ◌-◌, ◌*◌, ◌^◌, min, ◌⊎◌, inl, inr, arith}
-use Rattle.vbi_near.specs.declared.bits.Bits.{Bits}
+use Rattle.vbi_near.proofs.Common.{Bits, digits_cost, AreDigits, IsChoice, AreBest}
 use Rattle.vbi_near.specs.declared.codes.Choice.{Choice}
-use Rattle.vbi_near.specs.Leads.{digits_cost, AreDigits, IsChoice, AreBest}
 use Rattle.vbi_near.proofs.BestBits.{min_is}
 
 -- the choice stays if the values of the digit cost the same

@@ -4,24 +4,12 @@ use Rattle.std.proofs.Common.{◌≡◌, ◌≢◌, ℕ, ◌≤◌, ◌<◌, ◌
 use Rattle.std.proofs.Common.{ap, sym, subst, ◌∙◌}
 use Rattle.std.specs.Prelude.{Some, None, false}
 use Rattle.std.proofs.lemmas.Bool.{cases_lt}
-use Rattle.vbi_words.specs.declared.system.System.{System}
-use Rattle.vbi_words.specs.Geometry.{width_of}
-use Rattle.vbi_words.specs.Levels.{Slicing}
-use Rattle.vbi_words.specs.Words.{IsWord}
-use Rattle.vbi_near.specs.declared.word_search.Found.{Found}
-use Rattle.vbi_near.specs.declared.near.Near.{Near}
-use Rattle.vbi_near.specs.declared.sums.Sums.{Sums}
-use Rattle.vbi_near.specs.Pictures.{IsPlace, picture_of, starts, word_length, drawn_as}
-use Rattle.vbi_near.specs.Distances.{Samples, most_of, distance_of, Shades, distance_from}
-use Rattle.vbi_near.specs.Sums.{span}
-use Rattle.vbi_near.specs.Costs.{place_cost}
-use Rattle.vbi_near.specs.Best.{IsFound, IsChosen}
-use Rattle.vbi_near.specs.Nearest.{IsBefore, Precedes, far_from}
-use Rattle.vbi_near.specs.LongerSignal.{IsLongerFound, HasLeastRow, GoesOn}
-use Rattle.vbi_near.specs.ShorterSignal.{IsShorterFound, IsCutShort}
-use Rattle.vbi_near.specs.LineCodes.{Range, IsOneOf, codes_of, IsCodePlace}
-use Rattle.vbi_near.specs.Leads.{Places, all_codes, code_cost, IsLead, IsClose, IsCodeChosen}
-use Rattle.vbi_near.specs.Rows.{shades_of, word_cost_by, code_cost_by, IsRowOf, IsNearOf, IsNearWord, IsNearCode}
+use Rattle.vbi_near.proofs.Common.{System, width_of, Slicing, IsWord, Found, Near, Sums, IsPlace, picture_of, starts}
+use Rattle.vbi_near.proofs.Common.{word_length, drawn_as, Samples, most_of, distance_of, Shades, distance_from, span}
+use Rattle.vbi_near.proofs.Common.{place_cost, IsFound, IsChosen, IsBefore, Precedes, far_from, IsLongerFound}
+use Rattle.vbi_near.proofs.Common.{HasLeastRow, GoesOn, IsShorterFound, IsCutShort, Range, IsOneOf, codes_of}
+use Rattle.vbi_near.proofs.Common.{IsCodePlace, Places, all_codes, code_cost, IsLead, IsClose, IsCodeChosen, shades_of}
+use Rattle.vbi_near.proofs.Common.{word_cost_by, code_cost_by, IsRowOf, IsNearOf, IsNearWord, IsNearCode}
 use Rattle.vbi_near.proofs.Columns.{word-fits, starts-few}
 use Rattle.vbi_near.proofs.Costs.{blank-cost, word-cost}
 use Rattle.vbi_near.proofs.CutShort.{length-shorter, least_shorter}

@@ -4,17 +4,15 @@ use Rattle.std.proofs.Common.{◌≡◌, ℕ, zero, suc, ◌≤◌, ◌<◌, fal
 use Rattle.std.proofs.Common.{subst, arith, lit<, lit≤}
 use Rattle.std.specs.Prelude.{Bool, true, IsTrue, ◌↔◌, ◌&&◌, not}
 use Rattle.std.proofs.lemmas.Bool.{cases_lt, cases_eq, ltb-true, lt-ltb, true≢false, false_from_ne_true}
-use Rattle.vbi_words.specs.declared.system.System.{System}
-use Rattle.vbi_words.specs.declared.system.System.TheVariants.{Ntsc, Pal}
+use Rattle.vbi_near.proofs.Common.{System, Ntsc, Pal, IsWord, digit_of, IsBetween, range, IsIn, IsOneOf, codes_of}
+use Rattle.vbi_near.proofs.Common.{codes_of_16, codes_of_17, is_beyond_79999}
 use Rattle.vbi_words.specs.declared.code.Code.{Code}
 use Rattle.vbi_words.specs.declared.code.Code.TheVariants.{Picture, Chapter, Time, ClvPicture, CxOn, CxOff, Users}
 use Rattle.vbi_words.specs.declared.code.Code.TheVariants.{LeadIn, LeadOut, PictureStop, ClvMark, Other}
-use Rattle.vbi_words.specs.Words.{IsWord}
-use Rattle.vbi_words.specs.Codes.{digit_of, IsBetween, Pattern, patterns_of, HasPattern, HasCodeOf, code_of, may_stand}
-use Rattle.vbi_words.specs.Codes.{last_two, picture_of, chapter_of, seconds_of, last_three, pictures_in_second}
+use Rattle.vbi_words.specs.Codes.{Pattern, patterns_of, HasPattern, HasCodeOf, code_of, may_stand, last_two, picture_of}
+use Rattle.vbi_words.specs.Codes.{chapter_of, seconds_of, last_three, pictures_in_second}
 use Rattle.vbi_words.proofs.OneCode.{code_of_is, only_code_of}
 use Rattle.vbi_near.proofs.Digits.{between, beyond-digits, digits-beyond}
-use Rattle.vbi_near.specs.LineCodes.{range, IsIn, IsOneOf, codes_of, codes_of_16, codes_of_17, is_beyond_79999}
 
 -- ---- the pattern of a word's code
 

@@ -6,11 +6,9 @@ use Rattle.std.specs.Prelude.{Some, None}
 use Rattle.std.specs.List.{flat_map}
 use Rattle.std.proofs.lemmas.List.{length-append, length-replicate}
 use Rattle.std.proofs.Math.ListN.{replicate}
-use Rattle.vbi_words.specs.Words.{lowest_bits, cell_of, halves_of}
+use Rattle.vbi_near.proofs.Common.{lowest_bits, cell_of, halves_of, System, width_of, column_of, half_length}
+use Rattle.vbi_near.proofs.Common.{word_length, starts, drawn_halves, picture_of, IsPlace}
 use Rattle.vbi_words.proofs.Bits.{length-lowest_bits}
-use Rattle.vbi_words.specs.declared.system.System.{System}
-use Rattle.vbi_words.specs.Geometry.{width_of}
-use Rattle.vbi_near.specs.Pictures.{column_of, half_length, word_length, starts, drawn_halves, picture_of, IsPlace}
 
 pub column-first : (system : System) (start : ℕ) → column_of system start 0 ≡ start
 column-first system start = grind arith

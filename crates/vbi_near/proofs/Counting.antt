@@ -8,15 +8,10 @@ use Rattle.std.proofs.lemmas.List.Elements.{All-append}
 use Rattle.std.specs.List.{All}
 use Rattle.std.specs.Prelude.{Some, None, min}
 use Rattle.std.specs.Int.{abs_diff}
-use Rattle.vbi_words.specs.declared.system.System.{System}
-use Rattle.vbi_words.specs.declared.system.System.TheVariants.{Ntsc, Pal}
-use Rattle.vbi_words.specs.Geometry.{width_of, line_bytes}
-use Rattle.vbi_words.specs.Levels.{Slicing, samples_of}
+use Rattle.vbi_near.proofs.Common.{System, Ntsc, Pal, width_of, line_bytes, Slicing, samples_of, sample_at, sample_of}
+use Rattle.vbi_near.proofs.Common.{Samples, most_of, off_by, known, known_but, shade, shades, column_cost, IsPile}
+use Rattle.vbi_near.proofs.Common.{AreFew}
 use Rattle.vbi_line.proofs.Slicing.{length-samples_of}
-use Rattle.vbi_line.specs.Line.{sample_at}
-use Rattle.vbi_near.specs.Pictures.{sample_of}
-use Rattle.vbi_near.specs.Distances.{Samples, most_of, off_by, known, known_but, shade, shades, column_cost, IsPile}
-use Rattle.vbi_near.specs.Distances.{AreFew}
 use Rattle.vbi_near.proofs.Columns.{width-few}
 
 -- ---- no line yet

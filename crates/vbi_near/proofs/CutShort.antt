@@ -3,18 +3,10 @@
 use Rattle.std.proofs.Common.{◌≡◌, ℕ, suc, zero, ◌≤◌, ◌+◌, ◌-◌, ◌*◌, ◌/◌, ◌^◌, List, ◌++◌, Bool, false, not, nat_eq}
 use Rattle.std.proofs.Common.{◌%◌, length, min, ◌⊎◌, inl, inr, refl, arith, ap, sym, ◌∙◌, shr-shr}
 use Rattle.std.proofs.Math.ListN.{replicate}
-use Rattle.vbi_words.specs.declared.system.System.{System}
-use Rattle.vbi_words.specs.Geometry.{width_of}
-use Rattle.vbi_words.specs.Words.{lowest_bits, halves_of}
-use Rattle.vbi_near.specs.declared.word_search.Found.{Found}
-use Rattle.vbi_near.specs.Pictures.{column_of, half_length, word_length}
-use Rattle.vbi_near.specs.Distances.{Shades, distance_from}
-use Rattle.vbi_near.specs.Sums.{AreBoth}
-use Rattle.vbi_near.specs.Costs.{half_cost, cell_cost, bits_cost, place_cost}
-use Rattle.vbi_near.specs.ShorterSignal.{begun_later, ended_earlier, row_of_halves, IsCutShort, bit_in_cell}
-use Rattle.vbi_near.specs.ShorterSignal.{IsShorterFound}
-use Rattle.vbi_near.specs.LongerSignal.{IsLeastRow}
-use Rattle.vbi_near.specs.StretchedCells.{halves_cost}
+use Rattle.vbi_near.proofs.Common.{System, width_of, lowest_bits, halves_of, Found, column_of, half_length, word_length}
+use Rattle.vbi_near.proofs.Common.{Shades, distance_from, AreBoth, half_cost, cell_cost, bits_cost, place_cost}
+use Rattle.vbi_near.proofs.Common.{begun_later, ended_earlier, row_of_halves, IsCutShort, bit_in_cell, IsShorterFound}
+use Rattle.vbi_near.proofs.Common.{IsLeastRow, halves_cost}
 use Rattle.vbi_near.proofs.BestBits.{min_is}
 use Rattle.vbi_near.proofs.Columns.{column-first, column-next}
 use Rattle.vbi_near.proofs.Costs.{row-cost, word-row, drawn-with, row-long}

@@ -3,8 +3,7 @@
 use Rattle.std.proofs.Common.{◌≡◌, ℕ, zero, suc, ◌≤◌, refl, arith}
 use Rattle.std.specs.Prelude.{Bool, true, false, ◌&&◌, ◌==◌, nat_le}
 use Rattle.std.proofs.lemmas.Bool.{leb-true, le-leb, eqb-true, eq-eqb}
-use Rattle.vbi_words.specs.Codes.{digit_of, IsBetween}
-use Rattle.vbi_near.specs.LineCodes.{is_beyond_79999}
+use Rattle.vbi_near.proofs.Common.{digit_of, IsBetween, is_beyond_79999}
 
 -- ---- six digits
 

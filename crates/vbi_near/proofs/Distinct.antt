@@ -10,18 +10,13 @@ use Rattle.std.proofs.Math.ListN.{replicate}
 use Rattle.std.proofs.Math.Nat.{add-mul}
 use Rattle.std.proofs.lemmas.Nat.{mul-le}
 use Rattle.std.proofs.lemmas.List.{replicate-append-replicate}
-use Rattle.vbi_words.specs.declared.system.System.{System}
-use Rattle.vbi_words.specs.Geometry.{width_of}
-use Rattle.vbi_words.specs.Levels.{Slicing}
-use Rattle.vbi_words.specs.Words.{IsWord, halves_of}
-use Rattle.vbi_words.specs.Jitter.{differs, differences}
+use Rattle.vbi_near.proofs.Common.{System, width_of, Slicing, IsWord, halves_of, differences, Near, word_length}
+use Rattle.vbi_near.proofs.Common.{drawn_halves, picture_of, IsPlace, sample_of, drawn_as, known, most_of, row_distance}
+use Rattle.vbi_near.proofs.Common.{distance_of, IsNearest, far_from}
+use Rattle.vbi_words.specs.Jitter.{differs}
 use Rattle.vbi_words.proofs.Shown.{word_bits}
 use Rattle.vbi_words.proofs.Apart.{differences_sym}
-use Rattle.vbi_near.specs.declared.near.Near.{Near}
-use Rattle.vbi_near.specs.Pictures.{word_length, drawn_halves, picture_of, IsPlace, sample_of, drawn_as}
-use Rattle.vbi_near.specs.Distances.{known, most_of, row_distance, distance_of}
 use Rattle.vbi_near.proofs.Most.{most_of-within}
-use Rattle.vbi_near.specs.Nearest.{IsNearest, far_from}
 use Rattle.vbi_near.specs.Apart.{picture_distance}
 use Rattle.vbi_near.proofs.Columns.{length-picture}
 use Rattle.vbi_near.proofs.Certain.{same_or_not}

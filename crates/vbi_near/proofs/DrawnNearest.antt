@@ -10,21 +10,16 @@ use Rattle.std.proofs.lemmas.List.{length-replicate, get_or-replicate, get_or-ap
 use Rattle.std.specs.List.{All, flat_map}
 use Rattle.std.specs.Int.{abs_diff}
 use Rattle.std.proofs.lemmas.Nat.{mul-le}
-use Rattle.vbi_words.specs.declared.system.System.{System}
-use Rattle.vbi_words.specs.Geometry.{width_of, start_of}
-use Rattle.vbi_words.specs.Levels.{Slicing}
-use Rattle.vbi_words.specs.Words.{IsWordOrNone, lowest_bits, halves_of, IsWord, cell_of}
+use Rattle.vbi_near.proofs.Common.{System, width_of, start_of, Slicing, IsWordOrNone, lowest_bits, halves_of, IsWord}
+use Rattle.vbi_near.proofs.Common.{cell_of, boundary, drawn_row_of, differences, half_length, word_length, drawn_halves}
+use Rattle.vbi_near.proofs.Common.{picture_of, sample_of, drawn_as, IsPlace, Near, most_of, known, row_distance}
+use Rattle.vbi_near.proofs.Common.{distance_of, IsNearest, far_from}
 use Rattle.vbi_words.proofs.Bits.{length-lowest_bits}
-use Rattle.vbi_words.specs.Drawn.{boundary, drawn_row_of, IsDrawnHigh, IsDrawnSample}
+use Rattle.vbi_words.specs.Drawn.{IsDrawnHigh, IsDrawnSample}
 use Rattle.vbi_words.proofs.HalfCells.{all_low}
 use Rattle.vbi_words.proofs.DrawnSamples.{only_drawn_row}
-use Rattle.vbi_words.specs.Jitter.{differences}
 use Rattle.vbi_words.proofs.Shown.{word_bits}
-use Rattle.vbi_near.specs.Pictures.{half_length, word_length, drawn_halves, picture_of, sample_of, drawn_as, IsPlace}
-use Rattle.vbi_near.specs.declared.near.Near.{Near}
-use Rattle.vbi_near.specs.Distances.{most_of, known, row_distance, distance_of}
 use Rattle.vbi_near.proofs.Most.{most_of-some}
-use Rattle.vbi_near.specs.Nearest.{IsNearest, far_from}
 use Rattle.vbi_near.specs.Apart.{picture_distance}
 use Rattle.vbi_near.proofs.Columns.{length-cells, length-picture}
 use Rattle.vbi_near.proofs.Certain.{some_is, none_some, some_none}

@@ -6,17 +6,9 @@ use Rattle.std.proofs.Math.ListN.{replicate}
 use Rattle.std.proofs.lemmas.List.{get_or_append_left, get_or-append_right, get_or-replicate, get_or-drop, get_or-take}
 use Rattle.std.proofs.lemmas.List.{length-replicate, take_all}
 use Rattle.std.specs.Prelude.{Some, None, not, ◌&&◌}
-use Rattle.vbi_words.specs.declared.system.System.{System}
-use Rattle.vbi_words.specs.Geometry.{width_of}
-use Rattle.vbi_words.specs.Levels.{Slicing}
-use Rattle.vbi_words.specs.Words.{lowest_bits, halves_of}
-use Rattle.vbi_near.specs.declared.near.Near.{Near}
-use Rattle.vbi_near.specs.Pictures.{IsPlace, word_length, drawn_as}
-use Rattle.vbi_near.specs.Sums.{AreBoth}
-use Rattle.vbi_near.specs.StretchedCells.{halves_cost}
-use Rattle.vbi_near.specs.Distances.{Samples, most_of, distance_of, Shades, IsPile}
-use Rattle.vbi_near.specs.ShorterSignal.{row_of_halves}
-use Rattle.vbi_near.specs.HalvedSignal.{half_of, halved_far, row_cost, halved_cost}
+use Rattle.vbi_near.proofs.Common.{System, width_of, Slicing, lowest_bits, halves_of, Near, IsPlace, word_length}
+use Rattle.vbi_near.proofs.Common.{drawn_as, AreBoth, halves_cost, Samples, most_of, distance_of, Shades, IsPile}
+use Rattle.vbi_near.proofs.Common.{row_of_halves, half_of, halved_far, row_cost, halved_cost}
 use Rattle.vbi_near.proofs.Costs.{row-cost}
 use Rattle.vbi_near.proofs.Piles.{levels-same}
 use Rattle.vbi_near.proofs.CutShort.{row-wide}

@@ -3,11 +3,8 @@
 use Rattle.std.proofs.Common.{◌≡◌, ◌≢◌, ℕ, ◌≤◌, ◌<◌, ◌+◌, ◌-◌, ◌^◌, min, ◌⊎◌, inl, inr, refl, arith, ap, sym, subst}
 use Rattle.std.proofs.Common.{◌∙◌}
 use Rattle.std.proofs.lemmas.Bool.{cases_lt}
-use Rattle.vbi_words.specs.Words.{IsWord}
-use Rattle.vbi_words.specs.Codes.{digit_of, IsBetween}
-use Rattle.vbi_near.specs.declared.bits.Bits.{Bits}
-use Rattle.vbi_near.specs.LineCodes.{range, IsIn, digit_at, IsRange}
-use Rattle.vbi_near.specs.Leads.{digits_cost, AreDigits, AreBest, at_start, IsLead}
+use Rattle.vbi_near.proofs.Common.{IsWord, digit_of, IsBetween, Bits, range, IsIn, digit_at, IsRange, digits_cost}
+use Rattle.vbi_near.proofs.Common.{AreDigits, AreBest, at_start, IsLead}
 use Rattle.vbi_near.proofs.Places.{at-place}
 
 module _ (least greatest : ℕ) (is_range : IsRange least greatest) where

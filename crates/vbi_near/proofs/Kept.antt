@@ -2,9 +2,7 @@
 -- recover_rows stands on it.
 use Rattle.std.proofs.Common.{◌≡◌, ℕ, Bool, false, refl, arith}
 use Rattle.std.specs.Prelude.{if◌then◌else◌}
-use Rattle.vbi_words.specs.declared.outcome.Outcome.{Outcome}
-use Rattle.vbi_words.specs.declared.outcome.Outcome.TheVariants.{Word, Blank, Unfinished, Change, Hold}
-use Rattle.vbi_words.specs.declared.outcome.Reading.{Reading}
+use Rattle.vbi_near.proofs.Common.{Outcome, Word, Blank, Unfinished, Change, Hold, Reading}
 use Rattle.vbi_near.specs.declared.recovery.Recovered.{Recovered}
 use Rattle.vbi_near.specs.Candidates.{Candidates}
 use Rattle.vbi_near.specs.Recovery.{Seen, Stands, IsSureBy, own_by, is_open, shown_in}

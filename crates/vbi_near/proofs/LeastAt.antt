@@ -2,16 +2,10 @@
 -- stretched_distance, distance_by and SomeSeen stand on it.
 use Rattle.std.proofs.Common.{◌≡◌, ℕ, suc, ◌≤◌, ◌<◌, ◌+◌, List, length, min, arith, ap, sym, ◌∙◌, ◌⊎◌, inl, inr}
 use Rattle.std.proofs.lemmas.Bool.{cases_lt}
-use Rattle.vbi_words.specs.declared.system.System.{System}
-use Rattle.vbi_words.specs.Geometry.{width_of}
-use Rattle.vbi_words.specs.Levels.{Slicing}
-use Rattle.vbi_words.specs.Words.{halves_of}
-use Rattle.vbi_near.specs.Pictures.{drawn_as}
-use Rattle.vbi_near.specs.Distances.{Samples, most_of, distance_of, Shades, distance_from, IsPile}
-use Rattle.vbi_near.specs.StretchedCells.{stretched_offset, stretched_half, stretched_length, stretched_picture}
-use Rattle.vbi_near.specs.StretchedCells.{stretched_row_cost, IsLeastAt, IsStretched, IsAtRate, IsStartBefore}
-use Rattle.vbi_near.specs.StretchedCells.{IsRateBefore}
-use Rattle.vbi_near.specs.Sums.{AreBoth}
+use Rattle.vbi_near.proofs.Common.{System, width_of, Slicing, halves_of, drawn_as, Samples, most_of, distance_of}
+use Rattle.vbi_near.proofs.Common.{Shades, distance_from, IsPile, stretched_offset, stretched_half, stretched_length}
+use Rattle.vbi_near.proofs.Common.{stretched_picture, stretched_row_cost, IsLeastAt, IsStretched, IsAtRate}
+use Rattle.vbi_near.proofs.Common.{IsStartBefore, IsRateBefore, AreBoth}
 use Rattle.vbi_near.proofs.BestBits.{min_is}
 use Rattle.vbi_near.proofs.Costs.{many-halves, row-far, row-long}
 use Rattle.vbi_near.proofs.Piles.{levels-same}

@@ -7,11 +7,9 @@ use Rattle.std.specs.Int.{abs_diff}
 use Rattle.std.proofs.lemmas.Bool.{le-leb, lt-leb}
 use Rattle.std.proofs.lemmas.List.{take-map, drop-map, get_or-map, length-take-le, length-drop}
 use Rattle.std.proofs.lemmas.List.Sums.{sum_by-cons}
-use Rattle.vbi_words.specs.declared.system.System.{System}
-use Rattle.vbi_words.specs.Geometry.{width_of}
+use Rattle.vbi_near.proofs.Common.{System, width_of}
 use Rattle.vbi_near.specs.LevelledLines.{window_of, first_of, columns_of, window_sum, sum_from, off_mean, off_in}
-use Rattle.vbi_near.specs.LevelledLines.{swing_of}
-use Rattle.vbi_near.specs.LevelledLines.{levelled_sample, levelled_at, levelled_each, smoothed, levelled}
+use Rattle.vbi_near.specs.LevelledLines.{swing_of, levelled_sample, levelled_at, levelled_each, smoothed, levelled}
 use Rattle.vbi_near.specs.WorkedLevels.{raised}
 use Rattle.vbi_near.proofs.Levelling.{window_inside}
 

@@ -9,14 +9,10 @@ use Rattle.std.proofs.lemmas.Bool.{cases_lt, le-leb, lt-leb}
 use Rattle.std.proofs.lemmas.List.{ext_get_or, take-take, drop-take}
 use Rattle.std.proofs.lemmas.List.FromFn.{fill_by_all, sum_by-map-range_with_len_more}
 use Rattle.std.proofs.lemmas.List.Sums.{sum_by-take-drop, sum_by_more}
-use Rattle.vbi_words.specs.declared.system.System.{System}
-use Rattle.vbi_words.specs.Geometry.{width_of}
-use Rattle.vbi_words.specs.Levels.{Slicing, samples_of}
+use Rattle.vbi_near.proofs.Common.{System, width_of, Slicing, samples_of, sample_at}
 use Rattle.vbi_line.proofs.Slicing.{sample_of, length-samples_of}
-use Rattle.vbi_line.specs.Line.{sample_at}
 use Rattle.vbi_near.specs.LevelledLines.{window_of, first_of, end_of, window_start, window_sum, sum_from, off_mean}
-use Rattle.vbi_near.specs.LevelledLines.{off_in}
-use Rattle.vbi_near.specs.LevelledLines.{middle_of, levelled_unit, levelled_sample, filled, AreSampleSums}
+use Rattle.vbi_near.specs.LevelledLines.{off_in, middle_of, levelled_unit, levelled_sample, filled, AreSampleSums}
 use Rattle.vbi_near.specs.LevelledLines.{smoothed_sample, smoothed_after, smoothed}
 use Rattle.vbi_near.proofs.Inverse.{quotient-above, quotient-below}
 

@@ -1,3 +1,4 @@
+pub mod Common
 pub mod Inverse
 pub mod LevelledShift
 pub mod Levelling

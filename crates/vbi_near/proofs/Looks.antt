@@ -4,14 +4,8 @@ use Rattle.std.proofs.Common.{cond, eqb, ◌≡◌, ◌≢◌, ℕ, ◌≤◌, �
 use Rattle.std.proofs.Common.{List, [], ◌∷◌, length, get_or, take, refl, ap, subst}
 use Rattle.std.proofs.Math.Nat.{min-le_left, min-le_right}
 use Rattle.std.proofs.lemmas.Bool.{cases_lt}
-use Rattle.vbi_words.specs.declared.system.System.{System}
-use Rattle.vbi_words.specs.Words.{IsWord}
-use Rattle.vbi_near.specs.declared.word_search.Found.{Found}
-use Rattle.vbi_near.specs.Nearest.{IsBefore}
-use Rattle.vbi_near.specs.Leads.{Places, IsLead, IsAhead, Look, look, at_start, IsSeen, with_ranges, looks_before}
-use Rattle.vbi_near.specs.Leads.{all_codes}
-use Rattle.vbi_near.specs.Pictures.{starts}
-use Rattle.vbi_near.specs.LineCodes.{Range, range, IsOneOf}
+use Rattle.vbi_near.proofs.Common.{System, IsWord, Found, IsBefore, Places, IsLead, IsAhead, Look, look, at_start}
+use Rattle.vbi_near.proofs.Common.{IsSeen, with_ranges, looks_before, all_codes, starts, Range, range, IsOneOf}
 use Rattle.vbi_near.specs.Prices.{ranges_of}
 use Rattle.vbi_near.proofs.BestBits.{min_is}
 

@@ -1,7 +1,6 @@
 -- As far as a sample counts at most: all that proofs use of it.
 use Rattle.std.proofs.Common.{◌≤◌, ◌<◌, arith}
-use Rattle.vbi_words.specs.Levels.{Slicing}
-use Rattle.vbi_near.specs.Distances.{unit_of, most_of}
+use Rattle.vbi_near.proofs.Common.{Slicing, unit_of, most_of}
 
 -- no farther than white is from black
 pub most_of-within : (slicing : Slicing) → most_of slicing ≤ unit_of slicing

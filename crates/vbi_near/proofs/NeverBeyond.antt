@@ -5,27 +5,19 @@ use Rattle.std.proofs.Common.{subst, arith}
 use Rattle.std.specs.Prelude.{Option, Some, None, if◌then◌else◌}
 use Rattle.std.specs.List.{All}
 use Rattle.std.proofs.lemmas.Bool.{true≢false}
-use Rattle.vbi_words.specs.declared.system.System.{System}
-use Rattle.vbi_words.specs.declared.outcome.Outcome.{Outcome}
-use Rattle.vbi_words.specs.declared.outcome.Outcome.TheVariants.{Word, Blank, Unfinished, Change, Hold}
-use Rattle.vbi_words.specs.declared.outcome.Reading.{Reading}
-use Rattle.vbi_words.specs.Codes.{IsBetween}
+use Rattle.vbi_near.proofs.Common.{System, Outcome, Word, Blank, Unfinished, Change, Hold, Reading, IsBetween, Slicing}
+use Rattle.vbi_near.proofs.Common.{row_levels, Nears, is_beyond_79999, unit_of}
 use Rattle.vbi_words.specs.Outcomes.{word_of}
-use Rattle.vbi_words.specs.Levels.{Slicing, row_levels}
 use Rattle.vbi_words.specs.Readings.{Reads}
 use Rattle.vbi_line.proofs.OneReading.{is_reading}
-use Rattle.vbi_near.specs.declared.near.Nears.{Nears}
 use Rattle.vbi_near.specs.declared.recovery.Recovered.{Recovered}
 use Rattle.vbi_near.specs.declared.margins.Margins.{Margins}
 use Rattle.vbi_near.specs.declared.margins.MarginSet.{MarginSet}
 use Rattle.vbi_near.specs.declared.word_rule.Stand.{Stand}
 use Rattle.vbi_near.specs.declared.word_rule.Stand.TheVariants.{Alone, Apart, Together}
-use Rattle.vbi_near.specs.LineCodes.{is_beyond_79999}
-use Rattle.vbi_near.specs.Distances.{unit_of}
 use Rattle.vbi_near.specs.LevelledLines.{levelled_unit}
-use Rattle.vbi_near.specs.Margins.{levelled_margins}
+use Rattle.vbi_near.specs.Margins.{levelled_margins, given_margins}
 use Rattle.vbi_near.specs.WordRule.{said_if, unless_beyond, recovered_by, first_said, said_in}
-use Rattle.vbi_near.specs.Margins.{given_margins}
 use Rattle.vbi_near.specs.Candidates.{Candidates, Line}
 use Rattle.vbi_near.specs.Recovery.{Seen, IsSeen, Stands, alone, own_of, is_open, is_confirmed, stands_of, said_by}
 use Rattle.vbi_near.specs.Recovery.{stays, recovered_as, shown_in, IsRecovered}

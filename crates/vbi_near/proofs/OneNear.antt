@@ -2,15 +2,8 @@
 -- distance of its longer and its shorter rows. one_near and OneSeen stand on it.
 use Rattle.std.proofs.Common.{◌≡◌, ℕ, Bool, List, refl, sym, ◌∙◌, arith}
 use Rattle.std.specs.Prelude.{Option, Some, None}
-use Rattle.vbi_words.specs.declared.system.System.{System}
-use Rattle.vbi_words.specs.Levels.{Slicing}
-use Rattle.vbi_near.specs.declared.near.Near.{Near}
-use Rattle.vbi_near.specs.Pictures.{IsPlace}
-use Rattle.vbi_near.specs.Distances.{Samples}
-use Rattle.vbi_near.specs.Nearest.{IsNearest, IsNearestCode, IsFirst, IsFirstCode, Precedes}
-use Rattle.vbi_near.specs.LongerSignal.{HasLeastRow, IsLonger}
-use Rattle.vbi_near.specs.ShorterSignal.{IsShorter}
-use Rattle.vbi_near.specs.Rows.{IsNearOf}
+use Rattle.vbi_near.proofs.Common.{System, Slicing, Near, IsPlace, Samples, IsNearest, IsNearestCode, IsFirst}
+use Rattle.vbi_near.proofs.Common.{IsFirstCode, Precedes, HasLeastRow, IsLonger, IsShorter, IsNearOf}
 use Rattle.vbi_near.proofs.Chosen.{code-place}
 
 -- each comes before the other: they are one

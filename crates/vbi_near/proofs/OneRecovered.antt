@@ -2,10 +2,8 @@
 -- one_recovered stands on it.
 use Rattle.std.proofs.Common.{◌≡◌, ℕ, Bool, true, false, List, [], ◌∷◌, refl, sym, ap, ◌∙◌, subst}
 use Rattle.std.specs.Prelude.{IsTrue, if◌then◌else◌, ◌&&◌}
-use Rattle.vbi_words.specs.declared.system.System.{System}
-use Rattle.vbi_words.specs.Levels.{Slicing}
+use Rattle.vbi_near.proofs.Common.{System, Slicing, unit_of}
 use Rattle.vbi_near.specs.declared.recovery.Recovered.{Recovered}
-use Rattle.vbi_near.specs.Distances.{unit_of}
 use Rattle.vbi_near.specs.Candidates.{Line, Candidates}
 use Rattle.vbi_near.specs.Recovery.{Seen, IsSeen, IsRecovered, Stands, alone, is_open, own_of, are_open, stands_by}
 use Rattle.vbi_near.specs.Recovery.{said_by, recovered_as, recovered_of, field_line}

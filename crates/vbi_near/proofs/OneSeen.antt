@@ -2,17 +2,10 @@
 -- their own levels. is_confirmed stands on it, and Asked, Kept and OneRecovered.
 use Rattle.std.proofs.Common.{◌≡◌, ◌≢◌, ℕ, Bool, true, false, List, [], ◌∷◌, refl, sym, ap, ◌∙◌, subst, arith, ne_eqb}
 use Rattle.std.specs.Prelude.{Option, IsTrue}
-use Rattle.vbi_words.specs.declared.system.System.{System}
-use Rattle.vbi_words.specs.declared.outcome.Outcome.{Outcome}
-use Rattle.vbi_words.specs.declared.outcome.Outcome.TheVariants.{Word, Blank, Unfinished, Change, Hold}
-use Rattle.vbi_words.specs.declared.outcome.Reading.{Reading}
-use Rattle.vbi_words.specs.Levels.{Slicing}
+use Rattle.vbi_near.proofs.Common.{System, Outcome, Word, Blank, Unfinished, Change, Hold, Reading, Slicing, reading_of}
+use Rattle.vbi_near.proofs.Common.{Nears, Samples, IsLeastAt, IsStretched}
 use Rattle.vbi_words.specs.Readings.{reading_from}
-use Rattle.vbi_line.specs.OneReading.{reading_of}
 use Rattle.vbi_line.proofs.OneReading.{by_outcomes}
-use Rattle.vbi_near.specs.declared.near.Nears.{Nears}
-use Rattle.vbi_near.specs.Distances.{Samples}
-use Rattle.vbi_near.specs.StretchedCells.{IsLeastAt, IsStretched}
 use Rattle.vbi_near.specs.Candidates.{HasNear, Row, Line, Lines, Candidates, HasNearIf, AreOf, AreOfBoth, given_samples}
 use Rattle.vbi_near.specs.Candidates.{given_line, levelled_line, given_pair, levelled_pair}
 use Rattle.vbi_near.specs.Recovery.{Seen, IsSeen, is_asked, is_open, is_confirmed, own_by, own_of}

@@ -1,9 +1,7 @@
 -- What is said by a pile's own system and levels.
 use Rattle.std.proofs.Common.{subst}
-use Rattle.vbi_words.specs.declared.system.System.{System}
-use Rattle.vbi_words.specs.Levels.{Slicing}
+use Rattle.vbi_near.proofs.Common.{System, Slicing, Samples}
 use Rattle.vbi_near.specs.declared.pile.Pile.{Pile}
-use Rattle.vbi_near.specs.Distances.{Samples}
 use Rattle.vbi_near.specs.Pile.{IsPileOf}
 use Rattle.std.specs.Prelude.{List}
 

@@ -6,12 +6,9 @@ use Rattle.std.specs.Prelude.{◌&&◌, Option, Some}
 use Rattle.std.proofs.lemmas.List.{length-take-le, length-replicate}
 use Rattle.std.specs.List.{list_all, range_with_len}
 use Rattle.std.proofs.lemmas.List.FromFn.{map-range_with_len_more, length-map-range_with_len, get_or-map-range_with_len}
-use Rattle.vbi_words.specs.Geometry.{line_bytes}
-use Rattle.vbi_words.specs.declared.system.System.{System}
-use Rattle.vbi_words.specs.Levels.{Slicing}
+use Rattle.vbi_near.proofs.Common.{line_bytes, System, Slicing, unit_of}
 use Rattle.vbi_near.specs.declared.margins.Margins.{Margins}
 use Rattle.vbi_near.specs.WordRule.{recovered_by, first_said}
-use Rattle.vbi_near.specs.Distances.{unit_of}
 use Rattle.vbi_near.specs.Candidates.{Row, Candidates, swing_in, has_swing, are_alike_by}
 use Rattle.vbi_near.specs.LevelledLines.{is_swing, levelled_unit}
 use Rattle.vbi_near.specs.PileRule.{row_in, rows_in, are_all_alike, pile_margins, said_together}

@@ -4,14 +4,9 @@ use Rattle.std.proofs.Common.{◌≡◌, ℕ, suc, ◌<◌, ◌+◌, List, [], �
 use Rattle.std.proofs.Common.{Option}
 use Rattle.std.specs.List.{All}
 use Rattle.std.specs.Prelude.{None}
-use Rattle.vbi_words.specs.declared.system.System.{System}
-use Rattle.vbi_words.specs.Geometry.{width_of}
-use Rattle.vbi_words.specs.Levels.{Slicing}
-use Rattle.vbi_near.specs.Pictures.{IsPlace, picture_of, sample_of, drawn_as}
-use Rattle.vbi_near.specs.Distances.{Samples, most_of, off_by, row_distance, distance_of, Shades, shade, column_cost}
-use Rattle.vbi_near.specs.Distances.{distance_from, IsPile}
-use Rattle.vbi_near.specs.Nearest.{far_from}
-use Rattle.vbi_near.specs.LongerSignal.{IsLeastRow}
+use Rattle.vbi_near.proofs.Common.{System, width_of, Slicing, IsPlace, picture_of, sample_of, drawn_as, Samples}
+use Rattle.vbi_near.proofs.Common.{most_of, off_by, row_distance, distance_of, Shades, shade, column_cost}
+use Rattle.vbi_near.proofs.Common.{distance_from, IsPile, far_from, IsLeastRow}
 use Rattle.vbi_near.proofs.Columns.{length-picture}
 
 -- ---- one line

@@ -3,7 +3,7 @@
 use Rattle.std.proofs.Common.{◌≡◌, ℕ, ◌≤◌, ◌<◌, ◌+◌, ◌*◌, ◌^◌, arith, ap, ◌∙◌, add-one, pow-suc, get_or, take}
 use Rattle.std.proofs.Math.ListN.{replicate}
 use Rattle.std.proofs.lemmas.List.{get_or-take, get_or-replicate}
-use Rattle.vbi_near.specs.LineCodes.{AtEachPlace}
+use Rattle.vbi_near.proofs.Common.{AtEachPlace}
 
 pub at-place : (P : ℕ → Type 0) → AtEachPlace P → (place : ℕ) → place < 6 → P place
 at-place P all place l = grind arith

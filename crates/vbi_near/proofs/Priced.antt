@@ -2,14 +2,8 @@
 -- Prices::at and with_start_by stand on it, and Chosen.
 use Rattle.std.proofs.Common.{◌≡◌, ℕ, zero, suc, ◌<◌, ◌+◌, ◌-◌, ◌*◌, ◌/◌, ◌%◌, Bool, false, List, get_or, arith, ap}
 use Rattle.std.proofs.Common.{◌∙◌}
-use Rattle.vbi_words.specs.declared.system.System.{System}
-use Rattle.vbi_words.specs.Geometry.{width_of}
-use Rattle.vbi_words.specs.Words.{IsWord}
-use Rattle.vbi_near.specs.Pictures.{word_length}
-use Rattle.vbi_near.specs.Distances.{Shades}
-use Rattle.vbi_near.specs.Sums.{span}
-use Rattle.vbi_near.specs.Costs.{cell_cost, bits_cost, place_cost}
-use Rattle.vbi_near.specs.Leads.{digit_cost, digits_cost, IsDigitCost, ArePriced, code_cost}
+use Rattle.vbi_near.proofs.Common.{System, width_of, IsWord, word_length, Shades, span, cell_cost, bits_cost}
+use Rattle.vbi_near.proofs.Common.{place_cost, digit_cost, digits_cost, IsDigitCost, ArePriced, code_cost}
 
 -- four bits more
 four-more : (cost : ℕ → Bool → ℕ) (m w : ℕ)

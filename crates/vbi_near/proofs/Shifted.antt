@@ -7,10 +7,7 @@ use Rattle.std.proofs.Math.ListN.{replicate}
 use Rattle.std.proofs.lemmas.List.{length-replicate}
 use Rattle.std.proofs.lemmas.Bool.{leb-true}
 use Rattle.std.proofs.lemmas.Bool.Decides.{leb_tells, eqb_tells}
-use Rattle.vbi_words.specs.declared.system.System.{System}
-use Rattle.vbi_words.specs.declared.system.System.TheVariants.{Ntsc, Pal}
-use Rattle.vbi_words.specs.Jitter.{differences}
-use Rattle.vbi_near.specs.Pictures.{drawn_halves}
+use Rattle.vbi_near.proofs.Common.{System, Ntsc, Pal, differences, drawn_halves}
 use Rattle.vbi_near.specs.Apart.{picture_distance}
 use Rattle.vbi_near.proofs.Highs.{highs, differences-append, low-differs, cell_columns, cell_levels, length-cell}
 use Rattle.vbi_near.proofs.Highs.{bits_levels, bits-begin, cell-long}

@@ -4,20 +4,12 @@ use Rattle.std.proofs.Common.{◌≡◌, ◌≢◌, ℕ, zero, suc, ◌+◌, ◌
 use Rattle.std.proofs.Common.{false, List, [], ◌∷◌, refl, sym, ap, ◌∙◌, subst, arith}
 use Rattle.std.specs.Prelude.{Option, Some, None}
 use Rattle.std.proofs.lemmas.Bool.{cases_eq, cases_lt}
-use Rattle.vbi_words.specs.declared.system.System.{System}
-use Rattle.vbi_words.specs.Geometry.{width_of}
-use Rattle.vbi_words.specs.Levels.{Slicing}
-use Rattle.vbi_words.specs.Words.{IsWord}
-use Rattle.vbi_words.specs.Codes.{digit_of, IsBetween}
-use Rattle.vbi_near.specs.declared.near.Near.{Near}
-use Rattle.vbi_near.specs.LineCodes.{Range, IsIn, IsOneOf, codes_of, IsCodePlace}
-use Rattle.vbi_near.specs.Pictures.{IsPlace, drawn_as, starts, word_length}
-use Rattle.vbi_near.specs.Distances.{Samples, most_of, distance_of}
-use Rattle.vbi_near.specs.Nearest.{IsNearestBy, IsFirstBy, IsNearest, IsFirst, Precedes, far_from, IsNearestCode}
-use Rattle.vbi_near.specs.Nearest.{IsFirstCode}
-use Rattle.vbi_near.specs.LongerSignal.{GoesOn, IsLeastRow, HasLeastRow, IsLonger, cell_length, begun_earlier}
-use Rattle.vbi_near.specs.LongerSignal.{ended_later}
-use Rattle.vbi_near.specs.ShorterSignal.{begun_later, ended_earlier, row_of_halves, IsCutShort, IsShorter}
+use Rattle.vbi_near.proofs.Common.{System, width_of, Slicing, IsWord, digit_of, IsBetween, Near, Range, IsIn, IsOneOf}
+use Rattle.vbi_near.proofs.Common.{codes_of, IsCodePlace, IsPlace, drawn_as, starts, word_length, Samples, most_of}
+use Rattle.vbi_near.proofs.Common.{distance_of, IsNearestBy, IsFirstBy, IsNearest, IsFirst, Precedes, far_from}
+use Rattle.vbi_near.proofs.Common.{IsNearestCode, IsFirstCode, GoesOn, IsLeastRow, HasLeastRow, IsLonger, cell_length}
+use Rattle.vbi_near.proofs.Common.{begun_earlier, ended_later, begun_later, ended_earlier, row_of_halves, IsCutShort}
+use Rattle.vbi_near.proofs.Common.{IsShorter}
 use Rattle.vbi_near.proofs.Chosen.{code-place}
 use Rattle.vbi_near.proofs.Certain.{same_or_not, some_none, none_some}
 use Rattle.vbi_near.proofs.Columns.{word-fits}

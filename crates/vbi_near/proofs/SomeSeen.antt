@@ -2,22 +2,13 @@
 -- of any line. recover_rows, Asked and SomeRecovered stand on it.
 use Rattle.std.proofs.Common.{◌≡◌, ℕ, ◌+◌, ◌≤◌, Bool, true, false, List, [], ◌∷◌, refl, ap, subst, arith, min}
 use Rattle.std.specs.Prelude.{Option, Some, None}
-use Rattle.vbi_words.specs.declared.system.System.{System}
-use Rattle.vbi_words.specs.declared.outcome.Outcome.{Outcome}
-use Rattle.vbi_words.specs.declared.outcome.Outcome.TheVariants.{Word}
-use Rattle.vbi_words.specs.Geometry.{width_of}
-use Rattle.vbi_words.specs.Levels.{Slicing, row_levels}
-use Rattle.vbi_line.specs.OneReading.{reading_of, outcome_of}
-use Rattle.vbi_near.specs.declared.near.Nears.{Nears}
-use Rattle.vbi_near.specs.Pictures.{drawn_as}
-use Rattle.vbi_near.specs.Distances.{Samples, most_of, distance_of}
-use Rattle.vbi_near.specs.StretchedCells.{stretched_length, stretched_picture, IsLeastAt, IsAtRate, IsRateBefore}
-use Rattle.vbi_near.specs.StretchedCells.{IsStretchedPlace, IsStretched}
+use Rattle.vbi_near.proofs.Common.{System, Outcome, Word, width_of, Slicing, row_levels, reading_of, outcome_of, Nears}
+use Rattle.vbi_near.proofs.Common.{drawn_as, Samples, most_of, distance_of, stretched_length, stretched_picture}
+use Rattle.vbi_near.proofs.Common.{IsLeastAt, IsAtRate, IsRateBefore, IsStretchedPlace, IsStretched, halved_far}
+use Rattle.vbi_near.proofs.Common.{far_from}
 use Rattle.vbi_near.specs.Candidates.{HasNear, Row, Line, Lines, Candidates, HasNearIf, AreOf, AreOfBoth, given_samples}
 use Rattle.vbi_near.specs.Candidates.{given_line, levelled_line, given_pair, levelled_pair, has_swing, are_alike}
 use Rattle.vbi_near.specs.Recovery.{Seen, IsSeen}
-use Rattle.vbi_near.specs.HalvedSignal.{halved_far}
-use Rattle.vbi_near.specs.Nearest.{far_from}
 use Rattle.vbi_near.proofs.SomeNear.{some_near, some_near_code}
 use Rattle.vbi_near.proofs.Least.{found, at_most_told}
 use Rattle.vbi_near.proofs.LeastAt.{same-least, first_rate, rate-more}

@@ -6,17 +6,10 @@ use Rattle.std.proofs.Math.ListN.{replicate}
 use Rattle.std.specs.Prelude.{Some}
 use Rattle.std.proofs.Math.Nat.{add-mul}
 use Rattle.std.proofs.lemmas.List.{length-replicate, length-take-le, take_all, take_more}
-use Rattle.vbi_words.specs.declared.system.System.{System}
-use Rattle.vbi_words.specs.declared.system.System.TheVariants.{Ntsc, Pal}
-use Rattle.vbi_words.specs.Geometry.{start_of, width_of}
-use Rattle.vbi_words.specs.Drawn.{boundary}
-use Rattle.vbi_words.specs.Words.{halves_of}
-use Rattle.vbi_near.specs.Pictures.{half_length, word_length, picture_of}
-use Rattle.vbi_near.specs.StretchedCells.{stretched_half, stretched_length, stretched_picture, halves_with}
-use Rattle.vbi_near.specs.StretchedCells.{stretched_offset}
-use Rattle.vbi_near.specs.StretchedCells.{halves_cost, stretched_cost, stretched_word_cost, stretched_row_cost}
-use Rattle.vbi_near.specs.Distances.{Shades}
-use Rattle.vbi_near.specs.Sums.{span, total_in}
+use Rattle.vbi_near.proofs.Common.{System, Ntsc, Pal, start_of, width_of, boundary, halves_of, half_length, word_length}
+use Rattle.vbi_near.proofs.Common.{picture_of, stretched_half, stretched_length, stretched_picture, halves_with}
+use Rattle.vbi_near.proofs.Common.{stretched_offset, halves_cost, stretched_cost, stretched_word_cost}
+use Rattle.vbi_near.proofs.Common.{stretched_row_cost, Shades, span, total_in}
 use Rattle.vbi_near.proofs.Costs.{drawn-with, many-halves, halves_cost-append}
 use Rattle.vbi_near.proofs.CellsAt.{set-more}
 

@@ -8,10 +8,7 @@ use Rattle.std.proofs.lemmas.List.Elements.{All-take, All-drop}
 use Rattle.std.proofs.lemmas.List.Sums.{sum_by-le}
 use Rattle.std.proofs.lemmas.List.FromFn.{sum_by-map-range_with_len_more}
 use Rattle.std.proofs.Math.Nat.{div-le_of_le-mul}
-use Rattle.vbi_words.specs.declared.system.System.{System}
-use Rattle.vbi_words.specs.declared.system.System.TheVariants.{Ntsc, Pal}
-use Rattle.vbi_words.specs.Geometry.{width_of}
-use Rattle.vbi_words.specs.Levels.{samples_of}
+use Rattle.vbi_near.proofs.Common.{System, Ntsc, Pal, width_of, samples_of}
 use Rattle.vbi_line.proofs.Slicing.{sample_of, length-samples_of}
 use Rattle.vbi_near.specs.LevelledLines.{window_of, first_of, columns_of, off_mean, off_in, swing_of}
 

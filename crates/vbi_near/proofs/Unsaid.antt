@@ -4,21 +4,13 @@ use Rattle.std.proofs.Common.{◌≡◌, ◌≢◌, ℕ, ◌≤◌, ◌<◌, ◌
 use Rattle.std.proofs.Common.{◌∙◌, arith}
 use Rattle.std.proofs.lemmas.Bool.{cases_eq, cases_lt}
 use Rattle.std.specs.Prelude.{Option, Some, None, is_some, IsTrue}
-use Rattle.vbi_words.specs.Levels.{Slicing}
-use Rattle.vbi_words.specs.Words.{IsWord}
-use Rattle.vbi_near.specs.declared.word_search.Found.{Found}
-use Rattle.vbi_near.specs.declared.near.Near.{Near}
+use Rattle.vbi_near.proofs.Common.{Slicing, IsWord, Found, Near, Nears, Sums, starts, Samples, Shades, unit_of}
+use Rattle.vbi_near.proofs.Common.{Precedes, far_from, Range, codes_of, IsOneOf, IsCodePlace, IsSeen, with_ranges}
+use Rattle.vbi_near.proofs.Common.{all_codes, IsLead, IsClose, IsCodeChosen, shades_of, word_cost_by, code_cost_by}
+use Rattle.vbi_near.proofs.Common.{IsRowOf, IsNearCode}
 use Rattle.vbi_near.specs.declared.word_rule.Nearest.{Nearest}
-use Rattle.vbi_near.specs.declared.near.Nears.{Nears}
 use Rattle.vbi_near.specs.declared.margins.Margins.{Margins}
 use Rattle.vbi_near.specs.declared.line_search.Sought.{Sought}
-use Rattle.vbi_near.specs.declared.sums.Sums.{Sums}
-use Rattle.vbi_near.specs.Pictures.{starts}
-use Rattle.vbi_near.specs.Distances.{Samples, Shades, unit_of}
-use Rattle.vbi_near.specs.Nearest.{Precedes, far_from}
-use Rattle.vbi_near.specs.LineCodes.{Range, codes_of, IsOneOf, IsCodePlace}
-use Rattle.vbi_near.specs.Leads.{IsSeen, with_ranges, all_codes, IsLead, IsClose, IsCodeChosen}
-use Rattle.vbi_near.specs.Rows.{shades_of, word_cost_by, code_cost_by, IsRowOf, IsNearCode}
 use Rattle.vbi_near.specs.Candidates.{HasNear, Lines, some_lines}
 use Rattle.vbi_near.specs.WordRule.{close_limit, said_of}
 use Rattle.vbi_near.specs.LineSearch.{HasWord, IsSought}

@@ -1,7 +1,6 @@
 -- How far the pictures of two different words are apart at least, wherever they begin.
 use Rattle.std.specs.Prelude.{ℕ}
-use Rattle.vbi_words.specs.declared.system.System.{System}
-use Rattle.vbi_words.specs.declared.system.System.TheVariants.{Ntsc, Pal}
+use Rattle.vbi_near.specs.Common.{System, Ntsc, Pal}
 
 -- two pictures of different words, or one of a word and that of none, differ in this many columns at least: in those of
 -- a cell

@@ -1,7 +1,7 @@
 -- The best of some choices, and how much more the next one costs.
 use Rattle.std.specs.Prelude.{◌≡◌, ◌≢◌, ◌≤◌, ◌<◌, ◌⊎◌, ℕ, suc, ◌+◌, ◌^◌, Bool, true, false, min, Some, None, List}
 use Rattle.std.specs.Prelude.{slice_index_or}
-use Rattle.vbi_words.specs.Words.{IsWord}
+use Rattle.vbi_near.specs.Common.{IsWord}
 use Rattle.vbi_near.specs.declared.bits.Bits.{Bits}
 use Rattle.vbi_near.specs.declared.word_search.Found.{Found}
 use Rattle.vbi_near.specs.declared.near.Near.{Near}

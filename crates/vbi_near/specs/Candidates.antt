@@ -1,11 +1,8 @@
 -- The words that lines may have: those that are nearest to their samples, as they are and levelled.
-use Rattle.std.specs.Prelude.{◌≡◌, ℕ, ◌*◌, ◌&&◌, Bool, true, false, nat_le, List, [], ◌∷◌, Option, Some, None}
-use Rattle.std.specs.Prelude.{take, drop}
-use Rattle.vbi_words.specs.declared.system.System.{System}
-use Rattle.vbi_words.specs.Geometry.{width_of}
-use Rattle.vbi_words.specs.Levels.{Slicing, samples_of}
+use Rattle.std.specs.Prelude.{◌≡◌, ℕ, ◌*◌, ◌&&◌, Bool, true, false, nat_le, List, [], ◌∷◌, Option, Some, None, take}
+use Rattle.std.specs.Prelude.{drop}
+use Rattle.vbi_near.specs.Common.{System, width_of, Slicing, samples_of, Samples, unit_of, known_but}
 use Rattle.vbi_near.specs.declared.near.Nears.{Nears}
-use Rattle.vbi_near.specs.Distances.{Samples, unit_of, known_but}
 use Rattle.vbi_near.specs.Nearest.{IsNearest, IsFirst, IsNearestCode, IsFirstCode, far_from}
 use Rattle.vbi_near.specs.LongerSignal.{IsLonger}
 use Rattle.vbi_near.specs.ShorterSignal.{IsShorter}

@@ -1,8 +1,8 @@
 -- How far some lines are from a drawn row: the sum, over all their samples, of how far each is from the drawn one, or
 -- of the most that a sample counts if that is less. So a column counts once at most in each line, whatever a dropout
 -- leaves there.
-use Rattle.std.specs.Prelude.{◌≡◌, ◌≤◌, ◌<◌, ℕ, suc, ◌+◌, ◌-◌, ◌*◌, ◌/◌, min, Bool, true, false, List, [], ◌∷◌}
-use Rattle.std.specs.Prelude.{length, map, slice_index_or, Option, Some, None}
+use Rattle.std.specs.Prelude.{◌≡◌, ◌≤◌, ◌<◌, ℕ, suc, ◌+◌, ◌-◌, ◌*◌, ◌/◌, min, Bool, true, false, List, [], ◌∷◌, length}
+use Rattle.std.specs.Prelude.{map, slice_index_or, Option, Some, None}
 use Rattle.std.specs.List.{All, range_with_len}
 use Rattle.std.specs.Int.{abs_diff}
 use Rattle.vbi_words.specs.declared.system.System.{System}

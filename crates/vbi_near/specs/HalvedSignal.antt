@@ -1,11 +1,8 @@
 -- Signals of which half a word may be missing: rows on which its first twelve cells are black, or its last.
 use Rattle.std.specs.Prelude.{◌≡◌, ℕ, ◌+◌, ◌-◌, Bool, true, false, List, min, Option, Some, None}
-use Rattle.vbi_words.specs.declared.system.System.{System}
-use Rattle.vbi_words.specs.Geometry.{width_of}
-use Rattle.vbi_words.specs.Levels.{Slicing}
+use Rattle.vbi_near.specs.Common.{System, width_of, Slicing, word_length, drawn_as, Samples, most_of, distance_of}
+use Rattle.vbi_near.specs.Common.{Shades}
 use Rattle.vbi_near.specs.declared.near.Near.{Near}
-use Rattle.vbi_near.specs.Pictures.{word_length, drawn_as}
-use Rattle.vbi_near.specs.Distances.{Samples, most_of, distance_of, Shades}
 use Rattle.vbi_near.specs.Sums.{span}
 use Rattle.vbi_near.specs.Costs.{half_cost}
 use Rattle.vbi_near.specs.StretchedCells.{halves_cost}

@@ -1,19 +1,15 @@
 -- The nearest code by sums: digit by digit, range by range and start by start. The word 0 stands for none.
 use Rattle.std.specs.Prelude.{◌≡◌, ◌≢◌, ◌≤◌, ◌<◌, ◌⊎◌, ℕ, zero, suc, ◌+◌, ◌*◌, ◌/◌, ◌%◌, ◌^◌, Some, None, Bool, false}
 use Rattle.std.specs.Prelude.{List, [], ◌∷◌, nat_eq, slice_index_or}
-use Rattle.vbi_words.specs.declared.system.System.{System}
-use Rattle.vbi_words.specs.Geometry.{width_of}
+use Rattle.vbi_near.specs.Common.{System, width_of, Shades, IsWord, starts}
 use Rattle.vbi_near.specs.declared.bits.Bits.{Bits}
 use Rattle.vbi_near.specs.declared.codes.Choice.{Choice}
 use Rattle.vbi_near.specs.declared.word_search.Found.{Found}
 use Rattle.vbi_near.specs.declared.near.Near.{Near}
-use Rattle.vbi_near.specs.Distances.{Shades}
 use Rattle.vbi_near.specs.Sums.{span}
 use Rattle.vbi_near.specs.Costs.{place_cost}
-use Rattle.vbi_words.specs.Words.{IsWord}
 use Rattle.vbi_near.specs.LineCodes.{Range, IsIn, IsOneOf}
 use Rattle.vbi_near.specs.Nearest.{IsBefore}
-use Rattle.vbi_near.specs.Pictures.{starts}
 
 -- ---- digits
 

@@ -2,15 +2,11 @@
 -- white is above black on levels of their own, and the samples are smoothed. So the level of a signal may wander, and
 -- the signal may be weak or strong. In place of a mean stands the sum of its window, and what is compared with it is
 -- multiplied by the columns of the window.
-use Rattle.std.specs.Prelude.{◌≡◌, ◌≤◌, ◌<◌, ℕ, ◌+◌, ◌-◌, ◌*◌, ◌/◌, ◌&&◌, min, max, nat_le, if◌then◌else◌}
-use Rattle.std.specs.Prelude.{Bool, true, false, List, [], ◌∷◌, length, map, take, drop, slice_index}
+use Rattle.std.specs.Prelude.{◌≡◌, ◌≤◌, ◌<◌, ℕ, ◌+◌, ◌-◌, ◌*◌, ◌/◌, ◌&&◌, min, max, nat_le, if◌then◌else◌, Bool, true}
+use Rattle.std.specs.Prelude.{false, List, [], ◌∷◌, length, map, take, drop, slice_index}
 use Rattle.std.specs.List.{sum, range_with_len}
 use Rattle.std.specs.Int.{abs_diff}
-use Rattle.vbi_words.specs.declared.system.System.{System}
-use Rattle.vbi_words.specs.declared.system.System.TheVariants.{Ntsc, Pal}
-use Rattle.vbi_words.specs.Geometry.{width_of}
-use Rattle.vbi_words.specs.Levels.{Slicing}
-use Rattle.vbi_near.specs.Distances.{unit_of}
+use Rattle.vbi_near.specs.Common.{System, Ntsc, Pal, width_of, Slicing, unit_of}
 
 -- ---- the running mean
 

@@ -1,3 +1,4 @@
+pub mod Common
 pub mod Pictures
 pub mod Distances
 pub mod Sums

@@ -1,12 +1,7 @@
 -- The codes that may stand on a line, as ranges of words, and places of drawn rows of these alone.
-use Rattle.std.specs.Prelude.{◌≡◌, ◌≤◌, ◌⊎◌, ℕ, ◌+◌, List, [], ◌∷◌, Option, Some, None, ◌==◌, if◌then◌else◌}
-use Rattle.std.specs.Prelude.{Bool, ◌&&◌, nat_le}
-use Rattle.vbi_words.specs.declared.system.System.{System}
-use Rattle.vbi_words.specs.declared.system.System.TheVariants.{Ntsc, Pal}
-use Rattle.vbi_words.specs.Geometry.{width_of}
-use Rattle.vbi_words.specs.Words.{IsWord}
-use Rattle.vbi_words.specs.Codes.{digit_of, IsBetween}
-use Rattle.vbi_near.specs.Pictures.{word_length}
+use Rattle.std.specs.Prelude.{◌≡◌, ◌≤◌, ◌⊎◌, ℕ, ◌+◌, List, [], ◌∷◌, Option, Some, None, ◌==◌, if◌then◌else◌, Bool, ◌&&◌}
+use Rattle.std.specs.Prelude.{nat_le}
+use Rattle.vbi_near.specs.Common.{System, Ntsc, Pal, width_of, IsWord, digit_of, IsBetween, word_length}
 
 -- words whose six hexadecimal digits are each from that of the least to that of the greatest
 pub record Range : Type 0 where

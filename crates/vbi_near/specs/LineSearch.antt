@@ -1,11 +1,8 @@
 -- The nearest word of some lines, before their nearest code is sought.
 use Rattle.std.specs.Prelude.{◌≡◌, List, None}
-use Rattle.vbi_words.specs.declared.system.System.{System}
-use Rattle.vbi_words.specs.Levels.{Slicing}
+use Rattle.vbi_near.specs.Common.{System, Slicing, IsPlace, Samples, Shades}
 use Rattle.vbi_near.specs.declared.word_rule.Nearest.{Nearest}
 use Rattle.vbi_near.specs.declared.line_search.Sought.{Sought}
-use Rattle.vbi_near.specs.Pictures.{IsPlace}
-use Rattle.vbi_near.specs.Distances.{Samples, Shades}
 use Rattle.vbi_near.specs.Nearest.{far_from}
 use Rattle.vbi_near.specs.HalvedSignal.{IsHalved}
 use Rattle.vbi_near.specs.Rows.{IsRowOf, IsNearWord}

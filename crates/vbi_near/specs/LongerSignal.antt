@@ -1,13 +1,9 @@
 -- Signals that go on beyond a word: by one cell more, before its 24 or after them.
 use Rattle.std.specs.Prelude.{◌≡◌, ◌≤◌, ◌⊎◌, ℕ, ◌+◌, ◌-◌, Bool, false, List, ◌++◌, replicate, Option, Some, None}
-use Rattle.vbi_words.specs.declared.system.System.{System}
-use Rattle.vbi_words.specs.Geometry.{width_of}
-use Rattle.vbi_words.specs.Levels.{Slicing}
-use Rattle.vbi_words.specs.Words.{cell_of, halves_of}
+use Rattle.vbi_near.specs.Common.{System, width_of, Slicing, cell_of, halves_of, half_length, word_length, drawn_halves}
+use Rattle.vbi_near.specs.Common.{drawn_as, Samples, most_of, distance_of, Shades}
 use Rattle.vbi_near.specs.declared.word_search.Found.{Found}
 use Rattle.vbi_near.specs.declared.near.Near.{Near}
-use Rattle.vbi_near.specs.Pictures.{half_length, word_length, drawn_halves, drawn_as}
-use Rattle.vbi_near.specs.Distances.{Samples, most_of, distance_of, Shades}
 use Rattle.vbi_near.specs.Sums.{total_in}
 use Rattle.vbi_near.specs.Costs.{cell_cost}
 

@@ -1,9 +1,7 @@
 -- What the columns of some lines cost, as the program keeps it.
 use Rattle.std.specs.Prelude.{◌≡◌, List}
-use Rattle.vbi_words.specs.declared.system.System.{System}
-use Rattle.vbi_words.specs.Levels.{Slicing}
+use Rattle.vbi_near.specs.Common.{System, Slicing, Samples, IsPile, shades}
 use Rattle.vbi_near.specs.declared.pile.Pile.{Pile}
-use Rattle.vbi_near.specs.Distances.{Samples, IsPile, shades}
 
 -- the pile is of these lines
 pub record IsPileOf (system : System) (slicing : Slicing) (lines : List Samples) (pile : Pile) : Type 0 where

@@ -1,25 +1,17 @@
 -- The words of a field's three lines: those that its lines show, and if a line shows none, the word that its samples
 -- say (WordRule.antt): first the levelled ones, and if these say none, those as they are.
-use Rattle.std.specs.Prelude.{◌≡◌, ℕ, ◌+◌, ◌*◌, ◌==◌, ◌&&◌, ◌||◌, Bool, true, false, not, List, [], ◌∷◌}
-use Rattle.std.specs.Prelude.{replicate, nat_le, IsTrue, Option, Some, None, if◌then◌else◌}
-use Rattle.vbi_words.specs.declared.system.System.{System}
-use Rattle.vbi_words.specs.declared.outcome.Outcome.{Outcome}
-use Rattle.vbi_words.specs.declared.outcome.Outcome.TheVariants.{Word, Blank}
-use Rattle.vbi_words.specs.declared.outcome.Reading.{Reading}
-use Rattle.vbi_words.specs.Geometry.{width_of, line_at}
-use Rattle.vbi_words.specs.Levels.{Slicing, row_levels}
-use Rattle.vbi_line.specs.OneReading.{reading_of, outcome_of}
+use Rattle.std.specs.Prelude.{◌≡◌, ℕ, ◌+◌, ◌*◌, ◌==◌, ◌&&◌, ◌||◌, Bool, true, false, not, List, [], ◌∷◌, replicate}
+use Rattle.std.specs.Prelude.{nat_le, IsTrue, Option, Some, None, if◌then◌else◌}
+use Rattle.vbi_near.specs.Common.{System, Outcome, Word, Blank, Reading, width_of, line_at, Slicing, row_levels}
+use Rattle.vbi_near.specs.Common.{reading_of, outcome_of, unit_of}
 use Rattle.vbi_near.specs.declared.recovery.Recovered.{Recovered}
 use Rattle.vbi_near.specs.declared.near.Near.{Near}
 use Rattle.vbi_near.specs.declared.word_rule.PairNears.{PairNears}
 use Rattle.vbi_near.specs.declared.word_rule.Stand.{Stand}
 use Rattle.vbi_near.specs.declared.word_rule.Stand.TheVariants.{Alone}
-use Rattle.vbi_near.specs.Distances.{unit_of}
 use Rattle.vbi_near.specs.Margins.{levelled_margins, given_margins}
-use Rattle.vbi_near.specs.WordRule.{said_if, recovered_by, first_said, is_said, stand_of}
-use Rattle.vbi_near.specs.WordRule.{said_in}
-use Rattle.vbi_near.specs.Candidates.{Candidates, Row, Line, row_of, line_of, marks_at, given_samples}
-use Rattle.vbi_near.specs.Candidates.{AreOf, AreOfBoth}
+use Rattle.vbi_near.specs.WordRule.{said_if, recovered_by, first_said, is_said, stand_of, said_in}
+use Rattle.vbi_near.specs.Candidates.{Candidates, Row, Line, row_of, line_of, marks_at, given_samples, AreOf, AreOfBoth}
 use Rattle.vbi_near.specs.LevelledLines.{levelled_unit}
 use Rattle.vbi_near.specs.StretchedCells.{IsStretched}
 

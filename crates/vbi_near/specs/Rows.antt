@@ -1,12 +1,8 @@
 -- What a row costs by its sums.
 use Rattle.std.specs.Prelude.{ℕ, ◌+◌, ◌-◌, Bool, false, List, Option}
-use Rattle.vbi_words.specs.declared.system.System.{System}
-use Rattle.vbi_words.specs.Geometry.{width_of}
-use Rattle.vbi_words.specs.Levels.{Slicing}
+use Rattle.vbi_near.specs.Common.{System, width_of, Slicing, word_length, IsPlace, Samples, Shades, shades, IsPile}
 use Rattle.vbi_near.specs.declared.sums.Sums.{Sums}
 use Rattle.vbi_near.specs.declared.near.Near.{Near}
-use Rattle.vbi_near.specs.Pictures.{word_length, IsPlace}
-use Rattle.vbi_near.specs.Distances.{Samples, Shades, shades, IsPile}
 use Rattle.vbi_near.specs.Sums.{AreBoth, span}
 use Rattle.vbi_near.specs.Nearest.{IsNearestBy, IsFirstBy, far_from}
 use Rattle.vbi_near.specs.LineCodes.{codes_of, IsCodePlace}

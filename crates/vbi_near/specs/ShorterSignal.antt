@@ -2,14 +2,10 @@
 use Rattle.std.specs.Prelude.{◌≡◌, ◌⊎◌, ℕ, suc, ◌+◌, ◌-◌, ◌*◌, Bool, false, List, ◌++◌, replicate, take, drop, min}
 use Rattle.std.specs.Prelude.{nat_eq}
 use Rattle.std.specs.Int.{bit_at}
-use Rattle.vbi_words.specs.declared.system.System.{System}
-use Rattle.vbi_words.specs.Geometry.{width_of}
-use Rattle.vbi_words.specs.Levels.{Slicing}
-use Rattle.vbi_words.specs.Words.{halves_of}
+use Rattle.vbi_near.specs.Common.{System, width_of, Slicing, halves_of, word_length, drawn_halves, drawn_as, Samples}
+use Rattle.vbi_near.specs.Common.{most_of, distance_of, Shades}
 use Rattle.vbi_near.specs.declared.word_search.Found.{Found}
 use Rattle.vbi_near.specs.declared.near.Near.{Near}
-use Rattle.vbi_near.specs.Pictures.{word_length, drawn_halves, drawn_as}
-use Rattle.vbi_near.specs.Distances.{Samples, most_of, distance_of, Shades}
 use Rattle.vbi_near.specs.Costs.{half_cost, cell_cost}
 use Rattle.vbi_near.specs.LongerSignal.{HasLeastRow}
 

@@ -1,15 +1,14 @@
 -- Lines that say nothing, known before their nearest code is: their nearest word isn't said, and each code is farther
 -- than one that is said may be, or not far enough ahead of another.
-use Rattle.std.specs.Prelude.{◌≡◌, ◌≤◌, ◌<◌, ◌⊎◌, ℕ, ◌&&◌, Bool, false, IsTrue, is_some, nat_le}
-use Rattle.std.specs.Prelude.{List, Option, Some, None}
-use Rattle.vbi_words.specs.Levels.{Slicing}
+use Rattle.std.specs.Prelude.{◌≡◌, ◌≤◌, ◌<◌, ◌⊎◌, ℕ, ◌&&◌, Bool, false, IsTrue, is_some, nat_le, List, Option, Some}
+use Rattle.std.specs.Prelude.{None}
+use Rattle.vbi_near.specs.Common.{Slicing, Samples, Shades, unit_of}
 use Rattle.vbi_near.specs.declared.word_search.Found.{Found}
 use Rattle.vbi_near.specs.declared.near.Near.{Near}
 use Rattle.vbi_near.specs.declared.word_rule.Nearest.{Nearest}
 use Rattle.vbi_near.specs.declared.near.Nears.{Nears}
 use Rattle.vbi_near.specs.declared.margins.Margins.{Margins}
 use Rattle.vbi_near.specs.declared.sums.Sums.{Sums}
-use Rattle.vbi_near.specs.Distances.{Samples, Shades, unit_of}
 use Rattle.vbi_near.specs.LineCodes.{codes_of, IsOneOf}
 use Rattle.vbi_near.specs.Leads.{Look, IsSeen, all_codes, IsLead, IsClose}
 use Rattle.vbi_near.specs.Rows.{word_cost_by, code_cost_by, IsRowOf, IsNearCode}

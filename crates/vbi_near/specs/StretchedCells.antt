@@ -1,12 +1,7 @@
 -- Words drawn on cells of other lengths.
 use Rattle.std.specs.Prelude.{◌≡◌, ◌≤◌, ◌<◌, ℕ, suc, ◌+◌, ◌-◌, ◌*◌, ◌/◌, Bool, false, List, [], ◌∷◌, ◌++◌, replicate}
-use Rattle.vbi_words.specs.declared.system.System.{System}
-use Rattle.vbi_words.specs.declared.system.System.TheVariants.{Ntsc, Pal}
-use Rattle.vbi_words.specs.Geometry.{width_of}
-use Rattle.vbi_words.specs.Levels.{Slicing}
-use Rattle.vbi_words.specs.Words.{halves_of}
-use Rattle.vbi_near.specs.Pictures.{drawn_as}
-use Rattle.vbi_near.specs.Distances.{Samples, most_of, distance_of, Shades}
+use Rattle.vbi_near.specs.Common.{System, Ntsc, Pal, width_of, Slicing, halves_of, drawn_as, Samples, most_of}
+use Rattle.vbi_near.specs.Common.{distance_of, Shades}
 use Rattle.vbi_near.specs.Sums.{span}
 
 -- ---- rows

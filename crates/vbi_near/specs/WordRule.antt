@@ -3,8 +3,8 @@
 --
 -- All that is compared are sums of how far samples are off. A margin of this many columns is as much as white and black
 -- are off from each other in this many columns: `unit` is that of one column.
-use Rattle.std.specs.Prelude.{ℕ, ◌+◌, ◌*◌, ◌==◌, ◌&&◌, ◌||◌, Bool, false, not, is_some, nat_le, nat_lt}
-use Rattle.std.specs.Prelude.{Option, Some, None, if◌then◌else◌}
+use Rattle.std.specs.Prelude.{ℕ, ◌+◌, ◌*◌, ◌==◌, ◌&&◌, ◌||◌, Bool, false, not, is_some, nat_le, nat_lt, Option, Some}
+use Rattle.std.specs.Prelude.{None, if◌then◌else◌}
 use Rattle.vbi_near.specs.declared.near.Near.{Near}
 use Rattle.vbi_near.specs.declared.word_rule.Nearest.{Nearest}
 use Rattle.vbi_near.specs.declared.near.Nears.{Nears}

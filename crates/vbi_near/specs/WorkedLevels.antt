@@ -1,9 +1,7 @@
 -- Lines written down, whose samples are low and high in turn.
 use Rattle.std.specs.Prelude.{ℕ, ◌+◌, ◌*◌, ◌%◌, List, map, nat_lt, if◌then◌else◌}
 use Rattle.std.specs.List.{range_with_len}
-use Rattle.vbi_words.specs.declared.system.System.{System}
-use Rattle.vbi_words.specs.Geometry.{width_of}
-use Rattle.vbi_words.specs.Levels.{Slicing}
+use Rattle.vbi_near.specs.Common.{System, width_of, Slicing}
 
 -- the levels of a line
 abbrev pub slicing_at : ℕ → ℕ → Slicing

@@ -1,8 +1,7 @@
 -- Nearest words written down, with the numbers of the rule at their limits. White is 100 above black, and what is
 -- written down of levelled lines is in hundredths of theirs, too.
 use Rattle.std.specs.Prelude.{ℕ, ◌≡◌, ◌+◌, ◌*◌, ◌/◌, List, map, Option, Some, None}
-use Rattle.vbi_words.specs.declared.outcome.Outcome.{Outcome}
-use Rattle.vbi_words.specs.declared.outcome.Outcome.TheVariants.{Word, Unfinished, Change}
+use Rattle.vbi_near.specs.Common.{Outcome, Word, Unfinished, Change}
 use Rattle.vbi_words.specs.Outcomes.{word_of}
 use Rattle.vbi_near.specs.declared.near.Near.{Near}
 use Rattle.vbi_near.specs.declared.near.Nears.{Nears}

@@ -4,15 +4,14 @@
 //! may say one by some margins (silence.rt). A levelled row is searched as any other, on the levels of levelled lines.
 
 ghost use Rattle.std.specs.Prelude.{◌≡◌, ◌∷◌, [], length, replicate, IsTrue};
-ghost use Rattle.vbi_words.specs.Geometry.{line_bytes};
-ghost use Rattle.vbi_words.specs.Levels.{samples_of};
+ghost use Rattle.vbi_near.specs.Common.{line_bytes, samples_of};
 ghost use Rattle.vbi_near.specs.Lines.{row_in, line_in, second_in, third_in};
 ghost use Rattle.vbi_near.specs.LevelledLines.{levelled};
 ghost use Rattle.vbi_near.specs.Pile.{IsPileOf};
 ghost use Rattle.vbi_near.specs.Silence.{HasNearUnlessSilent};
 ghost use Rattle.vbi_near.specs.StretchedCells.{IsStretched};
-ghost use Rattle.vbi_near.specs.Candidates.{HasNear, given_line, given_pair};
-ghost use Rattle.vbi_near.specs.Candidates.{given_samples, filled_samples, swing_in, has_swing, are_alike_by};
+ghost use Rattle.vbi_near.specs.Candidates.{HasNear, given_line, given_pair, given_samples, filled_samples, swing_in};
+ghost use Rattle.vbi_near.specs.Candidates.{has_swing, are_alike_by};
 
 use crate::levelled_lines::{Summed, fill, is_swing, level, sum_samples, swing};
 use crate::lines::{Line, Pair};

@@ -10,18 +10,15 @@
 //! of all words is as near there. Of words that are as near, the one that begins first is kept, and of these the least
 //! (order.rt), whatever the order of the search.
 
-ghost use Rattle.std.specs.Prelude.{◌≡◌, ℕ, suc, ◌+◌, ◌*◌, ◌^◌, ◌≤◌, ◌<◌, List, []};
-ghost use Rattle.std.specs.Prelude.{length, slice_index, slice_index_or};
-ghost use Rattle.vbi_words.specs.Geometry.{width_of};
-ghost use Rattle.vbi_words.specs.Codes.{digit_of};
-ghost use Rattle.vbi_words.specs.Words.{IsWord};
-ghost use Rattle.vbi_near.specs.Pictures.{word_length, starts};
+ghost use Rattle.std.specs.Prelude.{◌≡◌, ℕ, suc, ◌+◌, ◌*◌, ◌^◌, ◌≤◌, ◌<◌, List, [], length, slice_index};
+ghost use Rattle.std.specs.Prelude.{slice_index_or};
+ghost use Rattle.vbi_near.specs.Common.{width_of, digit_of, IsWord, word_length, starts};
 ghost use Rattle.vbi_near.specs.Rows.{word_cost_by, code_cost_by};
 ghost use Rattle.vbi_near.specs.LineCodes.{range, codes_of, digit_at, IsRange};
 ghost use Rattle.vbi_near.specs.Prices.{IsPricedBy, ranges_of, IsRangeAt};
 ghost use Rattle.vbi_near.specs.Best.{AreBounds};
-ghost use Rattle.vbi_near.specs.Leads.{IsChoice, AreBest, at_start, Look};
-ghost use Rattle.vbi_near.specs.Leads.{IsSeen, with_ranges, all_codes, IsLead, IsFew, IsClose};
+ghost use Rattle.vbi_near.specs.Leads.{IsChoice, AreBest, at_start, Look, IsSeen, with_ranges, all_codes, IsLead};
+ghost use Rattle.vbi_near.specs.Leads.{IsFew, IsClose};
 
 use crate::bits::Bits;
 use crate::order::{nearer_lead, needs_look};

@@ -1,9 +1,7 @@
 //! The columns of a word's half cells.
 
 ghost use Rattle.std.specs.Prelude.{◌≡◌, ◌+◌, ◌≤◌};
-ghost use Rattle.vbi_words.specs.Geometry.{width_of, start_of};
-ghost use Rattle.vbi_words.specs.Drawn.{boundary};
-ghost use Rattle.vbi_near.specs.Pictures.{column_of, word_length};
+ghost use Rattle.vbi_near.specs.Common.{width_of, start_of, boundary, column_of, word_length};
 
 use vbi_words::System;
 

@@ -1,14 +1,10 @@
 //! Laws of levelled lines, as rows written down. A function here does nothing: its contract holds each number.
 
 ghost use Rattle.std.specs.Prelude.{◌≡◌, ℕ, ◌+◌, ◌∷◌, [], List, length, map, slice_index, true, false};
-ghost use Rattle.vbi_words.specs.declared.system.System.{System};
-ghost use Rattle.vbi_words.specs.declared.system.System.TheVariants.{Ntsc, Pal};
-ghost use Rattle.vbi_words.specs.Geometry.{width_of};
-ghost use Rattle.vbi_words.specs.Levels.{Slicing};
+ghost use Rattle.vbi_near.specs.Common.{System, Ntsc, Pal, width_of, Slicing};
 ghost use Rattle.vbi_near.specs.LevelledLines.{window_of, first_of, end_of, window_start, swing_of, is_swing};
 ghost use Rattle.vbi_near.specs.LevelledLines.{middle_of, levelled_unit, levelled_slicing, levelled_sample};
-ghost use Rattle.vbi_near.specs.LevelledLines.{levelled_each};
-ghost use Rattle.vbi_near.specs.LevelledLines.{smoothed, levelled, filled};
+ghost use Rattle.vbi_near.specs.LevelledLines.{levelled_each, smoothed, levelled, filled};
 ghost use Rattle.vbi_near.specs.WorkedLevels.{slicing_at, wave, raised, climbing};
 
 /// The columns of windows. No window begins before the columns of words, or ends after them.

@@ -21,15 +21,11 @@
 
 ghost use Rattle.std.specs.Prelude.{◌≡◌, ◌≢◌, ℕ, ◌+◌, ◌*◌, ◌/◌, ◌^◌, ◌≤◌, ◌<◌, min, length, slice_index, IsTrue};
 ghost use Rattle.std.specs.Prelude.{IsFalse};
-ghost use Rattle.vbi_words.specs.Geometry.{width_of, line_bytes};
-ghost use Rattle.vbi_words.specs.Levels.{samples_of};
-ghost use Rattle.vbi_line.specs.Line.{sample_at};
+ghost use Rattle.vbi_near.specs.Common.{width_of, line_bytes, samples_of, sample_at};
 ghost use Rattle.vbi_near.specs.LevelledLines.{window_of, first_of, end_of, window_start, sum_from, window_sum};
-ghost use Rattle.vbi_near.specs.LevelledLines.{swing_of};
-ghost use Rattle.vbi_near.specs.LevelledLines.{is_swing};
-ghost use Rattle.vbi_near.specs.LevelledLines.{middle_of, levelled_sample, levelled_each, smoothed_sample, smoothed};
-ghost use Rattle.vbi_near.specs.LevelledLines.{levelled};
-ghost use Rattle.vbi_near.specs.LevelledLines.{levelled_unit, levelled_slicing, filled, AreSampleSums, AreWindows};
+ghost use Rattle.vbi_near.specs.LevelledLines.{swing_of, is_swing, middle_of, levelled_sample, levelled_each};
+ghost use Rattle.vbi_near.specs.LevelledLines.{smoothed_sample, smoothed, levelled, levelled_unit, levelled_slicing};
+ghost use Rattle.vbi_near.specs.LevelledLines.{filled, AreSampleSums, AreWindows};
 
 use crate::near::WIDEST;
 use vbi_words::{Levels, System};

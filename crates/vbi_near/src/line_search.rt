@@ -1,11 +1,8 @@
 //! Lines whose nearest word was found, and the search for their nearest code, which takes up where that ended.
 
 ghost use Rattle.std.specs.Prelude.{◌≡◌, ◌<◌, length, List};
-ghost use Rattle.vbi_words.specs.Geometry.{width_of};
-ghost use Rattle.vbi_words.specs.Levels.{Slicing};
+ghost use Rattle.vbi_near.specs.Common.{width_of, Slicing, Samples, IsPile, AreFew, shades, starts};
 ghost use Rattle.vbi_near.specs.Candidates.{HasNear, some_lines};
-ghost use Rattle.vbi_near.specs.Distances.{Samples, IsPile, AreFew, shades};
-ghost use Rattle.vbi_near.specs.Pictures.{starts};
 ghost use Rattle.vbi_near.specs.Rows.{word_cost_by};
 ghost use Rattle.vbi_near.specs.Best.{AreBounds};
 
@@ -33,7 +30,7 @@ pub(crate) struct Sought<'a> {
 }
 
 impl<'a> Sought<'a> {
-    ghost use Rattle.vbi_near.specs.Distances.{Shades};
+    ghost use Rattle.vbi_near.specs.Common.{Shades};
     ghost use Rattle.vbi_near.specs.Rows.{IsRowOf};
     ghost use Rattle.vbi_near.specs.LineSearch.{IsSought};
 

@@ -1,7 +1,7 @@
 //! Lines whose words are sought.
 
 ghost use Rattle.std.specs.Prelude.{◌≡◌, ◌+◌, ◌*◌, ◌≤◌, ◌<◌, length};
-ghost use Rattle.vbi_words.specs.Geometry.{line_bytes, line_at, width_of};
+ghost use Rattle.vbi_near.specs.Common.{line_bytes, line_at, width_of};
 ghost use Rattle.vbi_near.specs.Candidates.{marks_at};
 
 use vbi_words::{Levels, System};

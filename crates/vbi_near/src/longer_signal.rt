@@ -1,8 +1,7 @@
 //! Signals that go on beyond a word.
 
 ghost use Rattle.std.specs.Prelude.{◌≡◌, ℕ, ◌+◌, ◌^◌, ◌≤◌, ◌<◌, Bool, true, false, min};
-ghost use Rattle.vbi_words.specs.Geometry.{width_of};
-ghost use Rattle.vbi_near.specs.Pictures.{starts};
+ghost use Rattle.vbi_near.specs.Common.{width_of, starts};
 ghost use Rattle.vbi_near.specs.Sums.{total_in};
 ghost use Rattle.vbi_near.specs.Rows.{shades_of, cell_cost_by, word_cost_by};
 ghost use Rattle.vbi_near.specs.LongerSignal.{cell_length, IsLongerFound};

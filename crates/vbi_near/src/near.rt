@@ -25,13 +25,10 @@
 //! stands in `specs/WordRule.antt`.
 
 ghost use Rattle.std.specs.Prelude.{◌≡◌, ◌^◌, ◌≤◌, ◌<◌, length, List};
-ghost use Rattle.vbi_words.specs.Geometry.{width_of};
-ghost use Rattle.vbi_words.specs.Words.{IsWord};
-ghost use Rattle.vbi_near.specs.Pictures.{starts, IsPlace};
-ghost use Rattle.vbi_words.specs.Levels.{Slicing};
+ghost use Rattle.vbi_near.specs.Common.{width_of, IsWord, starts, IsPlace, Slicing, Samples, Shades, IsPile, AreFew};
+ghost use Rattle.vbi_near.specs.Common.{shades};
 ghost use Rattle.vbi_near.specs.Rows.{word_cost_by, IsRowOf, IsNearWord};
 ghost use Rattle.vbi_near.specs.Best.{IsFound, IsChosen};
-ghost use Rattle.vbi_near.specs.Distances.{Samples, Shades, IsPile, AreFew, shades};
 ghost use Rattle.vbi_near.specs.Nearest.{IsNearest, IsFirst};
 ghost use Rattle.vbi_near.specs.LongerSignal.{IsLonger};
 ghost use Rattle.vbi_near.specs.ShorterSignal.{IsShorter};

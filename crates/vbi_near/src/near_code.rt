@@ -1,13 +1,10 @@
 //! The nearest of the codes that may stand on a line, or none.
 
 ghost use Rattle.std.specs.Prelude.{◌≡◌, ◌<◌, ◌⊎◌, length, List};
-ghost use Rattle.vbi_words.specs.Levels.{Slicing};
-ghost use Rattle.vbi_words.specs.Words.{IsWord};
-ghost use Rattle.vbi_near.specs.Pictures.{starts, IsPlace};
+ghost use Rattle.vbi_near.specs.Common.{Slicing, IsWord, starts, IsPlace, Samples, Shades};
 ghost use Rattle.vbi_near.specs.Rows.{word_cost_by, IsRowOf, IsNearCode};
 ghost use Rattle.vbi_near.specs.Best.{AreBounds};
 ghost use Rattle.vbi_near.specs.Leads.{IsCodeChosen};
-ghost use Rattle.vbi_near.specs.Distances.{Samples, Shades};
 
 use crate::codes::nearest_code;
 use crate::longer_signal::longer_distance;

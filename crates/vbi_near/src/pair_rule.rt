@@ -8,7 +8,7 @@
 ghost use Rattle.std.specs.Prelude.{None, IsTrue};
 ghost use Rattle.vbi_near.specs.declared.word_rule.PairNears.{PairNears};
 ghost use Rattle.vbi_near.specs.Lines.{line_in, second_in, third_in};
-ghost use Rattle.vbi_near.specs.Distances.{unit_of};
+ghost use Rattle.vbi_near.specs.Common.{unit_of};
 ghost use Rattle.vbi_near.specs.LevelledLines.{levelled_unit};
 ghost use Rattle.vbi_near.specs.Margins.{levelled_margins};
 ghost use Rattle.vbi_near.specs.Silence.{HasNearIfUnlessSilent};

@@ -2,11 +2,8 @@
 //! more than a sample counts at most.
 
 ghost use Rattle.std.specs.Prelude.{◌≡◌, ℕ, ◌+◌, ◌*◌, ◌≤◌, ◌<◌, ◌∷◌, ◌++◌, [], length, take, List};
-ghost use Rattle.vbi_words.specs.declared.system.System.{System};
-ghost use Rattle.vbi_words.specs.Geometry.{line_bytes, width_of};
-ghost use Rattle.vbi_words.specs.Levels.{Slicing, samples_of};
-ghost use Rattle.vbi_line.specs.Line.{sample_at};
-ghost use Rattle.vbi_near.specs.Distances.{Samples, lines_of, known_but, most_of, IsPile, AreFew, shades};
+ghost use Rattle.vbi_near.specs.Common.{System, line_bytes, width_of, Slicing, samples_of, sample_at, Samples};
+ghost use Rattle.vbi_near.specs.Common.{lines_of, known_but, most_of, IsPile, AreFew, shades};
 ghost use Rattle.vbi_near.specs.Nearest.{IsNearest, IsFirst};
 ghost use Rattle.vbi_near.specs.LongerSignal.{IsLonger};
 ghost use Rattle.vbi_near.specs.ShorterSignal.{IsShorter};

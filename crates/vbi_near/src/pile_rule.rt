@@ -2,7 +2,7 @@
 
 ghost use Rattle.std.specs.Prelude.{◌≡◌, ◌*◌, ◌≤◌, ◌-◌, length, map};
 ghost use Rattle.std.specs.List.{list_all};
-ghost use Rattle.vbi_words.specs.Geometry.{line_bytes, width_of};
+ghost use Rattle.vbi_near.specs.Common.{line_bytes, width_of};
 ghost use Rattle.vbi_near.specs.Candidates.{HasNear, HasNearIf, are_alike_by, given_samples, levelled_samples};
 ghost use Rattle.vbi_near.specs.Candidates.{some_lines};
 ghost use Rattle.vbi_near.specs.LevelledLines.{levelled_slicing};

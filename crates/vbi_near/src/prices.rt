@@ -1,8 +1,7 @@
 //! What the digits of a word cost that begins at a column.
 
 ghost use Rattle.std.specs.Prelude.{◌≡◌, ℕ, ◌+◌, ◌*◌, ◌^◌, ◌≤◌, ◌<◌, Bool, true, false, length, slice_index};
-ghost use Rattle.vbi_words.specs.Geometry.{width_of};
-ghost use Rattle.vbi_near.specs.Pictures.{word_length};
+ghost use Rattle.vbi_near.specs.Common.{width_of, word_length};
 ghost use Rattle.vbi_near.specs.Leads.{bit_in, IsDigitCost};
 ghost use Rattle.vbi_near.specs.Rows.{cell_cost_by, code_cost_by};
 

@@ -18,15 +18,11 @@
 //! that a call answers as the definitions do by whatever nearest words the lines have: there is one of each.
 
 ghost use Rattle.std.specs.Prelude.{◌≡◌, ℕ, ◌+◌, ◌*◌, ◌&&◌, List, ◌∷◌, [], length, IsTrue};
-ghost use Rattle.vbi_words.specs.Geometry.{line_bytes, width_of};
-ghost use Rattle.vbi_words.specs.Levels.{row_levels};
-ghost use Rattle.vbi_line.specs.OneReading.{reading_of};
-ghost use Rattle.vbi_near.specs.Distances.{unit_of};
+ghost use Rattle.vbi_near.specs.Common.{line_bytes, width_of, row_levels, reading_of, unit_of};
 ghost use Rattle.vbi_near.specs.Candidates.{Candidates, AreOf, AreOfBoth};
 ghost use Rattle.vbi_near.specs.Lines.{line_in, second_in, third_in};
-ghost use Rattle.vbi_near.specs.Recovery.{Seen, own_of, is_open, are_open, stands_by, stands_of, said_by};
-ghost use Rattle.vbi_near.specs.Recovery.{recovered_as, IsSeen, IsOwn, IsRecovered, IsKept};
-ghost use Rattle.vbi_near.specs.Recovery.{row_reading, alone, shown_in};
+ghost use Rattle.vbi_near.specs.Recovery.{Seen, own_of, is_open, are_open, stands_by, stands_of, said_by, recovered_as};
+ghost use Rattle.vbi_near.specs.Recovery.{IsSeen, IsOwn, IsRecovered, IsKept, row_reading, alone, shown_in};
 
 use crate::line_rule::{is_confirmed, recovered_alone};
 use crate::lines::{Line, Pair, Rows};

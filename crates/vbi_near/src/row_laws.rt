@@ -1,12 +1,8 @@
 //! Laws of rows on which a word is cut short, or its cells have other lengths. A function here does nothing.
 
 ghost use Rattle.std.specs.Prelude.{◌≡◌, ℕ, ◌+◌, false, List, [], ◌∷◌, map, Some};
-ghost use Rattle.vbi_words.specs.declared.system.System.{System};
-ghost use Rattle.vbi_words.specs.declared.system.System.TheVariants.{Ntsc, Pal};
-ghost use Rattle.vbi_words.specs.Geometry.{start_of};
-ghost use Rattle.vbi_words.specs.Drawn.{boundary};
+ghost use Rattle.vbi_near.specs.Common.{System, Ntsc, Pal, start_of, boundary, picture_of};
 ghost use Rattle.vbi_words.specs.WorkedLines.{changing};
-ghost use Rattle.vbi_near.specs.Pictures.{picture_of};
 ghost use Rattle.vbi_near.specs.ShorterSignal.{begun_later, ended_earlier, row_of_halves};
 ghost use Rattle.vbi_near.specs.StretchedCells.{stretched_length, stretched_offset, stretched_picture};
 

@@ -4,16 +4,15 @@
 ghost use Rattle.std.specs.Prelude.{◌≡◌, ◌∷◌, [], Some, None, map, true, false};
 ghost use Rattle.vbi_near.specs.PileRule.{said_together};
 ghost use Rattle.vbi_near.specs.Candidates.{are_alike_by};
-ghost use Rattle.vbi_near.specs.WorkedRules.{code_beside, beyond_at, beyond_beside};
-ghost use Rattle.vbi_words.specs.declared.outcome.Outcome.TheVariants.{Word, Blank, Change};
+ghost use Rattle.vbi_near.specs.WorkedRules.{code_beside, beyond_at, beyond_beside, near_with, cut_at, as_code};
+ghost use Rattle.vbi_near.specs.WorkedRules.{as_other, beside, from_none, ten_ahead, code_halved_at, other_halved_at};
+ghost use Rattle.vbi_near.specs.WorkedRules.{code_ahead, other_ahead, close_code_ahead, far_from_none, as_given};
+ghost use Rattle.vbi_near.specs.WorkedRules.{levelled_as, worn_by, worn, smoothed_by, smoothed_at, smoothed, read_as};
+ghost use Rattle.vbi_near.specs.WorkedRules.{both_at, together_at, Shows};
+ghost use Rattle.vbi_near.specs.Common.{Word, Blank, Change};
 ghost use Rattle.vbi_near.specs.Margins.{levelled_margins, given_margins};
 ghost use Rattle.vbi_near.specs.WordRule.{said_of, unless_beyond};
 ghost use Rattle.vbi_near.specs.Recovery.{recovered_of};
-ghost use Rattle.vbi_near.specs.WorkedRules.{near_with, cut_at, as_code, as_other, beside, from_none, ten_ahead};
-ghost use Rattle.vbi_near.specs.WorkedRules.{code_halved_at, other_halved_at, code_ahead, other_ahead};
-ghost use Rattle.vbi_near.specs.WorkedRules.{close_code_ahead, far_from_none};
-ghost use Rattle.vbi_near.specs.WorkedRules.{as_given, levelled_as, worn_by, worn};
-ghost use Rattle.vbi_near.specs.WorkedRules.{smoothed_by, smoothed_at, smoothed, read_as, both_at, together_at, Shows};
 
 /// What a nearest word has to be beside that: close to the nearest word if it is a code, and all there.
 pub fn worked_said()

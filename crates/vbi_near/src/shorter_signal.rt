@@ -1,8 +1,7 @@
 //! Signals that are shorter than a word.
 
 ghost use Rattle.std.specs.Prelude.{◌≡◌, ℕ, ◌+◌, ◌*◌, ◌^◌, ◌≤◌, ◌<◌};
-ghost use Rattle.vbi_words.specs.Geometry.{width_of};
-ghost use Rattle.vbi_near.specs.Pictures.{word_length, starts};
+ghost use Rattle.vbi_near.specs.Common.{width_of, word_length, starts};
 ghost use Rattle.vbi_near.specs.Rows.{shades_of, cell_cost_by, word_cost_by};
 ghost use Rattle.vbi_near.specs.ShorterSignal.{bit_in_cell, black_cost, IsWithoutCell, IsShorterFound};
 

@@ -7,10 +7,8 @@
 //! whatever the search of all starts would find. Noise often has a code within the limit, but then it has several.
 
 ghost use Rattle.std.specs.Prelude.{◌≡◌, ◌≤◌, false, length, List, IsTrue};
-ghost use Rattle.vbi_words.specs.Levels.{Slicing};
+ghost use Rattle.vbi_near.specs.Common.{Slicing, starts, Samples, Shades, unit_of};
 ghost use Rattle.vbi_near.specs.Candidates.{some_lines};
-ghost use Rattle.vbi_near.specs.Pictures.{starts};
-ghost use Rattle.vbi_near.specs.Distances.{Samples, Shades, unit_of};
 ghost use Rattle.vbi_near.specs.Rows.{IsRowOf, IsNearCode};
 ghost use Rattle.vbi_near.specs.WordRule.{close_limit};
 ghost use Rattle.vbi_near.specs.LineSearch.{IsSought};

@@ -1,9 +1,7 @@
 //! How near one word is whose cells are somewhat longer or shorter than they should be.
 
 ghost use Rattle.std.specs.Prelude.{◌≡◌, ℕ, ◌+◌, ◌-◌, ◌*◌, ◌≤◌, ◌<◌, length, List, slice_index_or};
-ghost use Rattle.vbi_words.specs.Geometry.{width_of};
-ghost use Rattle.vbi_words.specs.Levels.{Slicing};
-ghost use Rattle.vbi_near.specs.Distances.{Samples, IsPile, AreFew, shades};
+ghost use Rattle.vbi_near.specs.Common.{width_of, Slicing, Samples, IsPile, AreFew, shades};
 ghost use Rattle.vbi_near.specs.Rows.{shades_of};
 ghost use Rattle.vbi_near.specs.Sums.{IsRising, total_in};
 ghost use Rattle.vbi_near.specs.StretchedCells.{stretched_offset, stretched_length, IsLeastAt, IsStretched};

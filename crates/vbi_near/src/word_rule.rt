@@ -11,10 +11,9 @@
 //! at its limits. CONTRIBUTING.md says what else changes with it.
 
 ghost use Rattle.std.specs.Prelude.{◌≡◌, ◌*◌, ◌^◌, ◌≤◌, ◌<◌};
-ghost use Rattle.vbi_near.specs.WordRule.{is_ahead, is_ahead_by, goes_on, is_cut, is_whole, is_clear};
-ghost use Rattle.vbi_near.specs.WordRule.{close_limit, is_close};
-ghost use Rattle.vbi_near.specs.WordRule.{said_of, said_if, first_said, is_said, is_same, is_one, is_borne, have_word};
-ghost use Rattle.vbi_near.specs.WordRule.{have_code, have_one, do_agree, may_agree, stand_of, said_in};
+ghost use Rattle.vbi_near.specs.WordRule.{is_ahead, is_ahead_by, goes_on, is_cut, is_whole, is_clear, close_limit};
+ghost use Rattle.vbi_near.specs.WordRule.{is_close, said_of, said_if, first_said, is_said, is_same, is_one, is_borne};
+ghost use Rattle.vbi_near.specs.WordRule.{have_word, have_code, have_one, do_agree, may_agree, stand_of, said_in};
 ghost use Rattle.vbi_near.specs.WordRule.{unless_beyond, recovered_by};
 ghost use Rattle.vbi_near.specs.LineCodes.{is_beyond_79999};
 ghost use Rattle.vbi_near.specs.PairRule.{SayInPair};

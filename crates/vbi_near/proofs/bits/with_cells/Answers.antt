@@ -1,5 +1,5 @@
 use Rattle.std.proofs.Common.{ℕ, ◌<◌, length, ap, arith}
-use Rattle.vbi_near.specs.declared.bits.Bits.{Bits}
+use Rattle.vbi_near.proofs.Common.{Bits}
 use Rattle.vbi_near.proofs.bits.with_cells.Goals as goal
 
 pub with_cell-more-requires-clause-word : goal.with_cell-more-requires-clause-word

@@ -1,6 +1,5 @@
 use Rattle.std.proofs.Common.{◌≡◌, ℕ, ◌*◌, ◌≤◌, arith, sym, ◌∙◌, subst, add-one}
-use Rattle.vbi_near.specs.LineCodes.{digit_at}
-use Rattle.vbi_near.specs.Leads.{AreBest}
+use Rattle.vbi_near.proofs.Common.{digit_at, AreBest}
 use Rattle.vbi_near.proofs.BestDigits.{first-digits}
 use Rattle.vbi_near.proofs.Places.{at-place, few-digits, next-power}
 use Rattle.vbi_near.proofs.CellsAt.{cut-read}

@@ -1,6 +1,5 @@
 use Rattle.std.proofs.Common.{◌≡◌, ℕ, ◌<◌, ◌+◌, ◌*◌, ◌^◌, get_or}
-use Rattle.vbi_near.specs.Leads.{AreBest}
-use Rattle.vbi_near.specs.LineCodes.{digit_at}
+use Rattle.vbi_near.proofs.Common.{AreBest, digit_at}
 use Rattle.vbi_near.proofs.codes.best_digits.Given as goal
 
 abbrev pub invariant-loop-place : goal.invariant-loop-place

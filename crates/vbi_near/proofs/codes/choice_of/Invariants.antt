@@ -1,5 +1,5 @@
 use Rattle.std.proofs.Common.{get_or}
-use Rattle.vbi_near.specs.Leads.{IsChoice}
+use Rattle.vbi_near.proofs.Common.{IsChoice}
 use Rattle.vbi_near.proofs.codes.choice_of.Given as goal
 
 abbrev pub invariant-loop-value : goal.invariant-loop-value

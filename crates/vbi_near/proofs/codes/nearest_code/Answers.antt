@@ -1,9 +1,5 @@
 use Rattle.std.proofs.Common.{◌≡◌, ℕ, sym, subst, arith, add-one}
-use Rattle.vbi_near.specs.Pictures.{starts}
-use Rattle.vbi_near.specs.Distances.{Shades}
-use Rattle.vbi_near.specs.LineCodes.{codes_of}
-use Rattle.vbi_near.specs.Leads.{IsSeen, looks_before, code_cost, IsLead}
-use Rattle.vbi_near.specs.Rows.{shades_of}
+use Rattle.vbi_near.proofs.Common.{starts, Shades, codes_of, IsSeen, looks_before, code_cost, IsLead, shades_of}
 use Rattle.vbi_near.proofs.Looks.{all-looks}
 use Rattle.vbi_near.proofs.codes.nearest_code.Goals as goal
 

@@ -1,6 +1,4 @@
-use Rattle.vbi_near.specs.LineCodes.{codes_of}
-use Rattle.vbi_near.specs.Leads.{IsSeen, looks_before, code_cost, IsLead, IsClose}
-use Rattle.vbi_near.specs.Rows.{shades_of}
+use Rattle.vbi_near.proofs.Common.{codes_of, IsSeen, looks_before, code_cost, IsLead, IsClose, shades_of}
 use Rattle.vbi_near.proofs.codes.nearest_code.Given as goal
 
 abbrev pub invariant-loop-start : goal.invariant-loop-start

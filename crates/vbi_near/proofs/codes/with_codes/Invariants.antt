@@ -1,5 +1,5 @@
 use Rattle.std.proofs.Common.{ℕ, ◌<◌, List, take}
-use Rattle.vbi_near.specs.Leads.{Look, IsSeen, with_ranges, IsLead, IsFew, IsClose}
+use Rattle.vbi_near.proofs.Common.{Look, IsSeen, with_ranges, IsLead, IsFew, IsClose}
 use Rattle.vbi_near.specs.Prices.{IsPricedBy, ranges_of}
 use Rattle.vbi_near.proofs.codes.with_codes.Given as goal
 

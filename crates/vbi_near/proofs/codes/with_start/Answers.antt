@@ -1,7 +1,5 @@
 use Rattle.std.proofs.Common.{ℕ, List, subst}
-use Rattle.vbi_near.specs.LineCodes.{Range}
-use Rattle.vbi_near.specs.Leads.{IsSeen, with_ranges, IsLead}
-use Rattle.vbi_near.specs.Rows.{code_cost_by}
+use Rattle.vbi_near.proofs.Common.{Range, IsSeen, with_ranges, IsLead, code_cost_by}
 use Rattle.vbi_near.specs.Prices.{ranges_of}
 use Rattle.vbi_near.proofs.codes.with_start.Goals as goal
 

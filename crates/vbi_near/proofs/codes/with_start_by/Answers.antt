@@ -1,10 +1,5 @@
 use Rattle.std.proofs.Common.{◌≡◌, ℕ, ◌<◌, ◌⊎◌, inl, inr, arith}
-use Rattle.vbi_words.specs.Words.{IsWord}
-use Rattle.vbi_near.specs.Distances.{Shades}
-use Rattle.vbi_near.specs.LineCodes.{codes_of}
-use Rattle.vbi_near.specs.Leads.{code_cost}
-use Rattle.vbi_near.specs.Nearest.{IsBefore}
-use Rattle.vbi_near.specs.Rows.{shades_of}
+use Rattle.vbi_near.proofs.Common.{IsWord, Shades, codes_of, code_cost, IsBefore, shades_of}
 use Rattle.vbi_near.proofs.Priced.{code-word}
 use Rattle.vbi_near.proofs.Looks.{passed-ranges}
 use Rattle.vbi_near.proofs.codes.with_start_by.Goals as goal

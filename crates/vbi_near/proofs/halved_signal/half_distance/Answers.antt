@@ -1,10 +1,5 @@
 use Rattle.std.proofs.Common.{◌≡◌, ℕ, suc, ◌+◌, ◌-◌, List, Bool, false, get_or, ap, ◌∙◌, arith}
-use Rattle.vbi_near.specs.Pictures.{column_of}
-use Rattle.vbi_near.specs.Distances.{Shades, shade}
-use Rattle.vbi_near.specs.Sums.{total_in}
-use Rattle.vbi_near.specs.Costs.{half_cost}
-use Rattle.vbi_near.specs.HalvedSignal.{half_of}
-use Rattle.vbi_near.specs.Rows.{shades_of}
+use Rattle.vbi_near.proofs.Common.{column_of, Shades, shade, total_in, half_cost, half_of, shades_of}
 use Rattle.vbi_near.proofs.Columns.{column-first, column-next}
 use Rattle.vbi_near.proofs.Costs.{half-costs}
 use Rattle.vbi_near.proofs.HalvedRows.{half-long, all-costs}

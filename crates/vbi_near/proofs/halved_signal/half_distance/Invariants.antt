@@ -1,9 +1,5 @@
 use Rattle.std.proofs.Common.{◌≡◌, ◌+◌, ◌*◌, ◌<◌, take}
-use Rattle.vbi_near.specs.Pictures.{column_of}
-use Rattle.vbi_near.specs.Costs.{half_cost}
-use Rattle.vbi_near.specs.StretchedCells.{halves_cost}
-use Rattle.vbi_near.specs.HalvedSignal.{half_of}
-use Rattle.vbi_near.specs.Rows.{shades_of, around_cost}
+use Rattle.vbi_near.proofs.Common.{column_of, half_cost, halves_cost, half_of, shades_of, around_cost}
 use Rattle.vbi_near.proofs.halved_signal.half_distance.Given as goal
 
 abbrev pub invariant-loop-half : goal.invariant-loop-half

@@ -1,5 +1,5 @@
 use Rattle.std.specs.Prelude.{Some, length}
-use Rattle.vbi_near.specs.Distances.{unit_of}
+use Rattle.vbi_near.proofs.Common.{unit_of}
 use Rattle.vbi_near.specs.LevelledLines.{levelled_unit}
 use Rattle.vbi_near.specs.PileRule.{pile_margins}
 use Rattle.vbi_near.proofs.NeverBeyond.{field-within, two-within}

@@ -1,8 +1,6 @@
 use Rattle.std.proofs.Common.{refl}
-use Rattle.vbi_words.specs.Words.{lowest_bits}
-use Rattle.vbi_near.specs.Pictures.{drawn_halves, picture_of}
-use Rattle.vbi_near.specs.Distances.{most_of, row_distance, distance_of}
-use Rattle.vbi_near.specs.LongerSignal.{begun_earlier, ended_later}
+use Rattle.vbi_near.proofs.Common.{lowest_bits, drawn_halves, picture_of, most_of, row_distance, distance_of}
+use Rattle.vbi_near.proofs.Common.{begun_earlier, ended_later}
 use Rattle.vbi_near.proofs.laws.worked_near.Goals as goal
 
 pub returns : goal.returns

@@ -1,8 +1,7 @@
 use Rattle.std.proofs.Common.{◌≡◌, ℕ, ◌*◌, ◌<◌, length, get_or, ap, subst, ◌∙◌, arith}
 use Rattle.std.proofs.lemmas.List.{length-set}
 use Rattle.std.proofs.lemmas.List.FromFn.{fill_by_all}
-use Rattle.vbi_words.specs.Geometry.{width_of}
-use Rattle.vbi_words.specs.Levels.{samples_of}
+use Rattle.vbi_near.proofs.Common.{width_of, samples_of}
 use Rattle.vbi_words.proofs.Sizes.{line_bytes-twice}
 use Rattle.vbi_near.proofs.Counting.{line-samples}
 use Rattle.vbi_near.specs.LevelledLines.{window_of, swing_of, levelled_sample, levelled_at, levelled_each}

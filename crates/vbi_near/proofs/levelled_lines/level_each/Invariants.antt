@@ -1,6 +1,5 @@
 use Rattle.std.proofs.Common.{◌≡◌, length}
-use Rattle.vbi_words.specs.Geometry.{width_of}
-use Rattle.vbi_words.specs.Levels.{samples_of}
+use Rattle.vbi_near.proofs.Common.{width_of, samples_of}
 use Rattle.vbi_near.specs.LevelledLines.{levelled_at}
 use Rattle.vbi_near.proofs.Levelling.{AreTo}
 use Rattle.vbi_near.proofs.levelled_lines.level_each.Given as goal

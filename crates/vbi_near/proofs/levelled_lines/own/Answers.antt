@@ -1,5 +1,5 @@
 use Rattle.std.proofs.Common.{◌≡◌, ℕ, ◌+◌, ◌*◌, ◌<◌, length, slice_index, ap, ◌∙◌, arith}
-use Rattle.vbi_words.specs.Levels.{samples_of}
+use Rattle.vbi_near.proofs.Common.{samples_of}
 use Rattle.vbi_words.proofs.Sizes.{line_bytes-twice}
 use Rattle.vbi_line.proofs.Slicing.{sample_of}
 use Rattle.vbi_near.specs.LevelledLines.{window_of}

@@ -1,5 +1,5 @@
 use Rattle.std.proofs.Common.{◌≡◌, ℕ, ◌+◌, ◌-◌, get_or, subst, arith}
-use Rattle.vbi_words.specs.Levels.{samples_of}
+use Rattle.vbi_near.proofs.Common.{samples_of}
 use Rattle.vbi_near.specs.LevelledLines.{sum_from}
 use Rattle.vbi_near.proofs.Counting.{line-samples}
 use Rattle.vbi_near.proofs.Levelling.{between_sums}

@@ -1,5 +1,5 @@
 use Rattle.std.proofs.Common.{◌≡◌, ℕ, ◌+◌, ◌-◌, ◌/◌, ◌≤◌, ◌<◌, ap, ◌∙◌, sym, arith}
-use Rattle.vbi_words.specs.Levels.{samples_of}
+use Rattle.vbi_near.proofs.Common.{samples_of}
 use Rattle.vbi_near.specs.LevelledLines.{window_of, first_of, end_of, window_start, sum_from, window_sum}
 use Rattle.vbi_near.proofs.Levelling.{windows_more, window_before, window_amid, window_after, ordered_windows}
 use Rattle.vbi_near.proofs.Levelling.{window_inside}

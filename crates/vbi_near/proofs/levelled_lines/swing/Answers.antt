@@ -1,6 +1,5 @@
 use Rattle.std.proofs.Common.{◌≡◌, ℕ, ◌-◌, ◌*◌, ◌/◌, ◌≤◌, ◌<◌, ap, ◌∙◌, arith}
-use Rattle.vbi_words.specs.Geometry.{width_of}
-use Rattle.vbi_words.specs.Levels.{samples_of}
+use Rattle.vbi_near.proofs.Common.{width_of, samples_of}
 use Rattle.vbi_near.specs.LevelledLines.{window_of, first_of, columns_of, off_mean, off_in, swing_of}
 use Rattle.vbi_near.proofs.Levelling.{off_more, ordered, inside}
 use Rattle.vbi_near.proofs.Columns.{width-few}

@@ -1,5 +1,5 @@
 use Rattle.std.proofs.Common.{◌≡◌, ◌≤◌, ◌-◌, ◌*◌, ◌^◌}
-use Rattle.vbi_words.specs.Levels.{samples_of}
+use Rattle.vbi_near.proofs.Common.{samples_of}
 use Rattle.vbi_near.specs.LevelledLines.{first_of, off_in}
 use Rattle.vbi_near.proofs.levelled_lines.swing.Given as goal
 

@@ -1,6 +1,6 @@
 use Rattle.std.proofs.Common.{◌≡◌, ℕ, true, false, ap, ◌∙◌, rules}
 use Rattle.std.specs.Prelude.{Option, Some, is_some}
-use Rattle.vbi_near.specs.Distances.{unit_of}
+use Rattle.vbi_near.proofs.Common.{unit_of}
 use Rattle.vbi_near.specs.Margins.{given_margins}
 use Rattle.vbi_near.specs.WordRule.{unless_beyond, recovered_by, first_said}
 use Rattle.vbi_near.proofs.Asked.{first-says, other-says}

@@ -1,6 +1,5 @@
 use Rattle.std.proofs.Common.{◌≡◌, ℕ, true, false, [], ◌∷◌, List, sym, ap, ◌∙◌, subst}
-use Rattle.vbi_words.specs.Levels.{Slicing, samples_of}
-use Rattle.vbi_near.specs.Distances.{known_but, unit_of}
+use Rattle.vbi_near.proofs.Common.{Slicing, samples_of, known_but, unit_of}
 use Rattle.vbi_near.specs.LevelledLines.{levelled_unit, levelled_slicing, is_swing}
 use Rattle.vbi_near.specs.Margins.{levelled_margins}
 use Rattle.vbi_near.specs.WordRule.{said_of, said_if}

@@ -1,9 +1,6 @@
 use Rattle.std.proofs.Common.{ap, subst, sym, ◌∙◌}
-use Rattle.vbi_words.specs.declared.system.System.{System}
-use Rattle.vbi_near.specs.declared.sums.Sums.{Sums}
+use Rattle.vbi_near.proofs.Common.{System, Sums, Shades, shades, IsRowOf}
 use Rattle.vbi_near.specs.Candidates.{HasNear, some_lines}
-use Rattle.vbi_near.specs.Distances.{Shades, shades}
-use Rattle.vbi_near.specs.Rows.{IsRowOf}
 use Rattle.vbi_near.proofs.line_search.nears_of.Goals as goal
 
 pub returns : goal.returns

@@ -1,7 +1,5 @@
 use Rattle.std.proofs.Common.{◌-◌, ◌<◌, arith, inl, inr, subst, sym}
-use Rattle.vbi_near.specs.Distances.{Shades}
-use Rattle.vbi_near.specs.LongerSignal.{cell_length, IsLongerFound}
-use Rattle.vbi_near.specs.Rows.{shades_of}
+use Rattle.vbi_near.proofs.Common.{Shades, cell_length, IsLongerFound, shades_of}
 use Rattle.vbi_near.proofs.Beside.{cell-offset, room-after, black-beside, after-alone, before-alone, both-sides}
 use Rattle.vbi_near.proofs.longer_signal.longer_distance.Goals as goal
 

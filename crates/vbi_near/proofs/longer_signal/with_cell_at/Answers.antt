@@ -1,8 +1,5 @@
 use Rattle.std.proofs.Common.{◌≡◌, ℕ, ◌+◌, ◌-◌, ◌∙◌, ap, arith}
-use Rattle.vbi_near.specs.Pictures.{column_of}
-use Rattle.vbi_near.specs.Sums.{total_in}
-use Rattle.vbi_near.specs.LongerSignal.{cell_length}
-use Rattle.vbi_near.specs.Rows.{shades_of}
+use Rattle.vbi_near.proofs.Common.{column_of, total_in, cell_length, shades_of}
 use Rattle.vbi_near.proofs.Beside.{cell-offset, offset-column, nearer-cell}
 use Rattle.vbi_near.proofs.longer_signal.with_cell_at.Goals as goal
 

@@ -1,9 +1,5 @@
-use Rattle.std.proofs.Common.{subst}
-use Rattle.vbi_words.specs.declared.system.System.{System}
-use Rattle.vbi_words.specs.Levels.{Slicing}
-use Rattle.std.proofs.Common.{List}
-use Rattle.vbi_near.specs.Distances.{Samples, shades, IsPile}
-use Rattle.vbi_near.specs.Rows.{IsNearWord}
+use Rattle.std.proofs.Common.{subst, List}
+use Rattle.vbi_near.proofs.Common.{System, Slicing, Samples, shades, IsPile, IsNearWord}
 use Rattle.vbi_near.proofs.near.nearest.Goals as goal
 
 is : (c : goal.After-light-2-1) (slicing : Slicing) (lines : List Samples)

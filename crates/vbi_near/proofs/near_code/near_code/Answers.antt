@@ -1,8 +1,5 @@
 use Rattle.std.proofs.Common.{inl, inr, arith, sym, subst}
-use Rattle.vbi_near.specs.declared.near.Near.{Near}
-use Rattle.vbi_near.specs.LineCodes.{codes_of}
-use Rattle.vbi_near.specs.Pictures.{IsPlace}
-use Rattle.vbi_near.specs.Rows.{shades_of}
+use Rattle.vbi_near.proofs.Common.{Near, codes_of, IsPlace, shades_of}
 use Rattle.vbi_near.proofs.Columns.{word-fits}
 use Rattle.vbi_near.proofs.Chosen.{near-code, lead-found}
 use Rattle.vbi_near.proofs.near_code.near_code.Goals as goal

@@ -1,5 +1,5 @@
 use Rattle.std.proofs.Common.{cond, eqb, ℕ}
-use Rattle.vbi_near.specs.Leads.{IsSeen, at_start}
+use Rattle.vbi_near.proofs.Common.{IsSeen, at_start}
 use Rattle.vbi_near.proofs.Looks.{turned, merged_is, lead-by, next-by}
 use Rattle.vbi_near.proofs.order.nearer_lead.Goals as goal
 

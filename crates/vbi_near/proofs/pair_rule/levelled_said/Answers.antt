@@ -1,6 +1,5 @@
 use Rattle.std.proofs.Common.{◌≡◌, true, [], ◌∷◌, sym, ◌∙◌, ap, subst}
-use Rattle.vbi_words.specs.Levels.{Slicing, samples_of}
-use Rattle.vbi_near.specs.Distances.{Samples, known_but, unit_of}
+use Rattle.vbi_near.proofs.Common.{Slicing, samples_of, Samples, known_but, unit_of}
 use Rattle.vbi_near.specs.LevelledLines.{levelled_slicing, is_swing}
 use Rattle.vbi_near.specs.Margins.{levelled_margins}
 use Rattle.vbi_near.specs.Lines.{second_in, third_in}

@@ -1,8 +1,7 @@
 use Rattle.std.proofs.Common.{◌≡◌, ℕ, subst, rules}
 use Rattle.std.specs.Prelude.{Option, None}
-use Rattle.vbi_near.specs.declared.near.Nears.{Nears}
+use Rattle.vbi_near.proofs.Common.{Nears, unit_of}
 use Rattle.vbi_near.specs.declared.word_rule.PairNears.{PairNears}
-use Rattle.vbi_near.specs.Distances.{unit_of}
 use Rattle.vbi_near.specs.Lines.{second_in, third_in}
 use Rattle.vbi_near.specs.Candidates.{Line, HasNearIf, given_line, given_pair}
 use Rattle.vbi_near.specs.PairRule.{SayInPair}

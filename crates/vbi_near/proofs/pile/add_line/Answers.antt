@@ -1,6 +1,6 @@
 use Rattle.std.proofs.Common.{◌≡◌, ℕ, ◌*◌, length, take, arith}
 use Rattle.std.proofs.lemmas.List.{take_all}
-use Rattle.vbi_near.specs.Distances.{most_of}
+use Rattle.vbi_near.proofs.Common.{most_of}
 use Rattle.vbi_near.proofs.Most.{most_of-fits}
 use Rattle.vbi_near.proofs.Counting.{added-few, added_whole, pile-added}
 use Rattle.vbi_near.proofs.pile.add_line.Goals as goal

@@ -1,5 +1,5 @@
 use Rattle.std.proofs.Common.{◌≡◌}
-use Rattle.vbi_near.specs.Distances.{lines_of}
+use Rattle.vbi_near.proofs.Common.{lines_of}
 use Rattle.vbi_near.specs.Pile.{IsPileOf}
 use Rattle.vbi_near.proofs.pile.nearest_of_lines.Given as goal
 

@@ -1,5 +1,5 @@
 use Rattle.std.proofs.Common.{◌≡◌, ℕ, ◌<◌, length, map, take, true}
-use Rattle.vbi_words.specs.Geometry.{line_bytes}
+use Rattle.vbi_near.proofs.Common.{line_bytes}
 use Rattle.vbi_near.specs.Candidates.{levelled_samples, has_swing, swing_in}
 use Rattle.vbi_near.specs.Lines.{row_at}
 use Rattle.vbi_near.specs.PileRule.{rows_in}

@@ -1,5 +1,5 @@
 use Rattle.std.proofs.Common.{◌≡◌, ℕ, ◌+◌, ◌∷◌, [], ◌++◌, List, map, subst, ap, sym, ◌∙◌, arith}
-use Rattle.vbi_near.specs.Distances.{Samples}
+use Rattle.vbi_near.proofs.Common.{Samples}
 use Rattle.vbi_near.specs.Candidates.{Line, given_samples, HasNear, some_lines}
 use Rattle.vbi_near.specs.Lines.{row_in}
 use Rattle.vbi_near.specs.PileRule.{rows_in}

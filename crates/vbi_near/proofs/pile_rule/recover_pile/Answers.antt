@@ -1,6 +1,6 @@
 use Rattle.std.proofs.Common.{sym}
 use Rattle.std.specs.Prelude.{length}
-use Rattle.vbi_near.specs.Distances.{unit_of}
+use Rattle.vbi_near.proofs.Common.{unit_of}
 use Rattle.vbi_near.specs.Candidates.{Candidates, candidates}
 use Rattle.vbi_near.specs.PileRule.{rows_in}
 use Rattle.vbi_near.proofs.PiledRows.{said-by, rows-many}

@@ -1,7 +1,5 @@
 use Rattle.std.proofs.Common.{◌≡◌, ℕ, Bool, ◌+◌, ◌*◌, ◌/◌, ◌%◌, ◌∙◌, arith, sym, ap, length-set}
-use Rattle.vbi_near.specs.Costs.{cell_cost}
-use Rattle.vbi_near.specs.Leads.{digit_cost, IsDigitCost}
-use Rattle.vbi_near.specs.Rows.{shades_of}
+use Rattle.vbi_near.proofs.Common.{cell_cost, digit_cost, IsDigitCost, shades_of}
 use Rattle.vbi_near.proofs.CellsAt.{set-more}
 use Rattle.vbi_near.proofs.prices.digit_costs.Goals as goal
 

@@ -1,7 +1,5 @@
 use Rattle.std.proofs.Common.{◌≡◌, ℕ, ◌<◌, ◌+◌, ◌*◌, length, get_or}
-use Rattle.vbi_near.specs.Costs.{cell_cost}
-use Rattle.vbi_near.specs.Leads.{IsDigitCost}
-use Rattle.vbi_near.specs.Rows.{shades_of}
+use Rattle.vbi_near.proofs.Common.{cell_cost, IsDigitCost, shades_of}
 use Rattle.vbi_near.proofs.prices.digit_costs.Given as goal
 
 abbrev pub invariant-loop-value : goal.invariant-loop-value

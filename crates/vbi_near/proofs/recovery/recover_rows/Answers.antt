@@ -1,8 +1,6 @@
 use Rattle.std.proofs.Common.{◌≡◌, Bool, ℕ, List, [], ◌∷◌, sym, ap, ◌∙◌, get_or, subst}
-use Rattle.vbi_words.specs.declared.system.System.{System}
-use Rattle.vbi_words.specs.Levels.{Slicing}
+use Rattle.vbi_near.proofs.Common.{System, Slicing, unit_of}
 use Rattle.vbi_near.specs.declared.recovery.Recovered.{Recovered}
-use Rattle.vbi_near.specs.Distances.{unit_of}
 use Rattle.vbi_near.specs.Candidates.{Line, line_of, AreOfBoth}
 use Rattle.vbi_near.specs.Lines.{row_in}
 use Rattle.vbi_near.specs.Recovery.{field_line, row_reading, alone, stands_of, shown_in, IsSeen, IsRecovered, IsKept}

@@ -1,6 +1,6 @@
 use Rattle.std.proofs.Common.{◌≡◌, ℕ, true, refl, ap, ◌∙◌, rules}
 use Rattle.std.specs.Prelude.{Option, Some, is_some}
-use Rattle.vbi_near.specs.Distances.{unit_of}
+use Rattle.vbi_near.proofs.Common.{unit_of}
 use Rattle.vbi_near.specs.Margins.{given_margins}
 use Rattle.vbi_near.specs.Recovery.{levelled_of, given_of}
 use Rattle.vbi_near.specs.WordRule.{said_in, stand_of, first_said}

@@ -1,6 +1,6 @@
 use Rattle.std.proofs.Common.{◌≡◌, true, false, ◌∙◌, sym, subst, rules}
 use Rattle.std.specs.Prelude.{◌&&◌}
-use Rattle.vbi_near.specs.Distances.{unit_of}
+use Rattle.vbi_near.proofs.Common.{unit_of}
 use Rattle.vbi_near.specs.Candidates.{Line}
 use Rattle.vbi_near.specs.Lines.{second_in, third_in}
 use Rattle.vbi_near.specs.Recovery.{is_open, shown_in, IsOwn, IsSeen}

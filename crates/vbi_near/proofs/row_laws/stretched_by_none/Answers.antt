@@ -1,5 +1,4 @@
-use Rattle.vbi_near.proofs.Stretches.{offset-whole}
-use Rattle.vbi_near.proofs.Stretches.{picture-whole}
+use Rattle.vbi_near.proofs.Stretches.{offset-whole, picture-whole}
 use Rattle.vbi_near.proofs.row_laws.stretched_by_none.Goals as goal
 
 pub returns-clause-offset : goal.returns-clause-offset

@@ -1,8 +1,5 @@
 use Rattle.std.proofs.Common.{refl}
-use Rattle.vbi_words.specs.Words.{lowest_bits}
-use Rattle.vbi_near.specs.Pictures.{drawn_halves}
-use Rattle.vbi_near.specs.ShorterSignal.{row_of_halves}
-use Rattle.vbi_near.specs.StretchedCells.{halves_with, stretched_picture}
+use Rattle.vbi_near.proofs.Common.{lowest_bits, drawn_halves, row_of_halves, halves_with, stretched_picture}
 use Rattle.vbi_near.proofs.row_laws.worked_rows.Goals as goal
 
 pub returns : goal.returns

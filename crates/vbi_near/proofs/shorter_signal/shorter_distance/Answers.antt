@@ -1,5 +1,5 @@
 use Rattle.std.proofs.Common.{arith}
-use Rattle.vbi_near.specs.Rows.{shades_of}
+use Rattle.vbi_near.proofs.Common.{shades_of}
 use Rattle.vbi_near.proofs.CutShort.{last_within}
 use Rattle.vbi_near.proofs.shorter_signal.shorter_distance.Goals as goal
 

@@ -1,7 +1,5 @@
 use Rattle.std.proofs.Common.{ℕ, ◌+◌, ◌<◌, [], sym, subst, arith}
-use Rattle.vbi_near.specs.declared.word_search.Found.{Found}
-use Rattle.vbi_near.specs.declared.sums.Sums.{Sums}
-use Rattle.vbi_near.specs.Pictures.{starts}
+use Rattle.vbi_near.proofs.Common.{Found, Sums, starts}
 use Rattle.vbi_near.specs.Silence.{IsLeadWithin}
 use Rattle.vbi_near.proofs.Unsaid.{lead_first, lead_passing, lead_looking}
 use Rattle.vbi_near.proofs.silence.nearest_within.Goals as goal

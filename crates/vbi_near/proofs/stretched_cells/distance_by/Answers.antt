@@ -1,7 +1,5 @@
 use Rattle.std.proofs.Common.{ℕ, ◌+◌, get_or, arith, ap, subst, sym}
-use Rattle.vbi_near.specs.Distances.{Shades}
-use Rattle.vbi_near.specs.StretchedCells.{stretched_row_cost, IsLeastAt, IsStartBefore}
-use Rattle.vbi_near.specs.Rows.{shades_of}
+use Rattle.vbi_near.proofs.Common.{Shades, stretched_row_cost, IsLeastAt, IsStartBefore, shades_of}
 use Rattle.vbi_near.proofs.Columns.{width-few}
 use Rattle.vbi_near.proofs.LeastAt.{start-more, all-starts}
 use Rattle.vbi_near.proofs.Stretches.{row-read, starts-long}

@@ -1,5 +1,4 @@
-use Rattle.vbi_near.specs.StretchedCells.{stretched_row_cost, IsLeastAt, IsStartBefore}
-use Rattle.vbi_near.specs.Rows.{shades_of}
+use Rattle.vbi_near.proofs.Common.{stretched_row_cost, IsLeastAt, IsStartBefore, shades_of}
 use Rattle.vbi_near.proofs.stretched_cells.distance_by.Given as goal
 
 abbrev pub invariant-loop-start : goal.invariant-loop-start

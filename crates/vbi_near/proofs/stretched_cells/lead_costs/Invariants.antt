@@ -1,5 +1,5 @@
 use Rattle.std.proofs.Common.{◌≡◌, ℕ, ◌<◌, ◌≤◌, ◌*◌, get_or}
-use Rattle.vbi_near.specs.Sums.{total_in}
+use Rattle.vbi_near.proofs.Common.{total_in}
 use Rattle.vbi_near.proofs.stretched_cells.lead_costs.Given as goal
 
 abbrev pub invariant-loop-start : goal.invariant-loop-start

@@ -1,8 +1,5 @@
 use Rattle.std.proofs.Common.{◌≡◌, ℕ, ◌+◌, arith, subst, sym}
-use Rattle.vbi_words.specs.declared.system.System.{System}
-use Rattle.vbi_near.specs.Distances.{shades}
-use Rattle.vbi_near.specs.Rows.{shades_of}
-use Rattle.vbi_near.specs.StretchedCells.{stretched_row_cost, IsLeastAt, IsRateBefore, IsStretched}
+use Rattle.vbi_near.proofs.Common.{System, shades, shades_of, stretched_row_cost, IsLeastAt, IsRateBefore, IsStretched}
 use Rattle.vbi_near.proofs.LeastAt.{rate-more, stretched-same}
 use Rattle.vbi_near.proofs.stretched_cells.stretched_distance.Goals as goal
 

@@ -1,5 +1,4 @@
-use Rattle.vbi_near.specs.Rows.{shades_of}
-use Rattle.vbi_near.specs.StretchedCells.{stretched_row_cost, IsLeastAt, IsRateBefore}
+use Rattle.vbi_near.proofs.Common.{shades_of, stretched_row_cost, IsLeastAt, IsRateBefore}
 use Rattle.vbi_near.proofs.stretched_cells.stretched_distance.Given as goal
 
 abbrev pub invariant-loop-rate : goal.invariant-loop-rate

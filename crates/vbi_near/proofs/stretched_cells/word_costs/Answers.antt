@@ -1,9 +1,5 @@
 use Rattle.std.proofs.Common.{◌≡◌, ℕ, ◌+◌, ◌-◌, List, Bool, false, get_or, ap, ◌∙◌, arith}
-use Rattle.vbi_words.specs.Words.{halves_of}
-use Rattle.vbi_near.specs.Distances.{Shades, shade}
-use Rattle.vbi_near.specs.Sums.{total_in}
-use Rattle.vbi_near.specs.StretchedCells.{stretched_cost}
-use Rattle.vbi_near.specs.Rows.{shades_of}
+use Rattle.vbi_near.proofs.Common.{halves_of, Shades, shade, total_in, stretched_cost, shades_of}
 use Rattle.vbi_near.proofs.Costs.{many-halves}
 use Rattle.vbi_near.proofs.Stretches.{none-yet, cost-more, half-read, all-halves}
 use Rattle.vbi_near.proofs.stretched_cells.word_costs.Goals as goal

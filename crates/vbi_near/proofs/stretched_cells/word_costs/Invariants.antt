@@ -1,8 +1,5 @@
 use Rattle.std.proofs.Common.{◌≡◌, ℕ, ◌+◌, ◌*◌, ◌<◌, ◌≤◌, false, length, get_or, take}
-use Rattle.vbi_words.specs.Words.{halves_of}
-use Rattle.vbi_near.specs.Sums.{span}
-use Rattle.vbi_near.specs.StretchedCells.{stretched_offset, stretched_cost, halves_cost}
-use Rattle.vbi_near.specs.Rows.{shades_of}
+use Rattle.vbi_near.proofs.Common.{halves_of, span, stretched_offset, stretched_cost, halves_cost, shades_of}
 use Rattle.vbi_near.proofs.stretched_cells.word_costs.Given as goal
 
 abbrev pub invariant-loop-half : goal.invariant-loop-half

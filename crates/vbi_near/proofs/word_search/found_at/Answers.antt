@@ -1,4 +1,4 @@
-use Rattle.vbi_near.specs.Rows.{shades_of}
+use Rattle.vbi_near.proofs.Common.{shades_of}
 use Rattle.vbi_near.proofs.BestBits.{found_at_is}
 use Rattle.vbi_near.proofs.word_search.found_at.Goals as goal
 

@@ -1,8 +1,5 @@
 use Rattle.std.proofs.Common.{ℕ, ◌≤◌, ◌∙◌, arith, length-set}
-use Rattle.vbi_words.specs.Words.{IsWord}
-use Rattle.vbi_near.specs.Distances.{Shades}
-use Rattle.vbi_near.specs.Costs.{place_cost}
-use Rattle.vbi_near.specs.Rows.{shades_of}
+use Rattle.vbi_near.proofs.Common.{IsWord, Shades, place_cost, shades_of}
 use Rattle.vbi_near.proofs.CellsAt.{set-more}
 use Rattle.vbi_near.proofs.word_search.nearest_of.Goals as goal
 

@@ -1,8 +1,5 @@
 use Rattle.std.proofs.Common.{◌≡◌, ◌<◌, length}
-use Rattle.vbi_near.specs.Pictures.{starts}
-use Rattle.vbi_near.specs.Costs.{place_cost}
-use Rattle.vbi_near.specs.Best.{IsFound, AreBounds}
-use Rattle.vbi_near.specs.Rows.{shades_of}
+use Rattle.vbi_near.proofs.Common.{starts, place_cost, IsFound, AreBounds, shades_of}
 use Rattle.vbi_near.proofs.word_search.nearest_of.Given as goal
 
 abbrev pub invariant-loop-start : goal.invariant-loop-start

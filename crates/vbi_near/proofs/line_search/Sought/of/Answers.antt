@@ -1,7 +1,6 @@
 use Rattle.std.proofs.Common.{refl, sym, ◌∙◌}
 use Rattle.std.specs.Prelude.{None}
-use Rattle.vbi_near.specs.Distances.{Shades}
-use Rattle.vbi_near.specs.Rows.{shades_of}
+use Rattle.vbi_near.proofs.Common.{Shades, shades_of}
 use Rattle.vbi_near.proofs.Costs.{blank-cost}
 use Rattle.vbi_near.proofs.HalvedRows.{halved-by}
 use Rattle.vbi_near.proofs.Piles.{far-same}

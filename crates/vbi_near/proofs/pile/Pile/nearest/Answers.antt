@@ -1,4 +1,4 @@
-use Rattle.vbi_near.specs.Rows.{IsNearWord}
+use Rattle.vbi_near.proofs.Common.{IsNearWord}
 use Rattle.vbi_near.proofs.PileOf.{by_lines}
 use Rattle.vbi_near.proofs.pile.Pile.nearest.Goals as goal
 

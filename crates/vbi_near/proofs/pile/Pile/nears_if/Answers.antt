@@ -1,9 +1,5 @@
 use Rattle.std.proofs.Common.{ap, subst, sym, ◌∙◌}
-use Rattle.vbi_words.specs.declared.system.System.{System}
-use Rattle.vbi_words.specs.Levels.{Slicing}
-use Rattle.vbi_near.specs.declared.sums.Sums.{Sums}
-use Rattle.vbi_near.specs.Distances.{Shades, shades}
-use Rattle.vbi_near.specs.Rows.{IsRowOf}
+use Rattle.vbi_near.proofs.Common.{System, Slicing, Sums, Shades, shades, IsRowOf}
 use Rattle.vbi_near.specs.Candidates.{some_lines}
 use Rattle.vbi_near.specs.Silence.{HasNearUnlessSilent}
 use Rattle.vbi_near.proofs.PileOf.{by_lines}

@@ -1,5 +1,5 @@
 use Rattle.std.proofs.Common.{ℕ, List, [], refl, subst, sym, take, replicate}
-use Rattle.vbi_near.specs.Distances.{AreFew, IsPile, shades}
+use Rattle.vbi_near.proofs.Common.{AreFew, IsPile, shades}
 use Rattle.vbi_near.proofs.Counting.{few-empty, pile-empty}
 use Rattle.vbi_near.proofs.pile.Pile.new.Goals as goal
 

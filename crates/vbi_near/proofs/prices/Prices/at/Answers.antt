@@ -1,4 +1,4 @@
-use Rattle.vbi_near.specs.Rows.{shades_of}
+use Rattle.vbi_near.proofs.Common.{shades_of}
 use Rattle.std.proofs.Common.{arith}
 use Rattle.vbi_near.proofs.Priced.{priced}
 use Rattle.vbi_near.proofs.prices.Prices.at.Goals as goal
