@@ -1,14 +1,16 @@
 -- Nearest words written down, with the numbers of the rule at their limits. White is 100 above black, and what is
 -- written down of levelled lines is in hundredths of theirs, too.
-use Rattle.std.specs.Prelude.{ℕ, ◌≡◌, ◌+◌, ◌*◌, ◌/◌, List, map, Option, Some, None}
-use Rattle.vbi_near.specs.Common.{Outcome, Word, Unfinished, Change}
+use Rattle.std.specs.Prelude.{ℕ, ◌≡◌, ◌+◌, ◌*◌, ◌/◌, Bool, List, [], ◌∷◌, map, Option, Some, None}
+use Rattle.vbi_near.specs.Common.{Outcome, Word, Blank, Unfinished, Change}
 use Rattle.vbi_words.specs.Outcomes.{word_of}
 use Rattle.vbi_near.specs.declared.near.Near.{Near}
 use Rattle.vbi_near.specs.declared.near.Nears.{Nears}
-use Rattle.vbi_near.specs.declared.recovery.Recovered.{Recovered}
+use Rattle.vbi_near.specs.declared.margins.Margins.{Margins}
 use Rattle.vbi_near.specs.LevelledLines.{levelled_unit}
+use Rattle.vbi_near.specs.WordRule.{said_of}
 use Rattle.vbi_near.specs.Candidates.{Candidates}
-use Rattle.vbi_near.specs.Recovery.{Seen}
+use Rattle.vbi_near.specs.Recovery.{Seen, recovered_of}
+use Rattle.vbi_near.specs.PileRule.{said_together}
 
 -- a nearest word that is a code, and one that is none beside which no code is near; no word is farther by 20,000
 abbrev pub as_code : Near → Nears
@@ -47,9 +49,19 @@ near_with word rival longer = record {
   shorter = 10000;
 }
 
--- a word at a distance of 10,000, with the distance of the row that is cut short
-abbrev pub cut_at : ℕ → Near
-cut_at shorter = record (near_with 0xF12345 20000 10000) { shorter = shorter }
+-- a code at a distance of 10,000, with the distance of its rival, and a word that is none
+abbrev pub code_with : ℕ → ℕ → Nears
+code_with word rival = as_code (near_with word rival 10000)
+
+abbrev pub other_with : ℕ → ℕ → Nears
+other_with word rival = as_other (near_with word rival 10000)
+
+-- a code far ahead of any other word, with the distance of the row that goes on, and of the row that is cut short
+abbrev pub code_longer : ℕ → Nears
+code_longer longer = as_code (near_with 0xF12345 20000 longer)
+
+abbrev pub code_cut : ℕ → Nears
+code_cut shorter = as_code (record (near_with 0xF12345 20000 10000) { shorter = shorter })
 
 -- the picture number 12345 at this distance, with that of its rival
 abbrev pub picture_at : ℕ → ℕ → Near
@@ -163,18 +175,21 @@ code_halved_at halved = record (beside 10300 12000) { code_halved = halved }
 
 -- a word that is no code, half of which is so far
 abbrev pub other_halved_at : ℕ → Nears
-other_halved_at halved = record (as_other (near_with 0xF1234A 20000 10000)) { word_halved = halved }
+other_halved_at halved = record (other_with 0xF1234A 20000) { word_halved = halved }
 
--- a word that is no code, ten columns ahead of any other, of lines that are this far from the row of no word
-abbrev pub ten_ahead : ℕ → Nears
-ten_ahead blank = from_none blank (as_other (near_with 0xF1234A 11000 10000))
+-- a code, and a word that is none, ten columns ahead of any other, of lines that are this far from the row of no word
+abbrev pub code_ten_ahead : ℕ → Nears
+code_ten_ahead blank = from_none blank (beside 10300 11300)
+
+abbrev pub other_ten_ahead : ℕ → Nears
+other_ten_ahead blank = from_none blank (other_with 0xF1234A 11000)
 
 -- a code so far ahead of any other word, and a word that is no code; of lines that are hardly farther from no word
 abbrev pub code_ahead : ℕ → Nears
-code_ahead ahead = from_none 12000 (as_code (near_with 0xF12345 (10000 + ahead) 10000))
+code_ahead ahead = from_none 12000 (code_with 0xF12345 (10000 + ahead))
 
 abbrev pub other_ahead : ℕ → Nears
-other_ahead ahead = from_none 12000 (as_other (near_with 0xF1234A (10000 + ahead) 10000))
+other_ahead ahead = from_none 12000 (other_with 0xF1234A (10000 + ahead))
 
 -- nearest words of lines that are so far from no word that a share of 1 would be more than any margin here
 abbrev pub far_from_none : Nears → Nears
@@ -184,16 +199,26 @@ far_from_none near = from_none 360000 near
 abbrev pub close_code_ahead : ℕ → Nears
 close_code_ahead ahead = from_none 12000 (beside 10300 (10300 + ahead))
 
--- the words and the passes of lines
-abbrev pub words_of : List Recovered → List (Option ℕ)
-words_of lines = map (λ line. word_of line.outcome) lines
+-- by these margins this many lines say the word with the first number, and no word with the next one
+abbrev pub SayUntil : Margins → ℕ → (ℕ → Nears) → ℕ → ℕ → ℕ → Type 0
+SayUntil margins lines near word last next =
+    map (λ n. said_of 100 margins lines (near n)) (last ∷ next ∷ []) ≡ Some word ∷ None ∷ []
 
-abbrev pub passes_of : List Recovered → List ℕ
-passes_of lines = map (λ line. line.pass) lines
+-- two lines of which it is known, or isn't, which columns are erased say the word together with the first number, and
+-- no word with the next one
+abbrev pub PileSaysUntil : Bool → (ℕ → Nears) → ℕ → ℕ → ℕ → Type 0
+PileSaysUntil known near word last next =
+    map (λ n. said_together 100 known 2 (as_given (near n))) (last ∷ next ∷ []) ≡ Some word ∷ None ∷ []
 
--- what a field shows on its lines 16, 17 and 18
-abbrev pub Shows : List Recovered → List (Option ℕ) → List ℕ → Type 0
-Shows lines words passes = (words_of lines ≡ words) × (passes_of lines ≡ passes)
+-- what a field shows on its lines 16, 17 and 18: the word of each, and in which pass
+abbrev pub FieldShows : Seen → Seen → Seen → Candidates → Option ℕ × ℕ → Option ℕ × ℕ → Option ℕ × ℕ → Type 0
+FieldShows first second third both on_16 on_17 on_18 =
+    map (λ line. (word_of line.outcome, line.pass)) (recovered_of 100 first second third both)
+    ≡ on_16 ∷ on_17 ∷ on_18 ∷ []
+
+-- what lines 17 and 18 show if line 16 is blank
+abbrev pub PairShows : Seen → Seen → Candidates → Option ℕ × ℕ → Option ℕ × ℕ → Type 0
+PairShows second third both on_17 on_18 = FieldShows (read_as Blank 0) second third both (None, 0) on_17 on_18
 
 -- this word, which no code is, beside the picture number 12345, each at a distance; of the word that of the row that
 -- goes on, of the code that of its rival
