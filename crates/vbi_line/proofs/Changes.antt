@@ -1,13 +1,10 @@
 -- Runs of equal bits, found by the bits that are set where the level changes.
-use Rattle.std.proofs.Common.{◌≡◌, ◌≢◌, ℕ, zero, suc, ◌+◌, ◌-◌, ◌/◌, ◌%◌, ◌^◌, ◌<◌, ◌≤◌, ◌⊎◌, false}
-use Rattle.std.proofs.Common.{inl, inr, sym, ap, subst, ◌∙◌, arith, bit_xor, add-zero}
-use Rattle.std.specs.Int.{bit_at}
-use Rattle.std.proofs.lemmas.Bool.{cases_lt}
-use Rattle.std.proofs.lemmas.Nat.Bits.{bit_at-lt, bit_at_xor}
-use Rattle.vbi_words.specs.declared.system.System.{System}
-use Rattle.vbi_words.specs.Geometry.{half_max}
-use Rattle.vbi_line.specs.Packing.{level_of_bit, EqualBits}
-use Rattle.vbi_line.specs.Straight.{IsBitRun, IsHalf, IsOneRun, IsTwoRuns, ReachesMiddle}
+use Rattle.vbi_line.proofs.Common.{◌≡◌, ℕ, zero, suc, ◌+◌, ◌-◌, ◌/◌, ◌%◌, ◌^◌, ◌<◌, ◌≤◌, ◌⊎◌, false, inl, inr, sym, ap}
+use Rattle.vbi_line.proofs.Common.{subst, ◌∙◌, arith, add-zero, bit_at, cases_lt, bit_at-lt, System, half_max}
+use Rattle.vbi_line.proofs.Common.{level_of_bit, EqualBits, IsBitRun, IsHalf, ReachesMiddle}
+use Rattle.std.proofs.Common.{◌≢◌, bit_xor}
+use Rattle.std.proofs.lemmas.Nat.Bits.{bit_at_xor}
+use Rattle.vbi_line.specs.Straight.{IsOneRun, IsTwoRuns}
 use Rattle.vbi_line.proofs.Packs.{bit_after, low_bit}
 
 -- a bit of it is set where the word's level changes after that bit

@@ -1,15 +1,12 @@
-use Rattle.std.proofs.Common.{arith, ◌≡◌, ℕ, ◌≤◌, Bool, true, false, List, length, None, sym, ap, subst, ◌∙◌, Some}
+use Rattle.vbi_line.proofs.Common.{arith, ◌≡◌, ℕ, ◌≤◌, Bool, true, false, length, None, sym, ap, subst, ◌∙◌, Some}
+use Rattle.vbi_line.proofs.Common.{System, Word, Blank, Unfinished, IsWord, IsOutcome, State, dead, IsFit, ending_of}
+use Rattle.vbi_line.proofs.Common.{state_after, state_at, fit_after, word_outcome, Decoder, state_of}
+use Rattle.std.proofs.Common.{List}
 -- The outcome that a decoder gives at the end of a line.
 use Rattle.std.proofs.lemmas.List.{take_all}
-use Rattle.vbi_words.specs.declared.system.System.{System}
-use Rattle.vbi_words.specs.declared.outcome.Outcome.TheVariants.{Word, Blank, Unfinished}
-use Rattle.vbi_words.specs.Words.{IsWord, lowest_bits}
-use Rattle.vbi_words.specs.Outcomes.{IsOutcome}
-use Rattle.vbi_words.proofs.Machine.{State, dead, is_lead}
-use Rattle.vbi_words.proofs.SystemMachine.{IsFit, ending_of, state_after, state_at, fit_after}
-use Rattle.vbi_words.proofs.Outcomes.{word_outcome, blank_outcome, unfinished_outcome}
-use Rattle.vbi_line.specs.declared.decoder.Decoder.{Decoder}
-use Rattle.vbi_line.specs.Decoder.{state_of}
+use Rattle.vbi_words.specs.Words.{lowest_bits}
+use Rattle.vbi_words.proofs.Machine.{is_lead}
+use Rattle.vbi_words.proofs.Outcomes.{blank_outcome, unfinished_outcome}
 
 -- a decoder's state is never the dead one
 pub alive : (decoder : Decoder) → state_of decoder ≡ dead → ⊥

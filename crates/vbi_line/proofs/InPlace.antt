@@ -1,15 +1,12 @@
 -- The bits of samples that lie in a row's bytes, and the levels that they are.
-use Rattle.std.proofs.Common.{◌≡◌, ℕ, ◌+◌, ◌-◌, ◌*◌, ◌/◌, ◌%◌, ◌^◌, ◌<◌, ◌≤◌, inl, inr, Bool, false, nat_lt}
-use Rattle.std.proofs.Common.{List, ◌++◌, length, length-append, get_or, ap, sym, ◌∙◌, arith, lit<}
-use Rattle.std.proofs.Math.Nat.{mod-eq_of_lt, mul-lt-mul_of_pos_right, pow-le-pow_right, div-lt_iff_lt-mul}
-use Rattle.std.proofs.lemmas.Bool.{cases_lt}
-use Rattle.std.proofs.lemmas.List.{get_or-map}
-use Rattle.std.proofs.lemmas.List.FromFn.{get_or-map-range_with_len, length-map-range_with_len}
-use Rattle.std.proofs.lemmas.Nat.{or_lt, pow-add, pow_pos}
-use Rattle.std.proofs.lemmas.Nat.Bits.{bit_at_above}
-use Rattle.vbi_words.specs.Levels.{Slicing, is_high_of, level_at}
-use Rattle.vbi_line.specs.Line.{sample_at}
-use Rattle.vbi_line.specs.Packing.{level_of_bit, levels_in, TellsAbove}
+use Rattle.vbi_line.proofs.Common.{◌≡◌, ℕ, ◌+◌, ◌-◌, ◌*◌, ◌/◌, ◌%◌, ◌^◌, ◌<◌, ◌≤◌, inl, inr, Bool, false, nat_lt, ◌++◌}
+use Rattle.vbi_line.proofs.Common.{length, get_or, ap, sym, ◌∙◌, arith, lit<, mod-eq_of_lt, mul-lt-mul_of_pos_right}
+use Rattle.vbi_line.proofs.Common.{pow-le-pow_right, cases_lt, get_or-map, get_or-map-range_with_len}
+use Rattle.vbi_line.proofs.Common.{length-map-range_with_len, pow-add, pow_pos, bit_at_above, Slicing, is_high_of}
+use Rattle.vbi_line.proofs.Common.{level_at, sample_at, level_of_bit, levels_in, TellsAbove}
+use Rattle.std.proofs.Common.{List, length-append}
+use Rattle.std.proofs.Math.Nat.{div-lt_iff_lt-mul}
+use Rattle.std.proofs.lemmas.Nat.{or_lt}
 use Rattle.vbi_line.proofs.Packs.{bit_after, joined, joined_below, joined_inside}
 use Rattle.vbi_line.proofs.Slicing.{Sliced, above, sliced_more}
 

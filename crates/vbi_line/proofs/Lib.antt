@@ -1,5 +1,6 @@
 pub mod Causes
 pub mod Changes
+mod Common
 pub mod Ending
 pub mod FillSteps
 pub mod InPlace

@@ -1,23 +1,16 @@
 -- The machine from the middle of a cell to the middle of the next.
-use Rattle.std.proofs.Common.{◌≡◌, ℕ, ◌+◌, ◌-◌, ◌*◌, ◌^◌, ◌<◌, ◌≤◌, Bool, true, false, List, [], ◌∷◌, ◌++◌, Some, None}
-use Rattle.std.proofs.Common.{inl, inr, length, refl, sym, ap, subst, ◌∙◌, arith}
-use Rattle.std.specs.Prelude.{not}
+use Rattle.vbi_line.proofs.Common.{◌≡◌, ℕ, ◌+◌, ◌-◌, ◌*◌, ◌^◌, ◌<◌, ◌≤◌, Bool, true, false, [], ◌∷◌, ◌++◌, Some, None}
+use Rattle.vbi_line.proofs.Common.{inl, inr, length, refl, sym, ap, subst, ◌∙◌, arith, not, System, Word, half_min}
+use Rattle.vbi_line.proofs.Common.{half_max, level_at, IsOutcome, IsWord, sizes_of, half_max-le, State, lead, dead}
+use Rattle.vbi_line.proofs.Common.{grown, length_of, next_of, after_of, limit_of, ending_of, IsFit, state_after}
+use Rattle.vbi_line.proofs.Common.{state_at, after_append, fit_after, length-lowest_bits, word_outcome, level_of_bit}
+use Rattle.vbi_line.proofs.Common.{IsRun, IsBitRun, IsHalf, ReachesMiddle, IsMiddle}
+use Rattle.std.proofs.Common.{List}
 use Rattle.std.proofs.Math.ListN.{replicate, take}
-use Rattle.vbi_words.specs.declared.system.System.{System}
-use Rattle.vbi_words.specs.declared.outcome.Outcome.TheVariants.{Word}
-use Rattle.vbi_words.specs.Geometry.{half_min, half_max}
-use Rattle.vbi_words.specs.Levels.{level_at}
-use Rattle.vbi_words.specs.Outcomes.{IsOutcome}
-use Rattle.vbi_words.specs.Words.{IsWord, lowest_bits}
-use Rattle.vbi_words.proofs.Sizes.{sizes_of, half_max-le}
-use Rattle.vbi_words.proofs.Machine.{State, lead, first, second, tail, dead, grown, length_of, pick, limit_cases}
-use Rattle.vbi_words.proofs.SystemMachine.{next_of, turn_of, after_of, limit_of, ending_of, IsFit}
-use Rattle.vbi_words.proofs.SystemMachine.{state_after, state_at, after_append, fit_after}
-use Rattle.vbi_words.proofs.Bits.{length-lowest_bits}
-use Rattle.vbi_words.proofs.Outcomes.{word_outcome}
+use Rattle.vbi_words.specs.Words.{lowest_bits}
+use Rattle.vbi_words.proofs.Machine.{first, second, tail, pick, limit_cases}
+use Rattle.vbi_words.proofs.SystemMachine.{turn_of}
 use Rattle.vbi_words.proofs.Stays
-use Rattle.vbi_line.specs.Packing.{level_of_bit, IsRun}
-use Rattle.vbi_line.specs.Straight.{IsBitRun, IsHalf, ReachesMiddle, IsMiddle}
 use Rattle.vbi_line.proofs.Ending.{whole}
 use Rattle.vbi_line.proofs.RunLoop.{run_levels}
 use Rattle.vbi_line.proofs.Steps.{begun_top}

@@ -1,12 +1,9 @@
-use Rattle.std.proofs.Common.{arith, ◌≡◌, ℕ, List, Bool, inl, inr, refl, sym, ◌∙◌, ap, subst}
+use Rattle.vbi_line.proofs.Common.{arith, ◌≡◌, ℕ, Bool, inl, inr, refl, sym, ◌∙◌, ap, subst, System, Outcome, Word}
+use Rattle.vbi_line.proofs.Common.{Blank, Unfinished, Change, Hold, ShowsNone, IsOutcome, smooth_of}
+use Rattle.std.proofs.Common.{List}
 -- A list of levels has one outcome and one reading.
-use Rattle.vbi_words.specs.declared.system.System.{System}
-use Rattle.vbi_words.specs.declared.outcome.Outcome.{Outcome}
-use Rattle.vbi_words.specs.declared.outcome.Outcome.TheVariants.{Word, Blank, Unfinished, Change, Hold}
 use Rattle.vbi_words.specs.declared.outcome.Reading.{Reading}
-use Rattle.vbi_words.specs.Shows.{ShowsNone}
-use Rattle.vbi_words.specs.Outcomes.{AllLow, IsOutcome}
-use Rattle.vbi_words.specs.Smooth.{smooth_of}
+use Rattle.vbi_words.specs.Outcomes.{AllLow}
 use Rattle.vbi_words.specs.Readings.{Reads, IsReading, reading_from}
 use Rattle.vbi_words.proofs.Found.{found, one_outcome}
 use Rattle.vbi_words.proofs.Lows.{blank_reads}

@@ -1,19 +1,16 @@
 -- Levels as the bits of words, and more levels added to them.
-use Rattle.std.proofs.Common.{◌≡◌, ℕ, zero, suc, ◌+◌, ◌*◌, ◌/◌, ◌%◌, ◌^◌, ◌<◌, ◌≤◌}
-use Rattle.std.proofs.Common.{Bool, false, List, ◌∷◌, ◌++◌, map}
-use Rattle.std.proofs.Common.{length, max, nat_eq, slice_index, refl, sym, ap, ◌∙◌, arith, add-zero, lit<, bit_or}
+use Rattle.vbi_line.proofs.Common.{◌≡◌, ℕ, zero, suc, ◌+◌, ◌*◌, ◌/◌, ◌%◌, ◌^◌, ◌<◌, ◌≤◌, Bool, false, ◌∷◌, ◌++◌, map}
+use Rattle.vbi_line.proofs.Common.{length, max, nat_eq, slice_index, refl, sym, ap, ◌∙◌, arith, add-zero, lit<, bit_or}
+use Rattle.vbi_line.proofs.Common.{bit_at, mod-eq_of_lt, mul-lt-mul_of_pos_right, pow-le-pow_right, max-zero, zero-max}
+use Rattle.vbi_line.proofs.Common.{pow-add, pow_pos, cases_eq, length-map-range_with_len, get_or-map-range_with_len}
+use Rattle.vbi_line.proofs.Common.{bit_at-lt, bit_at-zero, bit_at_or, bit_at_above, bit_at_cat_low, bit_at_cat_high}
+use Rattle.vbi_line.proofs.Common.{level_at, level_of_bit, levels_in, packed_level, unpacked}
+use Rattle.std.proofs.Common.{List}
 use Rattle.std.specs.List.{range_with_len}
-use Rattle.std.specs.Int.{bit_at}
 use Rattle.std.proofs.Math.ListN.{set}
-use Rattle.std.proofs.Math.Nat.{mod-eq_of_lt, mul-lt-mul_of_pos_right, pow-le-pow_right, max-zero, zero-max}
 use Rattle.std.proofs.Math.Nat.{div-div-eq-div-mul}
-use Rattle.std.proofs.lemmas.Nat.{pow-add, pow_pos}
-use Rattle.std.proofs.lemmas.Bool.{eqb-false, cases_eq}
+use Rattle.std.proofs.lemmas.Bool.{eqb-false}
 use Rattle.std.proofs.lemmas.List.{get_or-set_same, get_or-set_other}
-use Rattle.std.proofs.lemmas.List.FromFn.{length-map-range_with_len, get_or-map-range_with_len}
-use Rattle.std.proofs.lemmas.Nat.Bits.{bit_at-lt, bit_at-zero, bit_at_or, bit_at_above, bit_at_cat_low, bit_at_cat_high}
-use Rattle.vbi_words.specs.Levels.{level_at}
-use Rattle.vbi_line.specs.Packing.{level_of_bit, levels_in, packed_level, unpacked}
 
 -- ---- a bit and its level
 

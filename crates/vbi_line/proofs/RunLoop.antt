@@ -1,20 +1,13 @@
 -- What the loop over a line's runs needs.
-use Rattle.std.proofs.Common.{◌≡◌, ℕ, zero, suc, ◌+◌, ◌<◌, ◌≤◌, Bool, false, List, [], ◌∷◌, ◌++◌, length, take, sym, ap}
-use Rattle.std.proofs.Common.{subst, ◌∙◌, arith, add-zero, add-one, append_assoc}
+use Rattle.vbi_line.proofs.Common.{◌≡◌, ℕ, zero, suc, ◌+◌, ◌<◌, ◌≤◌, Bool, false, [], ◌∷◌, ◌++◌, length, sym, ap, subst}
+use Rattle.vbi_line.proofs.Common.{◌∙◌, arith, add-zero, append_assoc, append-nil, System, Change, Hold, IsOutcome}
+use Rattle.vbi_line.proofs.Common.{level_at, sizes_of, State, dead, level_of, next_of, after_of, state_at}
+use Rattle.vbi_line.proofs.Common.{after_append, Decoder, state_of, DiesAfter, IsRun}
+use Rattle.std.proofs.Common.{List, take, add-one}
 use Rattle.std.proofs.Math.ListN.{replicate}
-use Rattle.std.proofs.lemmas.List.{take_more, replicate_more, append-nil}
-use Rattle.vbi_words.specs.declared.system.System.{System}
-use Rattle.vbi_words.specs.declared.outcome.Outcome.TheVariants.{Change, Hold}
-use Rattle.vbi_words.specs.Outcomes.{IsOutcome}
-use Rattle.vbi_words.specs.Levels.{level_at}
-use Rattle.vbi_words.proofs.Sizes.{sizes_of}
+use Rattle.std.proofs.lemmas.List.{take_more, replicate_more}
 use Rattle.vbi_words.proofs.Machine
-use Rattle.vbi_words.proofs.Machine.{State, lead, dead, level_of}
-use Rattle.vbi_words.proofs.SystemMachine.{next_of, after_of, state_at, after_append}
 use Rattle.vbi_words.proofs.Outcomes.{DiesAt, GoesOn, hold_outcome, change_outcome}
-use Rattle.vbi_line.specs.declared.decoder.Decoder.{Decoder}
-use Rattle.vbi_line.specs.Decoder.{state_of, DiesAfter}
-use Rattle.vbi_line.specs.Packing.{IsRun}
 use Rattle.vbi_line.proofs.Ending.{alive}
 
 -- a run with its length by another name

@@ -1,14 +1,10 @@
 -- What reading a whole run needs.
-use Rattle.std.proofs.Common.{arith}
-use Rattle.std.proofs.Common.{◌≡◌, ℕ, ◌+◌, ◌-◌, ◌<◌, ◌≤◌, Bool, Some, None, sym}
+use Rattle.vbi_line.proofs.Common.{arith, ◌≡◌, ℕ, ◌+◌, ◌-◌, ◌<◌, ◌≤◌, Bool, Some, None, sym, System, sizes_of, State}
+use Rattle.vbi_line.proofs.Common.{length_of, grown, next_of, after_of, limit_of, IsFit, Decoder, state_of, DiesAfter}
 use Rattle.std.proofs.Math.ListN.{replicate}
-use Rattle.vbi_words.specs.declared.system.System.{System}
-use Rattle.vbi_words.proofs.Sizes.{sizes_of, apart_of}
-use Rattle.vbi_words.proofs.Machine.{State, length_of, grown, next_fit}
-use Rattle.vbi_words.proofs.SystemMachine.{next_of, after_of, limit_of, IsFit}
+use Rattle.vbi_words.proofs.Sizes.{apart_of}
+use Rattle.vbi_words.proofs.Machine.{next_fit}
 use Rattle.vbi_words.proofs.Stays
-use Rattle.vbi_line.specs.declared.decoder.Decoder.{Decoder}
-use Rattle.vbi_line.specs.Decoder.{state_of, DiesAfter}
 use Rattle.vbi_line.proofs.Ending.{alive}
 
 -- a run of v, after whose first level the decoder is `begun`

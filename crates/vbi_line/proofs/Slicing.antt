@@ -1,19 +1,17 @@
 -- Slicing samples into levels.
-use Rattle.std.proofs.Common.{◌≡◌, ℕ, zero, suc, ◌+◌, ◌-◌, ◌*◌, ◌%◌, ◌^◌, ◌<◌, Bool}
-use Rattle.std.proofs.Common.{true, false, cond, ltb, nat_eq, nat_lt, List, [], ◌∷◌, ◌++◌}
-use Rattle.std.proofs.Common.{inl, inr, map, length, get_or, refl, sym, ap, ◌∙◌, arith, lit≤}
+use Rattle.vbi_line.proofs.Common.{◌≡◌, ℕ, zero, suc, ◌+◌, ◌-◌, ◌*◌, ◌%◌, ◌^◌, ◌<◌, Bool, true, false, cond, nat_eq}
+use Rattle.vbi_line.proofs.Common.{nat_lt, [], ◌∷◌, ◌++◌, inl, inr, map, length, get_or, refl, sym, ap, ◌∙◌, arith}
+use Rattle.vbi_line.proofs.Common.{cases_lt, get_or-map, length-map-range_with_len, get_or-map-range_with_len, Slicing}
+use Rattle.vbi_line.proofs.Common.{is_high_of, level_at, sample_at, KeepsBytes, level_of_bit, levels_in}
+use Rattle.std.proofs.Common.{ltb, List, lit≤}
 use Rattle.std.specs.Prelude.{replicate}
-use Rattle.std.proofs.lemmas.Bool.{cases_lt}
-use Rattle.std.proofs.lemmas.List.{get_or-map, length-map, length-append, ext_get_or}
-use Rattle.std.proofs.lemmas.List.{get_or_append_left, get_or-append-add}
-use Rattle.std.proofs.lemmas.List.FromFn.{length-map-range_with_len, get_or-map-range_with_len}
+use Rattle.std.proofs.lemmas.List.{length-map, length-append, ext_get_or, get_or_append_left, get_or-append-add}
 use Rattle.std.proofs.lemmas.Simd.{tops_compared, zip2_splat_left, mask_l-mod, mask_l-lt, bit_mask_l}
 use lib.Lanes.{zip2, mask_l, top}
 use mir.Val.{bits, hbits}
 use mir.Syntax.{w16}
-use Rattle.vbi_words.specs.Levels.{Slicing, is_high_of, samples_of, row_levels, level_at}
-use Rattle.vbi_line.specs.Line.{Line, sample_at, KeepsBytes, LooksAtBlock}
-use Rattle.vbi_line.specs.Packing.{level_of_bit, levels_in}
+use Rattle.vbi_words.specs.Levels.{samples_of, row_levels}
+use Rattle.vbi_line.specs.Line.{Line, LooksAtBlock}
 
 -- ---- sixteen samples
 

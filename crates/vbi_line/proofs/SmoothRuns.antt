@@ -1,22 +1,18 @@
 -- Smoothed levels by whole runs.
-use Rattle.std.proofs.Common.{◌≡◌, ℕ, suc, zero, ◌+◌, ◌-◌, ◌<◌, ◌≤◌, Bool, false, true, List, [], ◌∷◌, ◌++◌, ◌⊎◌, inl}
-use Rattle.std.proofs.Common.{inr, length, drop, refl, sym, ap, subst, ◌∙◌, arith, append_assoc, Some, None}
+use Rattle.vbi_line.proofs.Common.{◌≡◌, ℕ, suc, zero, ◌+◌, ◌-◌, ◌<◌, ◌≤◌, Bool, false, true, [], ◌∷◌, ◌++◌, ◌⊎◌, inl}
+use Rattle.vbi_line.proofs.Common.{inr, length, drop, refl, sym, ap, subst, ◌∙◌, arith, append_assoc, Some, None}
+use Rattle.vbi_line.proofs.Common.{append-nil, not, System, IsWord, ShowsNone, level_at, smooth_of, State, dead}
+use Rattle.vbi_line.proofs.Common.{after_of, ending_of, IsFit, state_after, fit_after, after_append, IsRun, DiesAfter}
+use Rattle.std.proofs.Common.{List}
 use Rattle.std.proofs.Math.ListN.{replicate}
-use Rattle.std.proofs.lemmas.List.{append-nil, drop_all}
-use Rattle.std.specs.Prelude.{not}
-use Rattle.vbi_words.specs.declared.system.System.{System}
-use Rattle.vbi_words.specs.Words.{IsWord, lowest_bits}
-use Rattle.vbi_words.specs.Shows.{Shows, ShowsNone}
-use Rattle.vbi_words.specs.Levels.{level_at}
-use Rattle.vbi_words.specs.Smooth.{level_of_four, smooth_of}
-use Rattle.vbi_words.proofs.Machine.{State, dead}
+use Rattle.std.proofs.lemmas.List.{drop_all}
+use Rattle.vbi_words.specs.Words.{lowest_bits}
+use Rattle.vbi_words.specs.Shows.{Shows}
+use Rattle.vbi_words.specs.Smooth.{level_of_four}
 use Rattle.vbi_words.proofs.Runs.{run_joined, equal_from}
-use Rattle.vbi_words.proofs.SystemMachine.{after_of, ending_of, IsFit, state_after, fit_after, after_append}
 use Rattle.vbi_words.proofs.Shown.{viable_alive, ended_shows, ended_none}
 use Rattle.vbi_words.proofs.Smoothing.{window, smooth_window}
 use Rattle.vbi_words.proofs.SmoothKeeps.{steady, steady_same}
-use Rattle.vbi_line.specs.Packing.{IsRun}
-use Rattle.vbi_line.specs.Decoder.{DiesAfter}
 
 -- ---- a run in the window
 

@@ -1,32 +1,28 @@
 -- The array of a line's bytes in memory is the bytes side by side, and back. The proof by hand that lends a part of it
 -- uses this.
-use Rattle.std.proofs.Common.{◌≡◌, ℕ, ◌+◌, ◌-◌, ◌≤◌, List, [], ◌∷◌, ◌++◌, length, take, drop, refl, sym, ap, ◌∙◌, arith}
-use Rattle.std.proofs.lemmas.List.{length-take-le, take_at, take-append-drop, drop-drop, length-drop, length-append}
-use seplogic.Ra.Ura.{Ura}
+use Rattle.vbi_line.proofs.Common.{◌≡◌, ℕ, ◌+◌, ◌-◌, ◌≤◌, [], ◌∷◌, ◌++◌, length, drop, refl, sym, ap, ◌∙◌, arith}
+use Rattle.vbi_line.proofs.Common.{length-take-le, take_at, drop-drop, Ura, SProp, ent, sep, Fml, ftrue, Logic, sem}
+use Rattle.vbi_line.proofs.Common.{cells, ‵, ◌⊛◌, raw, ◌$◌, ◌∵◌, !, qed, move, done, rewrite, split, fsplit, fjoin}
+use Rattle.vbi_line.proofs.Common.{use1, use2, Array, u8, mem, nothing, LineBytes, with_part}
+use Rattle.std.proofs.Common.{List, take}
+use Rattle.std.proofs.lemmas.List.{take-append-drop, length-drop, length-append}
 use mir.Syntax.{Ty, ty_array, ty_int, ty_struct, w8}
-use base.Logic.{SProp, ent, sep, guard}
+use base.Logic.{guard}
 use base.Fraction.{full_share}
-use base.Fml.{Fml, ftrue, fsep, feq}
+use base.Fml.{fsep, feq}
 use prog.Memory.{align, up}
-use types.Logic.{Logic, sem}
-use types.SemTy.{cells}
-use types.Kit.{‵, ◌⊛◌, raw, ◌$◌, ◌∵◌, !, qed, move, drop as let_go, done, rewrite, check}
-use types.Kit.{split, fsplit, fjoin, use1, use2, feq_l, feq_i}
-use denote.Array.{Array, Array-Lawful}
+use types.Kit.{drop as let_go, check, feq_l, feq_i}
+use denote.Array.{Array-Lawful}
 use denote.ArrayMemory.{Array-apart, Array-whole}
-use denote.Builtin.{u8}
 use denote.Index.{row, whole_in, whole_out}
-use denote.Memory.{mem, part_at}
+use denote.Memory.{part_at}
 use denote.Plain.{uint_Lawful}
-use denote.Steps.{nothing}
 use denote.Struct.Declared.{shape}
 use denote.Struct.Members.{Member, raw_tys, lawful_Lones}
 use denote.Struct.Parts.{Struct-left, left_Struct}
 use denote.Struct.Recorded.{Recorded-part}
 use denote.Struct.Struct.{Struct}
 use Rattle.vbi_line.specs.contracts.store.LineBytes.{the_row, the_type}
-use Rattle.vbi_line.specs.declared.store.LineBytes.{LineBytes}
-use Rattle.vbi_line.specs.StoreLends.{with_part}
 
 -- ---- the lists
 

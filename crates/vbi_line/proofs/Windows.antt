@@ -1,14 +1,11 @@
 -- The levels of 64 columns in one word.
-use Rattle.std.proofs.Common.{◌≡◌, ℕ, ◌+◌, ◌-◌, ◌*◌, ◌/◌, ◌%◌, ◌^◌, ◌<◌, ◌≤◌, false, List}
-use Rattle.std.proofs.Common.{max, nat_eq, slice_index, sym, ap, ◌∙◌, arith, add-zero, bit_or}
-use Rattle.std.specs.Int.{bit_at}
-use Rattle.std.proofs.Math.Nat.{max-zero, zero-max}
-use Rattle.std.proofs.lemmas.Nat.{div-add-mod', pow_pos}
-use Rattle.std.proofs.lemmas.Bool.{cases_lt}
+use Rattle.vbi_line.proofs.Common.{◌≡◌, ℕ, ◌+◌, ◌-◌, ◌*◌, ◌/◌, ◌%◌, ◌^◌, ◌<◌, ◌≤◌, false, max, nat_eq, slice_index, sym}
+use Rattle.vbi_line.proofs.Common.{ap, ◌∙◌, arith, add-zero, bit_or, bit_at, max-zero, zero-max, pow_pos, cases_lt}
+use Rattle.vbi_line.proofs.Common.{bit_at-zero, bit_at_or, bit_at_above, bit_at_cat_low, bit_at_cat_high, level_at}
+use Rattle.vbi_line.proofs.Common.{level_of_bit, packed_level, unpacked}
+use Rattle.std.proofs.Common.{List}
+use Rattle.std.proofs.lemmas.Nat.{div-add-mod'}
 use Rattle.std.proofs.lemmas.List.{get_or_past}
-use Rattle.std.proofs.lemmas.Nat.Bits.{bit_at-zero, bit_at_or, bit_at_above, bit_at_cat_low, bit_at_cat_high}
-use Rattle.vbi_words.specs.Levels.{level_at}
-use Rattle.vbi_line.specs.Packing.{level_of_bit, packed_level, unpacked}
 use Rattle.vbi_line.proofs.Packs.{bit_after, length-unpacked, level_unpacked}
 
 -- the level of any column for which there is a bit; past the width it is low

@@ -1,15 +1,9 @@
 -- Two lists of one length that differ in few columns show the same word.
-use Rattle.std.proofs.Common.{◌≡◌, ℕ, suc, zero, ◌≤◌, ◌<◌, ◌+◌, ◌-◌, Bool, true, false, List, [], ◌∷◌, ◌++◌, ◌⊎◌, inl}
-use Rattle.std.proofs.Common.{inr, length, refl, sym, ap, subst, ◌∙◌, arith}
-use Rattle.std.proofs.Math.ListN.{replicate}
+use Rattle.vbi_words.proofs.Common.{◌≡◌, ℕ, suc, zero, ◌≤◌, ◌<◌, ◌+◌, ◌-◌, Bool, true, false, List, [], ◌∷◌, ◌++◌, ◌⊎◌}
+use Rattle.vbi_words.proofs.Common.{inl, inr, refl, sym, ap, subst, ◌∙◌, arith, replicate, cases_order, not, System}
+use Rattle.vbi_words.proofs.Common.{Ntsc, Pal, half_min, half_max, Shows, differs, differences, least_distance}
+use Rattle.std.proofs.Common.{length}
 use Rattle.std.proofs.lemmas.List.{length-replicate, length-append}
-use Rattle.std.proofs.lemmas.Bool.{cases_order}
-use Rattle.std.specs.Prelude.{not}
-use Rattle.vbi_words.specs.declared.system.System.{System}
-use Rattle.vbi_words.specs.declared.system.System.TheVariants.{Ntsc, Pal}
-use Rattle.vbi_words.specs.Geometry.{half_min, half_max}
-use Rattle.vbi_words.specs.Shows.{Shows}
-use Rattle.vbi_words.specs.Jitter.{differs, differences, least_distance}
 use Rattle.vbi_words.proofs.Bits
 use Rattle.vbi_words.proofs.Shown.{word_bits, draws_from_shows}
 use Rattle.vbi_words.proofs.Sizes.{Sizes, AreApart, sizes_of, apart_of}

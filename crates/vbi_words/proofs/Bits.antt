@@ -1,15 +1,13 @@
 -- The bits of a number as a list, and its half cells.
-use Rattle.std.proofs.Common.{get_or, ◌≡◌, ℕ, suc, zero, ◌≤◌, ◌<◌, ◌+◌, ◌-◌, ◌*◌, ◌/◌, ◌%◌, ◌^◌, Bool, true, false, eqb}
-use Rattle.std.proofs.Common.{List, [], ◌∷◌, ◌++◌, ◌⊎◌, refl, ap, sym, ◌∙◌, subst, arith, append_assoc}
-use Rattle.std.proofs.Common.{zero-add, add-one, length, add-zero}
+use Rattle.vbi_words.proofs.Common.{get_or, ◌≡◌, ℕ, suc, zero, ◌≤◌, ◌<◌, ◌+◌, ◌-◌, ◌*◌, ◌/◌, ◌%◌, ◌^◌, Bool, true}
+use Rattle.vbi_words.proofs.Common.{false, eqb, List, [], ◌∷◌, ◌++◌, ◌⊎◌, refl, ap, sym, ◌∙◌, subst, arith}
+use Rattle.vbi_words.proofs.Common.{append_assoc, zero-add, add-one, add-zero, eqb-true, cases_lt, append-nil, not}
+use Rattle.vbi_words.proofs.Common.{flat_map, cell_of}
+use Rattle.std.proofs.Common.{length}
 use Rattle.std.proofs.lemmas.Nat.{pow-add}
 use Rattle.std.proofs.lemmas.Nat.Bits.{bit_at-suc, bit_at_above, same_from_bits_below}
-use Rattle.std.proofs.lemmas.Bool.{eqb-true, cases_lt}
-use Rattle.std.proofs.lemmas.List.{append-nil}
 use Rattle.std.specs.Int.{bit_at}
-use Rattle.std.specs.Prelude.{not}
-use Rattle.std.specs.List.{flat_map}
-use Rattle.vbi_words.specs.Words.{lowest_bits, cell_of}
+use Rattle.vbi_words.specs.Words.{lowest_bits}
 use Rattle.vbi_words.proofs.Runs.{same_head, same_tail}
 
 -- whether this bit of the number is a one

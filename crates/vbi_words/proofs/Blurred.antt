@@ -1,16 +1,10 @@
 -- A row whose samples beside each change of level lie on either side is read as its word.
-use Rattle.std.proofs.Common.{◌≡◌, ℕ, suc, zero, ◌≤◌, ◌<◌, ◌+◌, ◌-◌, Bool, false, List, [], ◌∷◌, ◌⊎◌, inl, inr, length}
-use Rattle.std.proofs.Common.{get_or, refl, sym, ap, subst, ◌∙◌, arith}
-use Rattle.std.proofs.lemmas.Bool.{cases_lt}
-use Rattle.vbi_words.specs.declared.system.System.{System}
-use Rattle.vbi_words.specs.declared.system.System.TheVariants.{Ntsc, Pal}
-use Rattle.vbi_words.specs.declared.outcome.Outcome.{Outcome}
-use Rattle.vbi_words.specs.declared.outcome.Outcome.TheVariants.{Word, Blank, Unfinished, Change, Hold}
-use Rattle.vbi_words.specs.Jitter.{ShowsAmply, IsBlurred, ReadsWord, HasGlitches, differs, differences, least_distance}
-use Rattle.vbi_words.specs.Outcomes.{AllLow, IsOutcome}
-use Rattle.vbi_words.specs.Levels.{level_at}
-use Rattle.vbi_words.specs.Readings.{IsReading}
-use Rattle.vbi_words.specs.Shows.{Shows, ShowsNone}
+use Rattle.vbi_words.proofs.Common.{◌≡◌, ℕ, suc, zero, ◌≤◌, ◌<◌, ◌+◌, ◌-◌, Bool, false, List, [], ◌∷◌, ◌⊎◌, inl, inr}
+use Rattle.vbi_words.proofs.Common.{get_or, refl, sym, ap, subst, ◌∙◌, arith, cases_lt, System, Ntsc, Pal, Outcome}
+use Rattle.vbi_words.proofs.Common.{Word, Blank, Unfinished, Change, Hold, ShowsAmply, IsBlurred, ReadsWord}
+use Rattle.vbi_words.proofs.Common.{HasGlitches, differs, differences, least_distance, AllLow, IsOutcome, level_at}
+use Rattle.vbi_words.proofs.Common.{IsReading, Shows, ShowsNone}
+use Rattle.std.proofs.Common.{length}
 use Rattle.vbi_words.specs.Smooth.{smooth_of}
 use Rattle.vbi_words.proofs.Apart.{same_word}
 use Rattle.vbi_words.proofs.Found.{found}

@@ -1,12 +1,9 @@
 -- A word's levels, read cell by cell: a list of bits in place of a number, and the lows after the last half cell.
-use Rattle.std.proofs.Common.{◌≡◌, ℕ, suc, zero, ◌≤◌, ◌<◌, ◌+◌, ◌-◌, max, Bool, true, false, List, []}
-use Rattle.std.proofs.Common.{◌∷◌, ◌++◌, ◌⊎◌, inl, inr, refl, ap, sym, ◌∙◌, subst, arith, append_assoc}
-use Rattle.std.proofs.Math.ListN.{replicate}
+use Rattle.vbi_words.proofs.Common.{◌≡◌, ℕ, suc, zero, ◌≤◌, ◌<◌, ◌+◌, ◌-◌, Bool, true, false, List, [], ◌∷◌, ◌++◌, ◌⊎◌}
+use Rattle.vbi_words.proofs.Common.{inl, inr, refl, ap, sym, ◌∙◌, subst, arith, append_assoc, replicate, not, flat_map}
+use Rattle.vbi_words.proofs.Common.{cell_of, Spells}
+use Rattle.std.proofs.Common.{max}
 use Rattle.std.proofs.Math.Bool.{not-not}
-use Rattle.std.specs.Prelude.{not}
-use Rattle.std.specs.List.{flat_map}
-use Rattle.vbi_words.specs.Words.{cell_of}
-use Rattle.vbi_words.specs.Shows.{Spells}
 use Rattle.vbi_words.proofs.Sizes.{Sizes, AreApart}
 use Rattle.vbi_words.proofs.Runs
 use Rattle.vbi_words.proofs.Runs.{Run}

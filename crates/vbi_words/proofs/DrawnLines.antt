@@ -1,16 +1,15 @@
 -- The bytes of a drawn row, and what it is read as.
-use Rattle.std.proofs.Common.{◌≡◌, ℕ, ◌+◌, ◌*◌, ◌/◌, ◌%◌, ◌<◌, List, [], ◌∷◌, ◌++◌, length, take, set, map, refl, sym}
-use Rattle.std.proofs.Common.{ap, subst, ◌∙◌, arith, append_assoc, inl, zero-add}
+use Rattle.vbi_words.proofs.Common.{◌≡◌, ℕ, ◌+◌, ◌*◌, ◌/◌, ◌%◌, ◌<◌, List, [], ◌∷◌, ◌++◌, take, refl, sym, ap, subst}
+use Rattle.vbi_words.proofs.Common.{◌∙◌, arith, append_assoc, inl, zero-add, flat_map, range_with_len, append-nil}
+use Rattle.vbi_words.proofs.Common.{take_all, length-map-range_with_len, System, width_of, line_bytes, Slicing}
+use Rattle.vbi_words.proofs.Common.{levels_of, IsReading}
+use Rattle.std.proofs.Common.{length, set, map}
 use Rattle.std.specs.Prelude.{Option, Some, None}
-use Rattle.std.specs.List.{flat_map, range_with_len}
-use Rattle.std.proofs.lemmas.List.{append-nil, take_all, take_more_set, length-set}
+use Rattle.std.proofs.lemmas.List.{take_more_set, length-set}
 use Rattle.std.proofs.lemmas.List.Concat.{flat_map-append}
-use Rattle.std.proofs.lemmas.List.FromFn.{length-map-range_with_len, map-range_with_len_more}
-use Rattle.vbi_words.specs.declared.system.System.{System}
-use Rattle.vbi_words.specs.Geometry.{width_of, line_bytes}
-use Rattle.vbi_words.specs.Levels.{Slicing, samples_of, levels_of, row_levels}
+use Rattle.std.proofs.lemmas.List.FromFn.{map-range_with_len_more}
+use Rattle.vbi_words.specs.Levels.{samples_of, row_levels}
 use Rattle.vbi_words.specs.Words.{IsWordOrNone}
-use Rattle.vbi_words.specs.Readings.{IsReading}
 use Rattle.vbi_words.specs.Drawn.{drawn_sample_of, drawn_row_of, sample_bytes, drawn_line_of, drawn_reading}
 use Rattle.vbi_words.proofs.Sizes.{line_bytes-twice}
 use Rattle.vbi_words.proofs.DrawnShows.{row_shows, row_low}

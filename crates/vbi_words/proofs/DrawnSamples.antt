@@ -1,19 +1,13 @@
 -- The samples of a drawn row, by the half cell in which each column lies.
-use Rattle.std.proofs.Common.{◌≡◌, ℕ, ◌+◌, ◌<◌, Bool, true, false, cond, length, get_or, refl, sym, subst, ◌∙◌}
-use Rattle.std.proofs.Common.{arith, List, zero-add}
+use Rattle.vbi_words.proofs.Common.{◌≡◌, ℕ, ◌+◌, ◌<◌, Bool, true, false, cond, get_or, refl, sym, subst, ◌∙◌, arith}
+use Rattle.vbi_words.proofs.Common.{List, zero-add, list_any, range_with_len, Any-from_list_any, list_any_at}
+use Rattle.vbi_words.proofs.Common.{length-map-range_with_len, get_or-map-range_with_len, ext_get_or, and_parts}
+use Rattle.vbi_words.proofs.Common.{leb-true, ltb-true, le-leb, lt-ltb, System, width_of, Slicing, halves_of, boundary}
+use Rattle.vbi_words.proofs.Common.{IsDrawnHigh, IsDrawnRow}
+use Rattle.std.proofs.Common.{length}
 use Rattle.std.specs.Prelude.{Option, Some, None, ◌&&◌, nat_lt, nat_le}
-use Rattle.std.specs.List.{list_any, range_with_len}
-use Rattle.std.proofs.lemmas.List.Folds.{Any-from_list_any, list_any_at}
-use Rattle.std.proofs.lemmas.List.FromFn.{length-range_with_len, get_or-range_with_len, length-map-range_with_len}
-use Rattle.std.proofs.lemmas.List.FromFn.{get_or-map-range_with_len}
-use Rattle.std.proofs.lemmas.List.{ext_get_or}
-use Rattle.std.proofs.lemmas.Bool.{and_parts, leb-true, ltb-true, le-leb, lt-ltb}
-use Rattle.vbi_words.specs.declared.system.System.{System}
-use Rattle.vbi_words.specs.Geometry.{width_of}
-use Rattle.vbi_words.specs.Levels.{Slicing}
-use Rattle.vbi_words.specs.Words.{halves_of}
-use Rattle.vbi_words.specs.Drawn.{boundary, is_drawn_in, is_drawn_high, drawn_sample_of, drawn_row_of}
-use Rattle.vbi_words.specs.Drawn.{IsDrawnHigh, IsDrawnSample, IsDrawnRow}
+use Rattle.std.proofs.lemmas.List.FromFn.{length-range_with_len, get_or-range_with_len}
+use Rattle.vbi_words.specs.Drawn.{is_drawn_in, is_drawn_high, drawn_sample_of, drawn_row_of, IsDrawnSample}
 
 high_there : (system : System) (word column : ℕ)
     → list_any (is_drawn_in system word column) (range_with_len 0 48) ≡ true

@@ -1,21 +1,16 @@
 -- A drawn row shows its word.
-use Rattle.std.proofs.Common.{◌≡◌, ℕ, suc, ◌≤◌, ◌<◌, ◌+◌, ◌-◌, ◌*◌, Bool, true, false, List, [], ◌∷◌, ◌++◌, ◌⊎◌, inl}
-use Rattle.std.proofs.Common.{inr, length, get_or, drop, refl, sym, ap, subst, ◌∙◌, arith, add-zero, append_assoc, Some}
-use Rattle.std.proofs.Common.{None}
-use Rattle.std.proofs.Math.ListN.{replicate}
-use Rattle.std.proofs.lemmas.List.{append-nil, get_or-map, length-map, drop_all}
+use Rattle.vbi_words.proofs.Common.{◌≡◌, ℕ, suc, ◌≤◌, ◌<◌, ◌+◌, ◌-◌, ◌*◌, Bool, true, false, List, [], ◌∷◌, ◌++◌, ◌⊎◌}
+use Rattle.vbi_words.proofs.Common.{inl, inr, get_or, drop, refl, sym, ap, subst, ◌∙◌, arith, add-zero, append_assoc}
+use Rattle.vbi_words.proofs.Common.{replicate, append-nil, drop_all, lt-ltb, flat_map, System, Ntsc, Pal, width_of}
+use Rattle.vbi_words.proofs.Common.{half_min, half_max, Slicing, levels_of, IsWord, halves_of, cell_of, Shows, Spells}
+use Rattle.vbi_words.proofs.Common.{ShowsAmply, AllLow, boundary, IsDrawnHigh, IsDrawnRow}
+use Rattle.std.proofs.Common.{length, Some, None}
+use Rattle.std.proofs.lemmas.List.{get_or-map, length-map}
 use Rattle.std.proofs.lemmas.List.Elements.{All-from_get_or}
-use Rattle.std.proofs.lemmas.Bool.{lt-ltb, le-ltb}
-use Rattle.std.specs.List.{flat_map}
-use Rattle.vbi_words.specs.declared.system.System.{System}
-use Rattle.vbi_words.specs.declared.system.System.TheVariants.{Ntsc, Pal}
-use Rattle.vbi_words.specs.Geometry.{width_of, half_min, half_max}
-use Rattle.vbi_words.specs.Levels.{Slicing, is_high_of, levels_of}
-use Rattle.vbi_words.specs.Words.{IsWord, halves_of, lowest_bits, cell_of}
-use Rattle.vbi_words.specs.Shows.{Shows, Spells}
-use Rattle.vbi_words.specs.Jitter.{ShowsAmply}
-use Rattle.vbi_words.specs.Outcomes.{AllLow}
-use Rattle.vbi_words.specs.Drawn.{boundary, drawn_row_of, IsDrawnHigh, IsDrawnRow}
+use Rattle.std.proofs.lemmas.Bool.{le-ltb}
+use Rattle.vbi_words.specs.Levels.{is_high_of}
+use Rattle.vbi_words.specs.Words.{lowest_bits}
+use Rattle.vbi_words.specs.Drawn.{drawn_row_of}
 use Rattle.vbi_words.proofs.Bits.{length-lowest_bits}
 use Rattle.vbi_words.proofs.DrawnSamples.{is_drawn_row}
 use Rattle.vbi_words.proofs.Runs.{equal_from}

@@ -1,14 +1,9 @@
 -- Each list of levels has one outcome.
-use Rattle.std.proofs.Common.{◌≡◌, ℕ, suc, zero, ◌≤◌, ◌+◌, Bool, true, false, eqb, leb, List, ◌⊎◌}
-use Rattle.std.proofs.Common.{Option, Some, None, inl, inr, refl, ap, sym, ◌∙◌, subst, arith, add-one, length, take}
-use Rattle.std.proofs.lemmas.List.{take_all}
-use Rattle.std.proofs.lemmas.Bool.{cond_both, cases_order, eqb-true, and_parts}
-use Rattle.vbi_words.specs.declared.system.System.{System}
-use Rattle.vbi_words.specs.declared.outcome.Outcome.{Outcome}
-use Rattle.vbi_words.specs.declared.outcome.Outcome.TheVariants.{Word, Blank, Unfinished, Change, Hold}
-use Rattle.vbi_words.specs.Shows.{Viable}
-use Rattle.vbi_words.specs.Levels.{level_at}
-use Rattle.vbi_words.specs.Outcomes.{FirstHopeless, Holds, IsOutcome}
+use Rattle.vbi_words.proofs.Common.{◌≡◌, ℕ, suc, zero, ◌≤◌, ◌+◌, Bool, true, false, eqb, leb, List, ◌⊎◌, inl, inr, refl}
+use Rattle.vbi_words.proofs.Common.{ap, sym, ◌∙◌, subst, arith, add-one, take, take_all, cond_both, cases_order}
+use Rattle.vbi_words.proofs.Common.{eqb-true, and_parts, System, Outcome, Word, Blank, Unfinished, Change, Hold, Viable}
+use Rattle.vbi_words.proofs.Common.{level_at, FirstHopeless, Holds, IsOutcome}
+use Rattle.std.proofs.Common.{Option, Some, None, length}
 use Rattle.vbi_words.proofs.Machine
 use Rattle.vbi_words.proofs.Machine.{State, lead, first, second, tail, dead, level_of, is_lead}
 use Rattle.vbi_words.proofs.SystemMachine.{IsFit, ending_of, state_after, state_at, fit_after}

@@ -1,9 +1,6 @@
 -- One half cell of a row that is blurred at its changes of level: where it begins, what is inside, where it ends.
-use Rattle.std.proofs.Common.{◌≡◌, ℕ, ◌≤◌, ◌<◌, ◌+◌, ◌-◌, Bool, false, List, ◌⊎◌, inl}
-use Rattle.std.proofs.Common.{inr, get_or, refl, sym, ap, ◌∙◌, arith}
-use Rattle.std.proofs.lemmas.Bool.{cases_order}
-use Rattle.std.specs.Prelude.{not}
-use Rattle.vbi_words.specs.Jitter.{IsBlurred, NoneAlone}
+use Rattle.vbi_words.proofs.Common.{◌≡◌, ℕ, ◌≤◌, ◌<◌, ◌+◌, ◌-◌, Bool, false, List, ◌⊎◌, inl, inr, get_or, refl, sym, ap}
+use Rattle.vbi_words.proofs.Common.{◌∙◌, arith, cases_order, not, IsBlurred, NoneAlone}
 use Rattle.vbi_words.proofs.Runs.{same_or_not}
 
 module _ (d l : List Bool) (blurred : IsBlurred d l) where

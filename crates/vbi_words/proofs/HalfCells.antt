@@ -1,15 +1,12 @@
 -- The half cells of a row that is blurred at its changes of level, one after the other: they are smoothed as those of
 -- a row that shows the word.
-use Rattle.std.proofs.Common.{◌≡◌, ℕ, ◌≤◌, ◌<◌, ◌+◌, ◌-◌, Bool, true, false, List, [], ◌∷◌, ◌++◌, ◌⊎◌, inl, suc, inr}
-use Rattle.std.proofs.Common.{length, get_or, drop, refl, sym, ap, ◌∙◌, arith, append_assoc}
-use Rattle.std.proofs.Math.ListN.{replicate}
-use Rattle.std.proofs.Math.Seq.{drop-append_seam, drop-cons}
-use Rattle.std.proofs.lemmas.List.{append-nil, drop_all, drop-drop, get_or-drop, get_or-replicate, get_or_past}
-use Rattle.std.proofs.lemmas.List.{get_or_append_left, get_or-append-add, length-replicate, length-append}
-use Rattle.std.proofs.lemmas.Bool.{cases_order}
-use Rattle.std.specs.Prelude.{not}
-use Rattle.vbi_words.specs.Shows.{Spells}
-use Rattle.vbi_words.specs.Jitter.{IsBlurred, NoneAlone}
+use Rattle.vbi_words.proofs.Common.{◌≡◌, ℕ, ◌≤◌, ◌<◌, ◌+◌, ◌-◌, Bool, true, false, List, [], ◌∷◌, ◌++◌, ◌⊎◌, inl, suc}
+use Rattle.vbi_words.proofs.Common.{inr, get_or, drop, refl, sym, ap, ◌∙◌, arith, append_assoc, replicate, drop-cons}
+use Rattle.vbi_words.proofs.Common.{append-nil, drop_all, get_or-drop, get_or_append_left, get_or-append-add}
+use Rattle.vbi_words.proofs.Common.{cases_order, not, Spells, IsBlurred, NoneAlone}
+use Rattle.std.proofs.Common.{length}
+use Rattle.std.proofs.Math.Seq.{drop-append_seam}
+use Rattle.std.proofs.lemmas.List.{drop-drop, get_or-replicate, get_or_past, length-replicate, length-append}
 use Rattle.vbi_words.proofs.HalfCell
 use Rattle.vbi_words.proofs.Runs.{equal_from, run_joined}
 use Rattle.vbi_words.proofs.Smoothing.{window}

@@ -1,14 +1,8 @@
 -- A list of lows alone: smoothed it is as it was, shows no word, and is read as blank.
-use Rattle.std.proofs.Common.{◌≡◌, ℕ, Bool, false, List, [], ◌∷◌, ◌++◌, length, refl, sym, ap, subst, ◌∙◌}
-use Rattle.std.proofs.Math.ListN.{replicate}
-use Rattle.std.proofs.lemmas.List.{append-nil}
-use Rattle.std.proofs.lemmas.List.Elements.{recursion_from_All}
-use Rattle.std.specs.List.{AllByRecursion}
-use Rattle.vbi_words.specs.declared.system.System.{System}
-use Rattle.vbi_words.specs.declared.outcome.Outcome.TheVariants.{Blank}
-use Rattle.vbi_words.specs.Outcomes.{AllLow, IsOutcome}
-use Rattle.vbi_words.specs.Readings.{IsReading}
-use Rattle.vbi_words.specs.Shows.{Shows, ShowsNone}
+use Rattle.vbi_words.proofs.Common.{◌≡◌, ℕ, Bool, false, List, [], ◌∷◌, ◌++◌, refl, sym, ap, subst, ◌∙◌, replicate}
+use Rattle.vbi_words.proofs.Common.{append-nil, recursion_from_All, AllByRecursion, System, Blank, AllLow, IsOutcome}
+use Rattle.vbi_words.proofs.Common.{IsReading, Shows, ShowsNone}
+use Rattle.std.proofs.Common.{length}
 use Rattle.vbi_words.specs.Smooth.{smooth_of}
 use Rattle.vbi_words.proofs.Cutting
 use Rattle.vbi_words.proofs.Shown.{word_bits, draws_from_shows}

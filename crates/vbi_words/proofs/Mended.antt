@@ -1,15 +1,10 @@
 -- A row that is blurred at its changes of level, without its columns that stand alone.
-use Rattle.std.proofs.Common.{◌≡◌, ◌≤◌, ◌+◌, ◌-◌, Bool, false, List, ◌++◌, length, drop, sym, ap, ◌∙◌, arith, ℕ, refl}
-use Rattle.std.proofs.Math.ListN.{replicate}
+use Rattle.vbi_words.proofs.Common.{◌≡◌, ◌≤◌, ◌+◌, ◌-◌, Bool, false, List, ◌++◌, drop, sym, ap, ◌∙◌, arith, ℕ, refl}
+use Rattle.vbi_words.proofs.Common.{replicate, flat_map, System, Ntsc, Pal, half_min, half_max, IsWord, halves_of}
+use Rattle.vbi_words.proofs.Common.{cell_of, Shows, ShowsAmply, IsBlurred, NoneAlone}
+use Rattle.std.proofs.Common.{length}
 use Rattle.std.proofs.lemmas.List.{length-append}
-use Rattle.std.specs.List.{flat_map}
-use Rattle.vbi_words.specs.declared.system.System.{System}
-use Rattle.vbi_words.specs.declared.system.System.TheVariants.{Ntsc, Pal}
-use Rattle.vbi_words.specs.Geometry.{half_min, half_max}
-use Rattle.vbi_words.specs.Words.{IsWord, halves_of, cell_of}
 use Rattle.vbi_words.specs.Smooth.{smooth_of}
-use Rattle.vbi_words.specs.Shows.{Shows}
-use Rattle.vbi_words.specs.Jitter.{ShowsAmply, IsBlurred, NoneAlone}
 use Rattle.vbi_words.proofs.HalfCells.{first, whole_goes}
 use Rattle.vbi_words.proofs.Smoothing.{smooth_window}
 use Rattle.vbi_words.proofs.SmoothKeeps.{steady_same}

@@ -1,13 +1,7 @@
 -- No column of a list that shows a word stands alone.
-use Rattle.std.proofs.Common.{rules}
-use Rattle.std.proofs.Common.{◌≡◌, ℕ, suc, zero, ◌≤◌, ◌<◌, ◌+◌, ◌-◌, Bool, false, List, [], ◌∷◌, ◌++◌, ◌⊎◌, inl, inr}
-use Rattle.std.proofs.Common.{get_or, subst, sym, ap, ◌∙◌, arith, append_assoc}
-use Rattle.std.proofs.Math.ListN.{replicate}
-use Rattle.std.proofs.lemmas.Bool.{cases_order}
-use Rattle.std.proofs.lemmas.List.{replicate-append-replicate}
-use Rattle.vbi_words.specs.declared.system.System.{System}
-use Rattle.vbi_words.specs.Shows.{Shows, Spells}
-use Rattle.vbi_words.specs.Jitter.{NoneAlone}
+use Rattle.vbi_words.proofs.Common.{rules, ◌≡◌, ℕ, suc, zero, ◌≤◌, ◌<◌, ◌+◌, ◌-◌, Bool, false, List, [], ◌∷◌, ◌++◌, ◌⊎◌}
+use Rattle.vbi_words.proofs.Common.{inl, inr, get_or, subst, sym, ap, ◌∙◌, arith, append_assoc, replicate, cases_order}
+use Rattle.vbi_words.proofs.Common.{replicate-append-replicate, System, Shows, Spells, NoneAlone}
 use Rattle.vbi_words.proofs.HalfCells.{first, in_run, past_run, all_low, first_two}
 use Rattle.vbi_words.proofs.Mended.{begins_low}
 use Rattle.vbi_words.proofs.Runs.{run_joined}

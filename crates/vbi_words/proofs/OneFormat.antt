@@ -1,13 +1,11 @@
-use Rattle.std.proofs.Common.{arith, ◌≡◌, ℕ, Bool, true, List, Option, Some, None, Any, IsTrue, ◌↔◌, ap, sym, ◌∙◌}
+use Rattle.vbi_words.proofs.Common.{arith, ◌≡◌, ℕ, Bool, true, List, Any, ◌↔◌, ap, sym, ◌∙◌, subst, list_any}
+use Rattle.vbi_words.proofs.Common.{Any-from_list_any, list_any_at, Code}
+use Rattle.std.proofs.Common.{Option, Some, None, IsTrue}
 -- A field has one format.
-use Rattle.std.proofs.Common.{subst}
-use Rattle.std.specs.List.{list_any}
-use Rattle.std.proofs.lemmas.List.Folds.{Any-from_list_any, list_any_at}
-use Rattle.vbi_words.specs.declared.code.Code.{Code}
 use Rattle.vbi_words.specs.declared.format.Format.{Format}
 use Rattle.vbi_words.specs.Codes.{code_of}
-use Rattle.vbi_words.specs.Formats.{is_cav_code, is_clv_code, HasCode, names_cav, names_clv, IsFormat}
-use Rattle.vbi_words.specs.Formats.{has_code, format_from, format_of_lines}
+use Rattle.vbi_words.specs.Formats.{is_cav_code, is_clv_code, HasCode, names_cav, names_clv, IsFormat, has_code}
+use Rattle.vbi_words.specs.Formats.{format_from, format_of_lines}
 use Rattle.vbi_words.proofs.OneCode.{code_of_is, only_code_of}
 
 -- ---- lines with a code that passes the test

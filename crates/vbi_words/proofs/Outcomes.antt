@@ -1,14 +1,9 @@
 -- What the machine says of the outcome of a list of levels.
-use Rattle.std.proofs.Common.{◌≡◌, ℕ, suc, zero, ◌<◌, ◌+◌, ◌-◌, Bool, true, false, List}
-use Rattle.std.proofs.Common.{None, refl, ap, sym, ◌∙◌, subst, arith, length, take}
+use Rattle.vbi_words.proofs.Common.{◌≡◌, ℕ, suc, zero, ◌<◌, ◌+◌, ◌-◌, Bool, true, false, List, refl, ap, sym, ◌∙◌}
+use Rattle.vbi_words.proofs.Common.{subst, arith, take, not, System, Word, Blank, Unfinished, Change, Hold, IsWord}
+use Rattle.vbi_words.proofs.Common.{ShowsNone, Viable, level_at, AllLow, FirstHopeless, Holds, IsOutcome}
+use Rattle.std.proofs.Common.{None, length}
 use Rattle.std.proofs.lemmas.List.{take-take}
-use Rattle.std.specs.Prelude.{not}
-use Rattle.vbi_words.specs.declared.system.System.{System}
-use Rattle.vbi_words.specs.declared.outcome.Outcome.TheVariants.{Word, Blank, Unfinished, Change, Hold}
-use Rattle.vbi_words.specs.Words.{IsWord}
-use Rattle.vbi_words.specs.Shows.{ShowsNone, Viable}
-use Rattle.vbi_words.specs.Levels.{level_at}
-use Rattle.vbi_words.specs.Outcomes.{AllLow, FirstHopeless, Holds, IsOutcome}
 use Rattle.vbi_words.proofs.Machine.{State, dead, level_of, is_lead}
 use Rattle.vbi_words.proofs.SystemMachine.{ending_of, state_after, state_at, state_next, dead_later}
 use Rattle.vbi_words.proofs.Shown

@@ -1,17 +1,13 @@
 -- How long a run may become.
-use Rattle.std.proofs.Common.{◌≡◌, ℕ, suc, zero, ◌≤◌, ◌<◌, ◌+◌, ◌*◌, Bool, true, false, List, [], ◌∷◌, ◌++◌, ◌⊎◌, ◌↔◌}
-use Rattle.std.proofs.Common.{Option, Some, None, inl, inr, refl, ap, sym, ◌∙◌, subst, arith, append_assoc}
-use Rattle.std.proofs.Math.ListN.{replicate}
-use Rattle.std.proofs.lemmas.Bool.{cases_lt}
-use Rattle.std.specs.Prelude.{not}
-use Rattle.vbi_words.specs.declared.system.System.{System}
-use Rattle.vbi_words.specs.Geometry.{half_max}
-use Rattle.vbi_words.specs.Shows.{Viable}
+use Rattle.vbi_words.proofs.Common.{◌≡◌, ℕ, suc, zero, ◌≤◌, ◌<◌, ◌+◌, ◌*◌, Bool, true, false, List, [], ◌∷◌, ◌++◌, ◌⊎◌}
+use Rattle.vbi_words.proofs.Common.{◌↔◌, inl, inr, refl, ap, sym, ◌∙◌, subst, arith, append_assoc, replicate, cases_lt}
+use Rattle.vbi_words.proofs.Common.{not, System, half_max, Viable}
+use Rattle.std.proofs.Common.{Option, Some, None}
 use Rattle.vbi_words.specs.Outcomes.{EndsOtherwise, HasRunLimit}
 use Rattle.vbi_words.proofs.Sizes.{Sizes, sizes_of, apart_of}
 use Rattle.vbi_words.proofs.Machine
-use Rattle.vbi_words.proofs.Machine.{State, lead, first, second, tail, dead, level_of, length_of}
-use Rattle.vbi_words.proofs.Machine.{limit, stay, turn, next}
+use Rattle.vbi_words.proofs.Machine.{State, lead, first, second, tail, dead, level_of, length_of, limit, stay, turn}
+use Rattle.vbi_words.proofs.Machine.{next}
 use Rattle.vbi_words.proofs.SystemMachine.{next_of, after_of, limit_of, state_after, after_append}
 use Rattle.vbi_words.proofs.Stays
 use Rattle.vbi_words.proofs.Stays.{Fresh, turn_fresh}

@@ -1,14 +1,10 @@
 -- What the machine says of the words that a list of levels shows, and of the lists that begin with it.
-use Rattle.std.proofs.Common.{arith}
-use Rattle.std.proofs.Common.{◌≡◌, ℕ, ◌<◌, ◌^◌, Bool, true, false, List, [], ◌++◌, ◌↔◌}
-use Rattle.std.proofs.Common.{Some, None, ap, sym, ◌∙◌, subst, append_assoc, length, take, drop}
-use Rattle.std.proofs.Math.ListN.{replicate, take-append-drop}
-use Rattle.std.proofs.lemmas.List.{append-nil}
-use Rattle.std.proofs.lemmas.List.Elements.{All-from_recursion, recursion_from_All}
-use Rattle.vbi_words.specs.declared.system.System.{System}
-use Rattle.vbi_words.specs.Words.{IsWord, lowest_bits}
-use Rattle.vbi_words.specs.Shows.{Shows, ShowsNone, Viable}
-use Rattle.vbi_words.specs.Outcomes.{AllLow}
+use Rattle.vbi_words.proofs.Common.{arith, ◌≡◌, ℕ, ◌<◌, ◌^◌, Bool, true, false, List, [], ◌++◌, ◌↔◌, ap, sym, ◌∙◌}
+use Rattle.vbi_words.proofs.Common.{subst, append_assoc, take, drop, replicate, take-append-drop, append-nil}
+use Rattle.vbi_words.proofs.Common.{recursion_from_All, System, IsWord, Shows, ShowsNone, Viable, AllLow}
+use Rattle.std.proofs.Common.{Some, None, length}
+use Rattle.std.proofs.lemmas.List.Elements.{All-from_recursion}
+use Rattle.vbi_words.specs.Words.{lowest_bits}
 use Rattle.vbi_words.proofs.Sizes.{sizes_of, apart_of}
 use Rattle.vbi_words.proofs.Cutting
 use Rattle.vbi_words.proofs.Awaits

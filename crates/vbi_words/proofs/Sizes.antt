@@ -1,8 +1,6 @@
 -- The sizes by which a machine reads words, what has to hold of them, and those of a line.
-use Rattle.std.proofs.Common.{◌≡◌, ℕ, ◌≤◌, ◌<◌, ◌+◌, ◌*◌, refl, lit≤, arith}
-use Rattle.vbi_words.specs.declared.system.System.{System}
-use Rattle.vbi_words.specs.declared.system.System.TheVariants.{Ntsc, Pal}
-use Rattle.vbi_words.specs.Geometry.{width_of, line_bytes, half_min, half_max}
+use Rattle.vbi_words.proofs.Common.{◌≡◌, ℕ, ◌≤◌, ◌<◌, ◌+◌, ◌*◌, refl, lit≤, arith, System, Ntsc, Pal, width_of}
+use Rattle.vbi_words.proofs.Common.{line_bytes, half_min, half_max}
 
 -- the fewest and the most columns of a half cell, and the cells of a word
 pub record Sizes : Type 0 where

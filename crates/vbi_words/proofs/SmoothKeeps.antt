@@ -1,11 +1,9 @@
 -- Smoothing moves a shown word's columns three to the right, and takes away short glitches.
-use Rattle.std.proofs.Common.{◌≡◌, ℕ, suc, zero, ◌≤◌, ◌+◌, ◌-◌, Bool, true, false, List, []}
-use Rattle.std.proofs.Common.{◌∷◌, ◌++◌, refl, ap, sym, ◌∙◌, arith, append_assoc, length}
-use Rattle.std.proofs.Math.ListN.{replicate}
-use Rattle.std.proofs.lemmas.List.{append-nil, replicate-append-replicate}
-use Rattle.std.specs.Prelude.{not}
-use Rattle.vbi_words.specs.Smooth.{level_of_four, smooth_of}
-use Rattle.vbi_words.specs.Shows.{Spells}
+use Rattle.vbi_words.proofs.Common.{◌≡◌, ℕ, suc, zero, ◌≤◌, ◌+◌, ◌-◌, Bool, true, false, List, [], ◌∷◌, ◌++◌, refl, ap}
+use Rattle.vbi_words.proofs.Common.{sym, ◌∙◌, arith, append_assoc, replicate, append-nil, replicate-append-replicate}
+use Rattle.vbi_words.proofs.Common.{not, level_of_four, Spells}
+use Rattle.std.proofs.Common.{length}
+use Rattle.vbi_words.specs.Smooth.{smooth_of}
 use Rattle.vbi_words.proofs.Runs.{run_joined}
 use Rattle.vbi_words.proofs.Smoothing.{window, smooth_window}
 

@@ -1,20 +1,11 @@
 -- What smoothing does to a list that shows a word, and to one with a glitch.
-use Rattle.std.proofs.Common.{◌≡◌, ℕ, suc, ◌≤◌, ◌<◌, ◌+◌, ◌-◌, Bool, false, List, ◌++◌, ◌⊎◌, inl}
-use Rattle.std.proofs.Common.{inr, refl, ap, sym, ◌∙◌, subst, arith, length, take, drop}
-use Rattle.std.proofs.Math.ListN.{replicate, take-append-drop}
-use Rattle.std.proofs.lemmas.List.{ext_get_or, get_or_append_left, get_or-append-add}
-use Rattle.std.proofs.lemmas.List.{get_or-take, get_or-drop, length-take, length-drop}
-use Rattle.std.specs.Prelude.{not}
-use Rattle.vbi_words.specs.declared.system.System.{System}
-use Rattle.vbi_words.specs.declared.system.System.TheVariants.{Ntsc, Pal}
-use Rattle.vbi_words.specs.Geometry.{half_min, half_max}
-use Rattle.vbi_words.specs.Words.{halves_of}
-use Rattle.vbi_words.specs.Shows.{Shows, ShowsNone}
-use Rattle.vbi_words.specs.Levels.{level_at}
-use Rattle.vbi_words.specs.Outcomes.{AllLow}
+use Rattle.vbi_words.proofs.Common.{◌≡◌, ℕ, suc, ◌≤◌, ◌<◌, ◌+◌, ◌-◌, Bool, false, List, ◌++◌, ◌⊎◌, inl, inr, refl, ap}
+use Rattle.vbi_words.proofs.Common.{sym, ◌∙◌, subst, arith, take, drop, replicate, take-append-drop, ext_get_or}
+use Rattle.vbi_words.proofs.Common.{get_or_append_left, get_or-append-add, get_or-drop, not, System, Ntsc, Pal}
+use Rattle.vbi_words.proofs.Common.{half_min, half_max, halves_of, Shows, ShowsNone, level_at, AllLow, Word, IsReading}
+use Rattle.std.proofs.Common.{length}
+use Rattle.std.proofs.lemmas.List.{get_or-take, length-take, length-drop}
 use Rattle.vbi_words.specs.Smooth.{latest, smooth_of, Glitch}
-use Rattle.vbi_words.specs.declared.outcome.Outcome.TheVariants.{Word}
-use Rattle.vbi_words.specs.Readings.{IsReading}
 use Rattle.vbi_words.proofs.Runs.{not_same, equal_from}
 use Rattle.vbi_words.proofs.Smoothing.{length-smooth_of, smooth_level, four_next}
 use Rattle.vbi_words.proofs.SmoothKeeps.{between, moved, later, same_smooth}

@@ -1,12 +1,10 @@
 -- Smoothed levels, level by level.
-use Rattle.std.proofs.Common.{◌≡◌, ℕ, suc, zero, ◌<◌, ◌+◌, ◌-◌, Bool, false, List, [], ◌∷◌, ◌⊎◌, inl}
-use Rattle.std.proofs.Common.{inr, refl, ap, sym, ◌∙◌, subst, arith, zero-add, length, get_or, drop}
-use Rattle.std.proofs.Math.Seq.{drop-cons}
-use Rattle.std.proofs.lemmas.List.{ext_get_or, drop_all}
-use Rattle.std.proofs.lemmas.List.FromFn.{length-map-range_with_len, get_or-map-range_with_len}
-use Rattle.std.proofs.lemmas.Bool.{cases_lt}
-use Rattle.vbi_words.specs.Levels.{level_at}
-use Rattle.vbi_words.specs.Smooth.{FourEqual, SmoothAt, IsSmooth, level_of_four, latest, smooth_of}
+use Rattle.vbi_words.proofs.Common.{◌≡◌, ℕ, suc, zero, ◌<◌, ◌+◌, ◌-◌, Bool, false, List, [], ◌∷◌, ◌⊎◌, inl, inr, refl}
+use Rattle.vbi_words.proofs.Common.{ap, sym, ◌∙◌, subst, arith, zero-add, get_or, drop, drop-cons, ext_get_or, drop_all}
+use Rattle.vbi_words.proofs.Common.{length-map-range_with_len, get_or-map-range_with_len, cases_lt, level_at}
+use Rattle.vbi_words.proofs.Common.{level_of_four}
+use Rattle.std.proofs.Common.{length}
+use Rattle.vbi_words.specs.Smooth.{FourEqual, SmoothAt, IsSmooth, latest, smooth_of}
 
 -- each level with the three before it, and the level before
 unfoldable pub window : Bool → Bool → Bool → Bool → List Bool → List Bool

@@ -1,10 +1,8 @@
 -- The machine at the sizes of a system's words.
-use Rattle.std.proofs.Common.{◌≡◌, ℕ, ◌<◌, ◌+◌, Bool, false, List, [], ◌∷◌}
-use Rattle.std.proofs.Common.{◌++◌, Option, ap, sym, ◌∙◌, length, take, drop}
-use Rattle.std.proofs.Math.ListN.{take-append-drop}
+use Rattle.vbi_words.proofs.Common.{◌≡◌, ℕ, ◌<◌, ◌+◌, Bool, false, List, [], ◌∷◌, ◌++◌, ap, sym, ◌∙◌, take, drop}
+use Rattle.vbi_words.proofs.Common.{take-append-drop, System, level_at}
+use Rattle.std.proofs.Common.{Option, length}
 use Rattle.std.proofs.lemmas.List.{take_more}
-use Rattle.vbi_words.specs.declared.system.System.{System}
-use Rattle.vbi_words.specs.Levels.{level_at}
 use Rattle.vbi_words.proofs.Sizes.{sizes_of, apart_of}
 use Rattle.vbi_words.proofs.Machine
 use Rattle.vbi_words.proofs.Machine.{State, lead, dead}

@@ -1,15 +1,10 @@
 -- Worked facts of the definitions of tolerance, computed on a few columns.
-use Rattle.std.proofs.Common.{◌≡◌, ℕ, ◌≤◌, ◌<◌, ◌+◌, ◌*◌, Bool, true, false, List, [], ◌∷◌, ◌++◌, ◌⊎◌}
-use Rattle.std.proofs.Common.{inl, inr, refl, ap, ◌∙◌, arith, lit<, length}
-use Rattle.std.proofs.Math.ListN.{replicate}
-use Rattle.std.proofs.lemmas.Bool.{cases_lt}
+use Rattle.vbi_words.proofs.Common.{◌≡◌, ℕ, ◌≤◌, ◌<◌, ◌+◌, ◌*◌, Bool, true, false, List, [], ◌∷◌, ◌++◌, ◌⊎◌, inl, inr}
+use Rattle.vbi_words.proofs.Common.{refl, ap, ◌∙◌, arith, lit<, replicate, cases_lt, flat_map, ShowsAmply, IsBlurred}
+use Rattle.vbi_words.proofs.Common.{NoneAlone, IsJittered, HasGlitches, level_at, Ntsc, Spells, halves_of}
+use Rattle.std.proofs.Common.{length}
 use Rattle.std.proofs.lemmas.List.{length-append, length-replicate}
-use Rattle.std.specs.List.{flat_map}
-use Rattle.vbi_words.specs.Jitter.{ShowsAmply, IsBlurred, NoneAlone, IsJittered, HasGlitches}
-use Rattle.vbi_words.specs.Levels.{level_at}
-use Rattle.vbi_words.specs.declared.system.System.TheVariants.{Ntsc}
-use Rattle.vbi_words.specs.Shows.{Spells}
-use Rattle.vbi_words.specs.Words.{lowest_bits, halves_of}
+use Rattle.vbi_words.specs.Words.{lowest_bits}
 use Rattle.vbi_words.specs.WorkedLines.{low, high, little_row}
 use Rattle.vbi_words.proofs.HalfCells.{all_low}
 

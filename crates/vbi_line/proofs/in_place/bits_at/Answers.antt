@@ -1,5 +1,4 @@
-use Rattle.std.proofs.Common.{◌≡◌, ℕ, ◌+◌, ◌-◌, ◌^◌, ◌<◌, ◌≤◌, arith, subst}
-use Rattle.vbi_line.specs.Packing.{TellsAbove}
+use Rattle.vbi_line.proofs.Common.{◌≡◌, ℕ, ◌+◌, ◌-◌, ◌^◌, ◌<◌, ◌≤◌, arith, subst, TellsAbove}
 use Rattle.vbi_line.proofs.Packs.{joined}
 use Rattle.vbi_line.proofs.InPlace.{joined-lt, joined_tells}
 use Rattle.vbi_line.proofs.in_place.bits_at.Goals as goal

@@ -1,5 +1,4 @@
-use Rattle.std.proofs.Common.{◌-◌, ◌^◌, ◌<◌, ◌≤◌}
-use Rattle.vbi_line.specs.Packing.{TellsAbove}
+use Rattle.vbi_line.proofs.Common.{◌-◌, ◌^◌, ◌<◌, ◌≤◌, TellsAbove}
 use Rattle.vbi_line.proofs.in_place.bits_at.Given as goal
 
 abbrev pub invariant-lanes : goal.invariant-lanes

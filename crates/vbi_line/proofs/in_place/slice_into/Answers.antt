@@ -1,7 +1,5 @@
-use Rattle.std.proofs.Common.{◌≡◌, ◌+◌, ◌-◌, arith, sym, ap, ◌∙◌, length, subst}
-use Rattle.vbi_words.specs.Geometry.{width_of}
+use Rattle.vbi_line.proofs.Common.{◌≡◌, ◌+◌, ◌-◌, arith, sym, ap, ◌∙◌, length, subst, width_of, line_bytes-twice}
 use Rattle.vbi_line.proofs.InPlace.{length_with_word, sliced_with_word}
-use Rattle.vbi_words.proofs.Sizes.{line_bytes-twice}
 use Rattle.vbi_line.proofs.Slicing.{Sliced, sliced_all}
 use Rattle.vbi_line.proofs.in_place.slice_into.Goals as goal
 

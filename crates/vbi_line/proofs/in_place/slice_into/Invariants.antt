@@ -1,5 +1,4 @@
-use Rattle.std.proofs.Common.{◌≡◌, ◌-◌, ◌%◌, ◌≤◌, length}
-use Rattle.vbi_words.specs.Geometry.{width_of}
+use Rattle.vbi_line.proofs.Common.{◌≡◌, ◌-◌, ◌%◌, ◌≤◌, length, width_of}
 use Rattle.vbi_line.proofs.Slicing.{Sliced}
 use Rattle.vbi_line.proofs.in_place.slice_into.Given as goal
 

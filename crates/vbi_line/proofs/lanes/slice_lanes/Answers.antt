@@ -1,9 +1,7 @@
-use Rattle.std.proofs.Common.{◌≡◌, ◌+◌, List, ◌∷◌, ℕ, arith, sym, ap, ◌∙◌, length, length-append, subst}
+use Rattle.vbi_line.proofs.Common.{◌≡◌, ◌+◌, ◌∷◌, ℕ, arith, sym, ap, ◌∙◌, length, subst, width_of, sample_at, levels_in}
+use Rattle.vbi_line.proofs.Common.{line_bytes-twice}
+use Rattle.std.proofs.Common.{List, length-append}
 use Rattle.std.proofs.lemmas.Grind.{common_steps}
-use Rattle.vbi_words.specs.Geometry.{width_of}
-use Rattle.vbi_line.specs.Line.{sample_at}
-use Rattle.vbi_line.specs.Packing.{levels_in}
-use Rattle.vbi_words.proofs.Sizes.{line_bytes-twice}
 use Rattle.vbi_line.proofs.Slicing.{Sliced, sliced_more, keeps_on, length-block, block_sliced, sliced_all}
 use Rattle.vbi_line.proofs.lanes.slice_lanes.Goals as goal
 

@@ -1,6 +1,4 @@
-use Rattle.std.proofs.Common.{◌≡◌, ◌+◌, ◌-◌, ◌%◌, ◌≤◌, ◌∷◌, length}
-use Rattle.vbi_words.specs.Geometry.{width_of}
-use Rattle.vbi_line.specs.Line.{KeepsBytes}
+use Rattle.vbi_line.proofs.Common.{◌≡◌, ◌+◌, ◌-◌, ◌%◌, ◌≤◌, ◌∷◌, length, width_of, KeepsBytes}
 use Rattle.vbi_line.proofs.Slicing.{Sliced}
 use Rattle.vbi_line.proofs.lanes.slice_lanes.Given as goal
 

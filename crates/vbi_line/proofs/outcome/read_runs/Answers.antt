@@ -1,14 +1,7 @@
-use Rattle.std.proofs.Common.{◌≡◌, ℕ, ◌+◌, ◌-◌, ◌≤◌, ◌<◌, Bool, List, arith, inl, inr, length, sym}
-use Rattle.std.proofs.Common.{ap, ◌∙◌, take, subst}
-use Rattle.std.specs.Prelude.{not}
-use Rattle.std.proofs.lemmas.Bool.{cases_eq}
-use Rattle.vbi_words.specs.declared.outcome.Outcome.{Outcome}
-use Rattle.vbi_words.specs.Outcomes.{IsOutcome}
-use Rattle.vbi_words.specs.Levels.{level_at}
-use Rattle.vbi_words.proofs.SystemMachine.{IsFit, fit_after, state_at}
-use Rattle.vbi_line.specs.Decoder.{state_of}
+use Rattle.vbi_line.proofs.Common.{◌≡◌, ℕ, ◌+◌, ◌-◌, ◌≤◌, ◌<◌, Bool, arith, inl, inr, length, sym, ap, ◌∙◌, subst, not}
+use Rattle.vbi_line.proofs.Common.{cases_eq, Outcome, IsOutcome, level_at, IsFit, fit_after, state_at, state_of, IsRun}
+use Rattle.std.proofs.Common.{List, take}
 use Rattle.vbi_line.proofs.Ending.{fits, whole}
-use Rattle.vbi_line.specs.Packing.{IsRun}
 use Rattle.vbi_line.proofs.RunLoop.{goes_on, turned, changes, holds}
 use Rattle.vbi_line.proofs.outcome.read_runs.Goals as goal
 

@@ -1,8 +1,4 @@
-use Rattle.std.proofs.Common.{◌≡◌, ◌-◌, ◌<◌, ◌≤◌, length}
-use Rattle.vbi_words.specs.Levels.{level_at}
-use Rattle.vbi_words.proofs.Machine.{level_of}
-use Rattle.vbi_words.proofs.SystemMachine.{state_at}
-use Rattle.vbi_line.specs.Decoder.{state_of, IsSound, run_of}
+use Rattle.vbi_line.proofs.Common.{◌≡◌, ◌-◌, ◌<◌, ◌≤◌, length, level_at, level_of, state_at, state_of, IsSound, run_of}
 use Rattle.vbi_line.proofs.outcome.read_runs.Given as goal
 
 abbrev pub invariant-loop-column : goal.invariant-loop-column

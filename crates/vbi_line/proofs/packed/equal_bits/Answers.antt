@@ -1,7 +1,5 @@
-use Rattle.std.proofs.Common.{◌≡◌, ◌/◌, ◌^◌, ◌<◌, ℕ, Bool, arith, sym, ap, subst, ◌∙◌}
-use Rattle.vbi_line.specs.Packing.{EqualBits}
+use Rattle.vbi_line.proofs.Common.{◌≡◌, ◌/◌, ◌^◌, ◌<◌, ℕ, Bool, arith, sym, ap, subst, ◌∙◌, EqualBits, trailing_zeros}
 use Rattle.vbi_line.proofs.PackedRuns.{others_of, none_other, some_other}
-use Rattle.std.specs.Int.{trailing_zeros}
 use mir.Syntax.{w64}
 use Rattle.vbi_line.proofs.packed.equal_bits.Goals as goal
 use Rattle.vbi_line.proofs.packed.equal_bits.Goals.{then-level, else-level}

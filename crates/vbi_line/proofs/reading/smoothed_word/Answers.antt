@@ -1,7 +1,6 @@
-use Rattle.std.proofs.Common.{arith, ◌≤◌, ◌+◌, sym, subst, ℕ, Bool, Option, Some, None, IfNone}
+use Rattle.vbi_line.proofs.Common.{arith, ◌≤◌, ◌+◌, sym, subst, ℕ, Bool, Some, None, Decoder, state_of, IsSound, run_of}
+use Rattle.std.proofs.Common.{Option, IfNone}
 use Rattle.std.proofs.lemmas.Option.{IfSome_then}
-use Rattle.vbi_line.specs.declared.decoder.Decoder.{Decoder}
-use Rattle.vbi_line.specs.Decoder.{state_of, IsSound, run_of}
 use Rattle.vbi_line.proofs.RunLoop.{counted}
 use Rattle.vbi_line.proofs.SmoothRuns.{fits, short_on, short_dies, first_dies, middle_fits, long_on, second_dies}
 use Rattle.vbi_line.proofs.SmoothRuns.{fits_end, shows, none, Halfway}

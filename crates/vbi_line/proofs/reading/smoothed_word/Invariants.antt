@@ -1,5 +1,4 @@
-use Rattle.std.proofs.Common.{◌-◌, ◌≤◌, length}
-use Rattle.vbi_line.specs.Decoder.{state_of, IsSound, run_of}
+use Rattle.vbi_line.proofs.Common.{◌-◌, ◌≤◌, length, state_of, IsSound, run_of}
 use Rattle.vbi_line.proofs.SmoothRuns.{Halfway}
 use Rattle.vbi_line.proofs.reading.smoothed_word.Given as goal
 

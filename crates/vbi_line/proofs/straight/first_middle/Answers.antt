@@ -1,5 +1,4 @@
-use Rattle.std.proofs.Common.{◌≡◌, ◌-◌, ◌<◌, ◌≤◌, length, arith}
-use Rattle.vbi_words.specs.Geometry.{half_min}
+use Rattle.vbi_line.proofs.Common.{◌≡◌, ◌-◌, ◌<◌, ◌≤◌, length, arith, half_min}
 use Rattle.vbi_line.proofs.Middles.{first_is, first_high}
 use Rattle.vbi_line.proofs.RunLoop.{counted}
 use Rattle.vbi_line.proofs.straight.first_middle.Goals as goal

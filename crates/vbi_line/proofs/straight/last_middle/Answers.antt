@@ -1,9 +1,7 @@
-use Rattle.std.proofs.Common.{◌≡◌, ◌+◌, ◌<◌, Bool, List, true, [], ◌∷◌, ◌++◌}
-use Rattle.std.proofs.Common.{length, length-append, sym, ap, subst, ◌∙◌, arith}
-use Rattle.vbi_words.specs.Levels.{level_at}
+use Rattle.vbi_line.proofs.Common.{◌≡◌, ◌+◌, ◌<◌, Bool, true, [], ◌∷◌, ◌++◌, length, sym, ap, subst, ◌∙◌, arith}
+use Rattle.vbi_line.proofs.Common.{level_at, length-lowest_bits, IsMiddle}
+use Rattle.std.proofs.Common.{List, length-append}
 use Rattle.vbi_words.specs.Words.{lowest_bits}
-use Rattle.vbi_words.proofs.Bits.{length-lowest_bits}
-use Rattle.vbi_line.specs.Straight.{IsMiddle}
 use Rattle.vbi_line.proofs.Middles.{reached}
 use Rattle.vbi_line.proofs.Steps.{lowest-none}
 use Rattle.vbi_line.proofs.straight.last_middle.Goals as goal

@@ -1,7 +1,5 @@
-use Rattle.std.proofs.Common.{◌-◌, ◌^◌, ◌<◌, ◌≤◌, [], ◌∷◌, ◌++◌}
-use Rattle.vbi_words.specs.Levels.{level_at}
+use Rattle.vbi_line.proofs.Common.{◌-◌, ◌^◌, ◌<◌, ◌≤◌, [], ◌∷◌, ◌++◌, level_at, IsMiddle}
 use Rattle.vbi_words.specs.Words.{lowest_bits}
-use Rattle.vbi_line.specs.Straight.{IsMiddle}
 use Rattle.vbi_line.proofs.straight.last_middle.Given as goal
 
 abbrev pub invariant-loop-cells : goal.invariant-loop-cells

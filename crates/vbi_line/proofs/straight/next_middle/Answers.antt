@@ -1,8 +1,6 @@
-use Rattle.std.proofs.Common.{◌≡◌, ℕ, ◌+◌, ◌/◌, ◌<◌, ◌≤◌, ◌⊎◌, false, sym, subst, arith}
-use Rattle.vbi_line.specs.Packing.{EqualBits}
-use Rattle.vbi_line.specs.Straight.{ReachesMiddle}
+use Rattle.vbi_line.proofs.Common.{◌≡◌, ℕ, ◌+◌, ◌/◌, ◌<◌, ◌≤◌, ◌⊎◌, false, sym, subst, arith, EqualBits, ReachesMiddle}
+use Rattle.vbi_line.proofs.Common.{half_max-le}
 use Rattle.vbi_line.proofs.Changes.{changes_of, Found, reaches}
-use Rattle.vbi_words.proofs.Sizes.{half_max-le}
 use Rattle.vbi_line.proofs.straight.next_middle.Goals as goal
 
 pub returns-then-end-rest : goal.returns-then-end-rest

@@ -1,12 +1,7 @@
-use Rattle.std.proofs.Common.{◌≡◌, ℕ, ◌+◌, ◌-◌, ◌^◌, ◌<◌, ◌≤◌, Bool, List, true, false, length, sym, subst, ◌∙◌, arith}
-use Rattle.vbi_words.specs.declared.system.System.{System}
-use Rattle.vbi_words.specs.declared.outcome.Outcome.TheVariants.{Word}
-use Rattle.vbi_words.specs.Geometry.{half_min, half_max}
-use Rattle.vbi_words.specs.Levels.{level_at}
-use Rattle.vbi_words.specs.Outcomes.{IsOutcome}
-use Rattle.vbi_words.specs.Words.{IsWord, lowest_bits}
-use Rattle.vbi_line.specs.Packing.{IsRun}
-use Rattle.vbi_line.specs.Straight.{IsMiddle}
+use Rattle.vbi_line.proofs.Common.{◌≡◌, ℕ, ◌+◌, ◌-◌, ◌^◌, ◌<◌, ◌≤◌, Bool, true, false, length, sym, subst, ◌∙◌, arith}
+use Rattle.vbi_line.proofs.Common.{System, Word, half_min, half_max, level_at, IsOutcome, IsWord, IsRun, IsMiddle}
+use Rattle.std.proofs.Common.{List}
+use Rattle.vbi_words.specs.Words.{lowest_bits}
 use Rattle.vbi_line.proofs.Middles.{low_word, high_word}
 use Rattle.vbi_line.proofs.straight.word_from.Goals as goal
 

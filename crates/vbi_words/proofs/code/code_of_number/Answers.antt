@@ -1,6 +1,5 @@
-use Rattle.std.proofs.Common.{arith, ◌≡◌, ℕ, inl, refl, ap, ◌∙◌, lit<}
+use Rattle.vbi_words.proofs.Common.{arith, ◌≡◌, ℕ, inl, refl, ap, ◌∙◌, lit<, Code}
 use Rattle.std.proofs.lemmas.Bool.{false≢true}
-use Rattle.vbi_words.specs.declared.code.Code.{Code}
 use Rattle.vbi_words.specs.declared.code.Code.TheVariants.{Picture, Chapter, Time, ClvPicture, CxOn, CxOff}
 use Rattle.vbi_words.proofs.OneCode.{other}
 use Rattle.vbi_words.proofs.code.code_of_number.Goals as goal

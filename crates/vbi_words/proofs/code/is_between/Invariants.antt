@@ -1,5 +1,4 @@
-use Rattle.std.proofs.Common.{ℕ, ◌≤◌, ◌<◌}
-use Rattle.vbi_words.specs.Codes.{digit_of}
+use Rattle.vbi_words.proofs.Common.{ℕ, ◌≤◌, ◌<◌, digit_of}
 use Rattle.vbi_words.proofs.code.is_between.Given as goal
 
 abbrev pub invariant-loop-place : goal.invariant-loop-place

@@ -1,5 +1,4 @@
-use Rattle.std.proofs.Common.{◌≡◌, ◌*◌, ◌∙◌, ap, sym, arith, take}
-use Rattle.vbi_words.specs.Geometry.{width_of}
+use Rattle.vbi_words.proofs.Common.{◌≡◌, ◌*◌, ◌∙◌, ap, sym, arith, take, width_of}
 use Rattle.vbi_words.proofs.Sizes.{line_bytes-twice}
 use Rattle.vbi_words.proofs.DrawnLines.{first_columns, one_column, all_columns}
 use Rattle.vbi_words.proofs.drawing.draw_line.Goals as goal

@@ -1,9 +1,5 @@
-use Rattle.std.proofs.Common.{ℕ, Bool, List, arith}
-use Rattle.vbi_words.specs.declared.system.System.{System}
-use Rattle.vbi_words.specs.declared.outcome.Outcome.TheVariants.{Word}
-use Rattle.vbi_words.specs.Jitter.{ShowsAmply, IsJittered, ReadsWord}
+use Rattle.vbi_words.proofs.Common.{ℕ, Bool, List, arith, System, Word, ShowsAmply, IsJittered, ReadsWord, Shows}
 use Rattle.vbi_words.specs.Readings.{Reads}
-use Rattle.vbi_words.specs.Shows.{Shows}
 use Rattle.vbi_words.proofs.DrawnShows.{row_amply}
 use Rattle.vbi_words.proofs.Blurred.{blurred_reads}
 use Rattle.vbi_words.proofs.laws.jitter_shown.Goals as goal

@@ -1,5 +1,4 @@
-use Rattle.std.proofs.Common.{true, false, refl, lit<, lit≤}
-use Rattle.vbi_words.specs.declared.system.System.TheVariants.{Ntsc}
+use Rattle.vbi_words.proofs.Common.{true, false, refl, lit<, lit≤, Ntsc}
 use Rattle.vbi_words.specs.Words.{lowest_bits}
 use Rattle.vbi_words.proofs.Outcomes.{word_outcome, unfinished_outcome, changes, holds}
 use Rattle.vbi_words.proofs.laws.worked_lines.Goals as goal

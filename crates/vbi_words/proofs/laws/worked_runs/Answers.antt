@@ -1,5 +1,4 @@
-use Rattle.std.proofs.Common.{true, refl, lit<, lit≤}
-use Rattle.vbi_words.specs.declared.system.System.TheVariants.{Ntsc, Pal}
+use Rattle.vbi_words.proofs.Common.{true, refl, lit<, lit≤, Ntsc, Pal}
 use Rattle.vbi_words.specs.Words.{lowest_bits}
 use Rattle.vbi_words.specs.WorkedLines.{ones_ending, zeros_after}
 use Rattle.vbi_words.proofs.Outcomes.{word_outcome, changes, holds}

@@ -1,5 +1,4 @@
-use Rattle.std.proofs.Common.{arith, sym, subst, ◌∙◌, ℕ, ◌+◌, ◌-◌, ◌<◌}
-use Rattle.vbi_line.specs.Decoder.{state_of, DiesAfter}
+use Rattle.vbi_line.proofs.Common.{arith, sym, subst, ◌∙◌, ℕ, ◌+◌, ◌-◌, ◌<◌, state_of, DiesAfter}
 use Rattle.vbi_line.proofs.RunSteps.{free, within, fits, dies}
 use Rattle.vbi_line.proofs.decoder.Decoder.read_run.Goals as goal
 

@@ -1,5 +1,4 @@
-use Rattle.std.proofs.Common.{◌-◌, length}
-use Rattle.vbi_words.specs.Geometry.{line_bytes}
+use Rattle.vbi_line.proofs.Common.{◌-◌, length, line_bytes}
 use Rattle.vbi_line.proofs.FillSteps.{Since}
 use Rattle.vbi_line.proofs.intake.Intake.fill_line.Given as goal
 

@@ -1,8 +1,6 @@
-use Rattle.std.proofs.Common.{arith}
-use Rattle.vbi_words.specs.Geometry.{line_bytes}
+use Rattle.vbi_line.proofs.Common.{arith, line_bytes, line_bytes-le}
 use Rattle.vbi_line.proofs.Parts.{drop-part}
 use Rattle.vbi_line.proofs.StoreMemory.{length-part}
-use Rattle.vbi_words.proofs.Sizes.{line_bytes-le}
 use Rattle.vbi_line.proofs.line.LineBuf.commit.Goals as goal
 
 pub returns-clause-room : goal.returns-clause-room

@@ -1,9 +1,7 @@
-use Rattle.std.proofs.Common.{◌≡◌, [], ◌∷◌, take, length, refl, ap, arith}
-use Rattle.std.proofs.lemmas.List.{length-take-le}
-use Rattle.vbi_words.specs.Geometry.{line_bytes}
+use Rattle.vbi_line.proofs.Common.{◌≡◌, [], ◌∷◌, length, refl, ap, arith, length-take-le, line_bytes, line_bytes-le}
+use Rattle.std.proofs.Common.{take}
 use Rattle.vbi_line.proofs.Parts.{take-with_part, part-with_part}
 use Rattle.vbi_line.proofs.StoreMemory.{length-part}
-use Rattle.vbi_words.proofs.Sizes.{line_bytes-le}
 use Rattle.vbi_line.proofs.line.LineBuf.room.Goals as goal
 
 pub returns : goal.returns

@@ -1,5 +1,4 @@
-use Rattle.std.proofs.Common.{◌≡◌, ℕ, ◌+◌, ◌-◌, ◌<◌, ◌≤◌}
-use Rattle.vbi_line.specs.Packing.{packed_level}
+use Rattle.vbi_line.proofs.Common.{◌≡◌, ℕ, ◌+◌, ◌-◌, ◌<◌, ◌≤◌, packed_level}
 use Rattle.vbi_line.proofs.packed.Packed.run_end.Given as goal
 
 abbrev pub invariant-loop-end : goal.invariant-loop-end

@@ -1,44 +1,38 @@
 -- `part_mut` lends a part of the array as a slice. The borrow checker shows no clause on what a loan
 -- of a part of an array leaves, so this proof walks the code by hand.
-use Rattle.std.proofs.Common.{◌≡◌, ℕ, ◌+◌, ◌-◌, ◌≤◌, List, [], ◌∷◌, ◌++◌, length}
-use Rattle.std.proofs.Common.{take, drop, refl, sym, ap, ◌∙◌, arith, w64}
-use Rattle.std.proofs.lemmas.List.{length-take-le}
+use Rattle.vbi_line.proofs.Common.{◌≡◌, ℕ, ◌+◌, ◌-◌, ◌≤◌, [], ◌∷◌, ◌++◌, length, drop, refl, sym, ap, ◌∙◌, arith}
+use Rattle.vbi_line.proofs.Common.{length-take-le, Ura, SProp, ent, sep, Fml, ftrue, Logic, sem, cells, ‵, ◌⊛◌, raw}
+use Rattle.vbi_line.proofs.Common.{◌$◌, ◌∵◌, !, qed, done, move, rewrite, split, fsplit, fjoin, use1, use2, Array, u8}
+use Rattle.vbi_line.proofs.Common.{mem, nothing, LineBytes, with_part}
+use Rattle.std.proofs.Common.{List, take, w64}
 use Rattle.std.proofs.raw_atomic.Walks.{proved}
-use seplogic.Ra.Ura.{Ura}
 use mir.Syntax.{named}
 use mir.Val.{Val}
-use base.Logic.{SProp, ent, sep, ex}
-use base.Fml.{Fml, Lft, GName, Share, ftrue, flft}
+use base.Logic.{ex}
+use base.Fml.{Lft, GName, Share, flft}
 use contract.Monad.{fact}
-use types.Logic.{Logic, sem}
 use types.Mut.{open_ref}
-use types.SemTy.{cells}
 use types.Part.{agg}
-use types.Kit.{Item, ‵, ◌⊛◌, raw, given, some, later, ◌$◌, ◌∵◌, !, qed, by, done, move, keep, drop as let_go, show}
-use types.Kit.{rewrite, split, split3, join, learn, fsplit, fsplit3, fjoin, use1, use2, await, pick, suffices, frame}
-use types.Kit.{updating, group, now}
+use types.Kit.{Item, given, some, later, by, keep, drop as let_go, show, split3, join, learn, fsplit3, await, pick}
+use types.Kit.{suffices, frame, updating, group, now}
 use types.Run.{stop, fld, addr, bin, and_then, no_more, returns, enter}
 use types.ByLocal.{alloc_all, pass_all, free_all, look_at, get, through, sets}
-use denote.Array.{Array}
-use denote.Builtin.{u8, usize, RefMutOf}
+use denote.Builtin.{usize, RefMutOf}
 use denote.Exit.{yes, no}
 use denote.Follow.{follows}
 use denote.FollowSlice.{lends_Elements}
-use denote.Memory.{mem}
 use denote.Plain.{uint_vals, uint_Tells}
 use denote.RattleType.{owns}
 use denote.Ref.{MutRef, mut_vals, mut_Tells}
 use denote.Signature.{plain}
 use denote.Slice.{MutSlice, slice_val}
-use denote.Steps.{nothing, heard}
+use denote.Steps.{heard}
 use denote.Triple.Walked.{says, Stays, stay_dropped, walk_of, ends_at, Goes-dropped, Goes-spent_ref}
 use borrow.Table.Elements.{at, at_byte, cut_app, join_app}
-use Rattle.vbi_line.specs.declared.store.LineBytes.{LineBytes}
 use Rattle.vbi_line.specs.contracts.store.LineBytes.{the_row as S}
 use Rattle.vbi_line.specs.contracts.store.LineBytes.part_mut as f
-use Rattle.vbi_line.specs.StoreLends.{with_part}
-use Rattle.vbi_line.proofs.StoreMemory.{part_of, in_parts, length-part, with_part-same}
-use Rattle.vbi_line.proofs.StoreMemory.{length-with_part, start, Left, bytes_out, bytes_in}
+use Rattle.vbi_line.proofs.StoreMemory.{part_of, in_parts, length-part, with_part-same, length-with_part, start, Left}
+use Rattle.vbi_line.proofs.StoreMemory.{bytes_out, bytes_in}
 use Rattle.vbi_line.proofs.store.LineBytes.part_mut.Statement.{statement}
 use Rattle.vbi_line.proofs.store.LineBytes.part_mut.Code as code
 
