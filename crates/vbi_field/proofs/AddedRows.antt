@@ -1,13 +1,10 @@
 -- What is written with a whole row.
-use Rattle.std.proofs.Common.{◌≡◌, ℕ, ◌+◌, ◌*◌, ◌<◌, List, ◌++◌, length, arith, append-nil, add-zero}
-use Rattle.std.specs.Prelude.{Option, Result, Err, Ok, IsErr}
-use Rattle.vbi_field.specs.ConfigView.{width_of, height_of, ConfigView}
-use Rattle.vbi_field.specs.Outlet.{written_of, Puts, Outlet}
-use Rattle.vbi_field.specs.Progress.{IsProgress, MovesOneRow, AddsRow, Progress}
-use Rattle.vbi_field.specs.Stream.{fields_of, rows_at, FieldRows}
-use Rattle.vbi_field.specs.Feed.{selected}
-use Rattle.vbi_field.specs.Texts.{IsTextBetween, joined_entry_of, Kind}
-use Rattle.vbi_field.specs.declared.summary.RunFault.{RunFault}
+use Rattle.vbi_field.proofs.Common.{◌≡◌, ℕ, ◌+◌, ◌*◌, ◌<◌, ◌++◌, length, arith, add-zero, Result, Err, Ok, width_of}
+use Rattle.vbi_field.proofs.Common.{height_of, ConfigView, written_of, Puts, Outlet, IsProgress, MovesOneRow, AddsRow}
+use Rattle.vbi_field.proofs.Common.{Progress, fields_of, rows_at, FieldRows, selected, IsTextBetween, joined_entry_of}
+use Rattle.vbi_field.proofs.Common.{Kind, RunFault}
+use Rattle.std.proofs.Common.{List, append-nil}
+use Rattle.std.specs.Prelude.{Option, IsErr}
 use Rattle.vbi_field.proofs.Counts.{whole_fields}
 use Rattle.vbi_field.proofs.Devices.{wrote_none, wrote_whole, put_in_part}
 use Rattle.vbi_field.proofs.FeedTexts.{begun_same, begun_next}

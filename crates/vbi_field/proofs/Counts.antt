@@ -1,9 +1,7 @@
 -- Numbers of fields, rows, bytes and samples looked at. What needs the sizes of the two systems is here: a field is
 -- `height_of s` rows of `line_bytes s` bytes each.
-use Rattle.std.proofs.Common.{◌≡◌, ℕ, ◌+◌, ◌*◌, ◌/◌, ◌%◌, ◌≤◌, ◌<◌, refl, ap, ◌∙◌, arith, add-one}
-use Rattle.std.proofs.Math.Nat.{suc-mul}
-use Rattle.vbi_field.specs.Feed.{selected}
-use Rattle.vbi_field.specs.ConfigView.{width_of, height_of, line_bytes, field_bytes, System, Ntsc, Pal}
+use Rattle.vbi_field.proofs.Common.{◌≡◌, ℕ, ◌+◌, ◌*◌, ◌/◌, ◌%◌, ◌≤◌, ◌<◌, refl, ap, ◌∙◌, arith, add-one, suc-mul}
+use Rattle.vbi_field.proofs.Common.{selected, width_of, height_of, line_bytes, field_bytes, System, Ntsc, Pal}
 
 -- one more of a size
 pub times-next : (n size : ℕ) → (n + 1) * size ≡ n * size + size

@@ -1,19 +1,16 @@
 -- How a run of drawing ends where no field is written any more: the reader's end, its fault, a malformed row, or a byte
 -- after the last row that is allowed.
-use Rattle.std.proofs.Common.{◌≡◌, ℕ, ◌+◌, ◌≤◌, ◌<◌, ◌⊎◌, inl, inr, List, [], ◌∷◌, ◌++◌}
-use Rattle.std.proofs.Common.{length, refl, ap, ◌∙◌, arith}
-use Rattle.std.specs.Prelude.{Option, None, Result, Ok, Err}
-use Rattle.std.specs.Io.KnownBytes.{IsAtEnd}
-use Rattle.vbi_field.specs.Outlet.{device_of, NoError, HasCause, Outlet}
-use Rattle.vbi_field.specs.ConfigView.{ConfigView, longest_row}
+use Rattle.vbi_field.proofs.Common.{◌≡◌, ℕ, ◌+◌, ◌≤◌, ◌<◌, inl, inr, [], ◌∷◌, ◌++◌, length, refl, ap, ◌∙◌, arith}
+use Rattle.vbi_field.proofs.Common.{Result, Ok, Err, IsAtEnd, device_of, NoError, HasCause, Outlet, ConfigView}
+use Rattle.vbi_field.proofs.Common.{longest_row, HasNoNewline, Fetches, TakesRow, TakesByte, RowIntake, newline}
+use Rattle.vbi_field.proofs.Common.{rows_of, row_words, over, RunsDrawing, Malformed, DrawFault}
+use Rattle.std.proofs.Common.{◌⊎◌, List}
+use Rattle.std.specs.Prelude.{Option, None}
 use Rattle.vbi_field.specs.RowIntake as intakes
-use Rattle.vbi_field.specs.RowIntake.{HasNoNewline, Fetches, TakesRow, TakesByte, RowIntake}
-use Rattle.vbi_field.specs.WordRows.{newline, rows_of, row_words, word_row_of}
-use Rattle.vbi_field.specs.Ran.{over}
-use Rattle.vbi_field.specs.Draws.{draw_out, Draws, RunsDrawing, counts_of}
-use Rattle.vbi_field.specs.declared.row_intake.NextRow.TheVariants.{Malformed, Failed}
+use Rattle.vbi_field.specs.WordRows.{word_row_of}
+use Rattle.vbi_field.specs.Draws.{draw_out, Draws, counts_of}
+use Rattle.vbi_field.specs.declared.row_intake.NextRow.TheVariants.{Failed}
 use Rattle.vbi_field.specs.declared.row_intake.NextByte.TheVariants as bytes
-use Rattle.vbi_field.specs.declared.drawing.DrawFault.{DrawFault}
 use Rattle.vbi_field.specs.declared.drawing.DrawFault.TheVariants as faults
 use Rattle.vbi_field.proofs.DrawSteps.{Drawn, fetches_more, fetched_more}
 use Rattle.vbi_field.proofs.Devices.{has_failed}

@@ -1,22 +1,19 @@
 -- What a run of drawing keeps from row to row.
-use Rattle.std.proofs.Common.{rules}
-use Rattle.std.proofs.Common.{◌≡◌, ℕ, ◌+◌, ◌*◌, ◌≤◌, ◌<◌, inl, inr, List, [], ◌∷◌, ◌++◌}
-use Rattle.std.proofs.Common.{length, refl, sym, ap, ◌∙◌, arith, append_assoc}
-use Rattle.std.specs.Prelude.{Option, Some, None, Result, Ok, Err, IsErrAnd}
-use Rattle.std.specs.Io.KnownBytes.{IsAtEnd}
-use Rattle.std.proofs.lemmas.List.{append-nil, length-append}
-use Rattle.std.proofs.lemmas.Grind.{flat_map-append}
-use Rattle.vbi_words.specs.Drawn.{drawn_line_of}
-use Rattle.vbi_field.specs.ConfigView.{field_bytes, Pal, ConfigView, most_rows, longest_row}
-use Rattle.vbi_field.specs.Outlet.{tries, device_of, failures_of, NoError, HasCause, IsSameDevice, Outlet}
+use Rattle.vbi_field.proofs.Common.{rules, ◌≡◌, ℕ, ◌+◌, ◌*◌, ◌≤◌, ◌<◌, inl, inr, [], ◌∷◌, ◌++◌, length, refl, sym, ap}
+use Rattle.vbi_field.proofs.Common.{◌∙◌, arith, append_assoc, Result, Ok, Err, IsErrAnd, IsAtEnd, length-append}
+use Rattle.vbi_field.proofs.Common.{flat_map-append, drawn_line_of, field_bytes, Pal, ConfigView, most_rows}
+use Rattle.vbi_field.proofs.Common.{longest_row, tries, device_of, failures_of, NoError, HasCause, IsSameDevice, Outlet}
+use Rattle.vbi_field.proofs.Common.{HasNoNewline, Fetches, TakesRow, RowIntake, newline, AreRows, rows_of, row_words}
+use Rattle.vbi_field.proofs.Common.{WordRow, over, EndsRow, RunsDrawing, DrawFault}
+use Rattle.std.proofs.Common.{List}
+use Rattle.std.specs.Prelude.{Option, Some, None}
+use Rattle.std.proofs.lemmas.List.{append-nil}
 use Rattle.vbi_field.specs.Outlet as outlets
 use Rattle.vbi_field.specs.RowIntake as intakes
-use Rattle.vbi_field.specs.RowIntake.{IsFresh, HasNoNewline, Fetches, TakesRow, RowIntake}
-use Rattle.vbi_field.specs.WordRows.{newline, AreRows, rows_of, row_words, word_row_of, WordRow}
-use Rattle.vbi_field.specs.Ran.{over}
-use Rattle.vbi_field.specs.Draws.{draw_out, drawn_field_of, EndsRow, RunsDrawing}
+use Rattle.vbi_field.specs.RowIntake.{IsFresh}
+use Rattle.vbi_field.specs.WordRows.{word_row_of}
+use Rattle.vbi_field.specs.Draws.{draw_out, drawn_field_of}
 use Rattle.vbi_field.specs.declared.row_intake.NextRow.TheVariants.{Row, LastRow}
-use Rattle.vbi_field.specs.declared.drawing.DrawFault.{DrawFault}
 use Rattle.vbi_field.specs.declared.drawing.DrawFault.TheVariants as faults
 use Rattle.vbi_field.proofs.DrawnLemmas.{length-drawn_field_of}
 use Rattle.vbi_field.proofs.RowSteps.{Fetches-none, Fetches-more}

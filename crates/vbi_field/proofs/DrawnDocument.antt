@@ -1,15 +1,12 @@
 -- The text of a drawn stream.
-use Rattle.std.proofs.Common.{◌≡◌, ℕ, ◌+◌, ◌*◌, ◌/◌, ◌%◌, ◌<◌, List, [], ◌∷◌, ◌++◌, length, refl, sym, ◌∙◌, arith}
+use Rattle.vbi_field.proofs.Common.{◌≡◌, ℕ, ◌+◌, ◌*◌, ◌/◌, ◌%◌, ◌<◌, [], ◌∷◌, ◌++◌, length, refl, sym, ◌∙◌, arith}
+use Rattle.vbi_field.proofs.Common.{join_by, range_with_len, length-append, zero-mul, suc-mul, field_bytes, System}
+use Rattle.vbi_field.proofs.Common.{ConfigView, Ntsc, Pal, drawn_readings, fields_of, rest_of, whole_text, ReadingKind}
+use Rattle.vbi_field.proofs.Common.{by, AreRows, WordRow}
+use Rattle.std.proofs.Common.{List}
 use Rattle.std.specs.Prelude.{slice_index_or}
-use Rattle.std.specs.List.{join_by, range_with_len}
-use Rattle.std.proofs.lemmas.List.{length-append}
 use Rattle.std.proofs.lemmas.Option.{slice_get-get_or}
-use Rattle.std.proofs.Math.Nat.{zero-mul, suc-mul}
-use Rattle.vbi_field.specs.ConfigView.{field_bytes, System, ConfigView, Ntsc, Pal}
-use Rattle.vbi_field.specs.Draws.{draw_out, drawn_field_of, drawn_readings, drawn_text, no_words}
-use Rattle.vbi_field.specs.Stream.{fields_of, rest_of}
-use Rattle.vbi_field.specs.Texts.{whole_text, ReadingKind, by}
-use Rattle.vbi_field.specs.WordRows.{AreRows, WordRow}
+use Rattle.vbi_field.specs.Draws.{draw_out, drawn_field_of, drawn_text, no_words}
 use Rattle.vbi_field.proofs.DrawnLemmas.{length-drawn_field_of}
 use Rattle.vbi_field.proofs.DrawnReads.{drawn_field}
 use Rattle.vbi_field.proofs.OneDocument.{one_document}

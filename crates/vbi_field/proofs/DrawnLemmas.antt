@@ -1,15 +1,12 @@
 -- Fields that are drawn.
-use Rattle.std.proofs.Common.{◌≡◌, ℕ, zero, suc, ◌+◌, ◌*◌, ◌-◌, ◌≤◌, List, [], ◌++◌, length, refl, sym}
-use Rattle.std.proofs.Common.{ap, ◌∙◌, arith, append_assoc, add-zero, zero-add}
-use Rattle.std.proofs.Math.Nat.{zero-mul, suc-mul}
+use Rattle.vbi_field.proofs.Common.{◌≡◌, ℕ, zero, suc, ◌+◌, ◌*◌, ◌-◌, ◌≤◌, [], ◌++◌, length, refl, sym, ap, ◌∙◌, arith}
+use Rattle.vbi_field.proofs.Common.{append_assoc, add-zero, zero-add, zero-mul, suc-mul, flat_map, range_with_len}
+use Rattle.vbi_field.proofs.Common.{length-append, height_of, line_bytes, field_bytes, ConfigView, drawn_line_of}
+use Rattle.vbi_field.proofs.Common.{length-drawn_line_of, WordRow, word_at}
+use Rattle.std.proofs.Common.{List}
 use Rattle.std.specs.Prelude.{None}
-use Rattle.std.specs.List.{flat_map, range_with_len}
-use Rattle.std.proofs.lemmas.List.{append-nil, length-append}
-use Rattle.vbi_field.specs.ConfigView.{height_of, line_bytes, field_bytes, ConfigView}
-use Rattle.vbi_words.specs.Drawn.{drawn_line_of}
-use Rattle.vbi_words.proofs.DrawnLines.{length-drawn_line_of}
-use Rattle.vbi_field.specs.declared.word_row.WordRow.{WordRow}
-use Rattle.vbi_field.specs.Draws.{word_at, drawn_field_of}
+use Rattle.std.proofs.lemmas.List.{append-nil}
+use Rattle.vbi_field.specs.Draws.{drawn_field_of}
 use Rattle.vbi_field.proofs.Counts.{sizes_of}
 
 -- ---- lists made from the numbers from a on

@@ -1,13 +1,12 @@
 -- The text that is written after some whole fields.
-use Rattle.std.proofs.Common.{◌≡◌, ℕ, zero, suc, ◌+◌, ◌*◌, ◌≤◌, ◌<◌, List, [], ◌∷◌, ◌++◌, length, refl, sym}
-use Rattle.std.proofs.Common.{ap, ◌∙◌, arith, append_assoc, append-nil, add-zero, zero-add, add-one, cond}
-use Rattle.std.specs.Prelude.{◌==◌, if◌then◌else◌, Bool, true, false}
-use Rattle.std.specs.List.{join_by, flat_map, range_with_len}
-use Rattle.std.proofs.lemmas.Grind.{flat_map-append}
+use Rattle.vbi_field.proofs.Common.{◌≡◌, ℕ, zero, suc, ◌+◌, ◌*◌, ◌≤◌, ◌<◌, [], ◌∷◌, ◌++◌, length, refl, sym, ap, ◌∙◌}
+use Rattle.vbi_field.proofs.Common.{arith, append_assoc, add-zero, zero-add, add-one, cond, ◌==◌, if◌then◌else◌}
+use Rattle.vbi_field.proofs.Common.{join_by, flat_map, range_with_len, flat_map-append, height_of, line_bytes}
+use Rattle.vbi_field.proofs.Common.{ConfigView, fields_of, rows_at, joined_entry_of, Kind}
+use Rattle.std.proofs.Common.{List, append-nil}
+use Rattle.std.specs.Prelude.{Bool, true, false}
 use Rattle.std.proofs.Math.Dec.{eqb-suc-zero}
-use Rattle.vbi_field.specs.ConfigView.{height_of, line_bytes, ConfigView}
-use Rattle.vbi_field.specs.Stream.{fields_of, rows_at}
-use Rattle.vbi_field.specs.Texts.{text_before_tail, joined_entry_of, Kind}
+use Rattle.vbi_field.specs.Texts.{text_before_tail}
 use Rattle.vbi_field.proofs.Growing.{rows_at-more}
 
 -- one number more

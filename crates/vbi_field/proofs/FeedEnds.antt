@@ -1,15 +1,10 @@
 -- How a stream that is pushed begins and ends.
-use Rattle.std.proofs.Common.{◌≡◌, ℕ, ◌+◌, ◌*◌, ◌<◌, List, length, arith, sym, ap, ◌∙◌}
-use Rattle.std.specs.Prelude.{Option, Result, Ok, Err}
-use Rattle.vbi_field.specs.ConfigView.{line_bytes, ConfigView}
-use Rattle.vbi_line.specs.Line.{Line}
-use Rattle.vbi_field.specs.Texts.{document}
-use Rattle.vbi_field.specs.Feed.{IsAt, IsFinished, IsFeederState, position_in}
-use Rattle.vbi_field.specs.Outlet.{written_of, Puts, WrotePart, Outlet}
-use Rattle.vbi_field.specs.Stream.{fields_of, rest_of, looks_of}
-use Rattle.vbi_field.specs.declared.progress.Progress.{Progress}
-use Rattle.vbi_field.specs.Extracts.{PutsTail}
-use Rattle.vbi_field.specs.Ran.{RunFault, Summary}
+use Rattle.vbi_field.proofs.Common.{◌≡◌, ℕ, ◌+◌, ◌*◌, ◌<◌, length, arith, sym, ap, ◌∙◌, Result, Ok, Err, line_bytes}
+use Rattle.vbi_field.proofs.Common.{ConfigView, Line, document, IsAt, IsFinished, IsFeederState, position_in}
+use Rattle.vbi_field.proofs.Common.{written_of, Puts, WrotePart, Outlet, fields_of, rest_of, looks_of, Progress}
+use Rattle.vbi_field.proofs.Common.{PutsTail, RunFault, Summary}
+use Rattle.std.proofs.Common.{List}
+use Rattle.std.specs.Prelude.{Option}
 use Rattle.vbi_field.proofs.Positions.{Split, split_of, split_fields, split_rest}
 use Rattle.vbi_field.proofs.Devices.{wrote_whole, put_in_part}
 

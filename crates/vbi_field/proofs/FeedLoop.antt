@@ -1,21 +1,17 @@
 -- What a piece keeps from row to row, and how it ends.
-use Rattle.std.proofs.Common.{◌≡◌, ℕ, ◌+◌, ◌-◌, ◌≤◌, false, List, ◌++◌, length, take, drop}
-use Rattle.std.proofs.Common.{refl, sym, ap, ◌∙◌, arith, subst, append_assoc, append-nil}
-use Rattle.std.specs.Prelude.{Option, Result, Err, Ok}
-use Rattle.std.proofs.lemmas.List.{length-drop, take_all, take-append-drop}
-use Rattle.std.proofs.Math.Nat.{le_refl, le_of_eq}
-use Rattle.std.proofs.Math.Seq.{take-add}
-use Rattle.vbi_field.specs.Texts.{document, text_before_tail}
-use Rattle.vbi_field.specs.Feed.{IsAt, IsFed, IsFeedFault, StandsAt, Feeding, feeding_of, IsFeederState, IsStep}
-use Rattle.vbi_field.specs.Feed.{position_in}
-use Rattle.vbi_field.specs.Outlet.{NoError, IsSameDevice, counted_of, Rises, Outlet}
-use Rattle.vbi_field.specs.Stream.{Position}
-use Rattle.vbi_field.specs.ConfigView.{ConfigView, allowed_bytes}
+use Rattle.vbi_field.proofs.Common.{◌≡◌, ℕ, ◌+◌, ◌-◌, ◌≤◌, ◌++◌, length, take, drop, refl, sym, ap, ◌∙◌, arith, subst}
+use Rattle.vbi_field.proofs.Common.{append_assoc, Result, Err, Ok, length-drop, take_all, take-append-drop, le_refl}
+use Rattle.vbi_field.proofs.Common.{le_of_eq, take-add, document, IsAt, IsFed, StandsAt, Feeding, IsFeederState, IsStep}
+use Rattle.vbi_field.proofs.Common.{position_in, NoError, IsSameDevice, Outlet, Position, ConfigView, allowed_bytes}
+use Rattle.vbi_field.proofs.Common.{Line, Progress, RunFault, Read, Write, TooManyFields}
+use Rattle.std.proofs.Common.{false, List, append-nil}
+use Rattle.std.specs.Prelude.{Option}
+use Rattle.vbi_field.specs.Texts.{text_before_tail}
+use Rattle.vbi_field.specs.Feed.{IsFeedFault, feeding_of}
+use Rattle.vbi_field.specs.Outlet.{counted_of, Rises}
 use Rattle.vbi_field.specs.declared.feeder.Feeder.TheInside.{Inside}
 use Rattle.vbi_line.proofs.Causes.{cause_later}
-use Rattle.vbi_line.specs.Line.{Line}
-use Rattle.vbi_field.specs.declared.progress.Progress.{Progress}
-use Rattle.vbi_field.specs.Ran.{RunFault, Read, Write, TooManyFields, Failed}
+use Rattle.vbi_field.specs.Ran.{Failed}
 use Rattle.vbi_field.proofs.FeedTexts.{completes_twice}
 use Rattle.vbi_field.proofs.Devices.{wrote_none, wrote_twice, later_part}
 

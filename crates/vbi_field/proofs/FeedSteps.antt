@@ -1,16 +1,14 @@
 -- What the bytes up to the end of a row do to a feeder.
-use Rattle.std.proofs.Common.{◌≡◌, ℕ, ◌+◌, ◌≤◌, ◌<◌, Bool, false, cond, List, [], ◌++◌, length}
-use Rattle.std.proofs.Common.{take, drop, refl, sym, ap, ◌∙◌, arith, append_assoc, append-nil}
-use Rattle.std.specs.Prelude.{Option, Some, None, Result, Err, Ok, IsErrAnd, IsTrue, ◌↔◌}
-use Rattle.std.proofs.lemmas.List.{length-append, take-append-drop, take_at}
-use Rattle.vbi_words.specs.Geometry.{width_of, height_of, line_bytes}
-use Rattle.vbi_field.specs.ConfigView.{System, ConfigView, allowed_bytes, most_fields}
-use Rattle.vbi_field.specs.Stream.{row_levels, Reading, reading_of}
-use Rattle.vbi_line.specs.Line.{Line}
-use Rattle.vbi_field.specs.Texts.{document, ExtendsInPart, IsTextBetween, text_before_tail, Outlet}
-use Rattle.vbi_field.specs.Feed.{IsAt, IsFed, IsFeederState, IsStep, position_in}
-use Rattle.vbi_field.specs.Progress.{IsProgress, IsLineOf, MovesOneRow, AddsRow, Progress}
-use Rattle.vbi_field.specs.Ran.{RunFault, Write, TooManyFields}
+use Rattle.vbi_field.proofs.Common.{◌≡◌, ℕ, ◌+◌, ◌≤◌, ◌<◌, cond, [], ◌++◌, length, take, drop, refl, sym, ap, ◌∙◌}
+use Rattle.vbi_field.proofs.Common.{arith, append_assoc, Result, Err, Ok, IsErrAnd, IsTrue, ◌↔◌, length-append}
+use Rattle.vbi_field.proofs.Common.{take-append-drop, take_at, width_of, height_of, line_bytes, System, ConfigView}
+use Rattle.vbi_field.proofs.Common.{allowed_bytes, row_levels, Reading, reading_of, Line, document, ExtendsInPart}
+use Rattle.vbi_field.proofs.Common.{IsTextBetween, Outlet, IsAt, IsFed, IsFeederState, IsStep, position_in, IsProgress}
+use Rattle.vbi_field.proofs.Common.{IsLineOf, MovesOneRow, AddsRow, Progress, RunFault, Write, TooManyFields}
+use Rattle.std.proofs.Common.{Bool, false, List, append-nil}
+use Rattle.std.specs.Prelude.{Option, Some, None}
+use Rattle.vbi_field.specs.ConfigView.{most_fields}
+use Rattle.vbi_field.specs.Texts.{text_before_tail}
 use Rattle.vbi_field.proofs.Counts.{row_before, row_fits, exactly_fields}
 use Rattle.vbi_field.proofs.Positions.{Split, split_of, split_fields, split_long, at_of}
 use Rattle.vbi_field.proofs.FeedTexts.{begun_same, begun_grows, completes_twice, cut_longer}

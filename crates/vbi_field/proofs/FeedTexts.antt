@@ -1,12 +1,10 @@
 -- The text of a stream that grows.
-use Rattle.std.proofs.Common.{◌≡◌, ℕ, zero, suc, ◌+◌, ◌-◌, ◌≤◌, List, [], ◌++◌, length}
-use Rattle.std.proofs.Common.{take, refl, sym, ap, ◌∙◌, arith, append_assoc, append-nil, add-zero}
-use Rattle.std.proofs.lemmas.List.{length-append}
+use Rattle.vbi_field.proofs.Common.{◌≡◌, ℕ, zero, suc, ◌+◌, ◌-◌, ◌≤◌, [], ◌++◌, length, take, refl, sym, ap, ◌∙◌, arith}
+use Rattle.vbi_field.proofs.Common.{append_assoc, add-zero, length-append, le_refl, ConfigView, fields_of, rows_at}
+use Rattle.vbi_field.proofs.Common.{IsTextBetween, joined_entry_of, Kind}
+use Rattle.std.proofs.Common.{List, append-nil}
 use Rattle.std.proofs.Math.Seq.{take-append-add}
-use Rattle.std.proofs.Math.Nat.{le_refl}
-use Rattle.vbi_field.specs.ConfigView.{ConfigView}
-use Rattle.vbi_field.specs.Stream.{fields_of, rows_at}
-use Rattle.vbi_field.specs.Texts.{IsTextBetween, text_before_tail, joined_entry_of, Kind}
+use Rattle.vbi_field.specs.Texts.{text_before_tail}
 use Rattle.vbi_field.proofs.Counts.{whole_rows_fit, more_fields}
 use Rattle.vbi_field.proofs.Entries.{stood, stood-more, stood-stays, text_before_tail-stood}
 

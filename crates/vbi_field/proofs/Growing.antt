@@ -1,17 +1,16 @@
 -- Rows of a stream that grows.
-use Rattle.std.proofs.Common.{rules}
-use Rattle.std.proofs.Common.{◌≡◌, ℕ, ◌+◌, ◌*◌, ◌≤◌, ◌<◌, List, ◌++◌, length, sym, ap, ◌∙◌}
-use Rattle.std.proofs.Common.{refl, arith, lit≤}
+use Rattle.vbi_field.proofs.Common.{rules, ◌≡◌, ℕ, ◌+◌, ◌*◌, ◌≤◌, ◌<◌, ◌++◌, length, sym, ap, ◌∙◌, refl, arith}
+use Rattle.vbi_field.proofs.Common.{eq-or-lt_of_le, eq-zero-or-pos, le_trans, mul-le-mul_right, length-append}
+use Rattle.vbi_field.proofs.Common.{length-drop, take-append-le, take_all, height_of, line_bytes, System, ConfigView}
+use Rattle.vbi_field.proofs.Common.{row_levels, reading_of, Reading, FieldReadings, reading_at, reading_among, line_at}
+use Rattle.vbi_field.proofs.Common.{rows_at, Progress, IsProgress, IsLineOf, IsKept}
+use Rattle.std.proofs.Common.{List, lit≤}
 use Rattle.std.specs.Prelude.{Option, Some, None}
 use Rattle.std.proofs.lemmas.Bool.{cond_below, cond_above}
-use Rattle.std.proofs.Math.Nat.{eq-or-lt_of_le, eq-zero-or-pos, le_trans, mul-le-mul_right}
-use Rattle.std.proofs.lemmas.List.{length-append, length-drop, take-append-le, drop-append-le, take_all}
+use Rattle.std.proofs.lemmas.List.{drop-append-le}
 use Rattle.std.proofs.Math.Seq.{drop_at}
-use Rattle.vbi_field.specs.ConfigView.{height_of, line_bytes, System, ConfigView}
-use Rattle.vbi_field.specs.Stream.{row_levels, reading_of, Reading, FieldReadings, reading_at}
-use Rattle.vbi_field.specs.Stream.{reading_among, line_at, rows_at}
 use Rattle.vbi_field.specs.declared.progress.PartialReadings.{PartialReadings}
-use Rattle.vbi_field.specs.Progress.{Progress, IsProgress, IsLineOf, IsKept, TakesReading, Advances, all_of}
+use Rattle.vbi_field.specs.Progress.{TakesReading, Advances, all_of}
 use Rattle.vbi_field.proofs.Counts.{sizes_of, times-next, bytes_before}
 
 -- a row that is whole stays as it is

@@ -1,15 +1,12 @@
 -- The bytes of rows 15, 16 and 17 while a stream grows.
-use Rattle.std.proofs.Common.{◌≡◌, ℕ, ◌+◌, ◌-◌, ◌*◌, ◌≤◌, ◌<◌, ◌⊎◌, inl, inr, List, ◌++◌, length, take, drop, sym}
-use Rattle.std.proofs.Common.{ap}
-use Rattle.std.proofs.Common.{◌∙◌, arith, append_assoc}
+use Rattle.vbi_field.proofs.Common.{◌≡◌, ℕ, ◌+◌, ◌-◌, ◌*◌, ◌≤◌, ◌<◌, inl, inr, ◌++◌, length, take, drop, sym, ap, ◌∙◌}
+use Rattle.vbi_field.proofs.Common.{arith, append_assoc, length-append, length-drop, length-take-le, take-append-drop}
+use Rattle.vbi_field.proofs.Common.{take_all, drop-drop, joined_rows, eq-or-lt_of_le, mul-le-mul_right, height_of}
+use Rattle.vbi_field.proofs.Common.{line_bytes, field_bytes, System, ConfigView, Ntsc, Pal, line_at, rows_at, rows_in}
+use Rattle.vbi_field.proofs.Common.{HoldsRows, HoldsOn, IsKept, MovesOneRow, Progress}
+use Rattle.std.proofs.Common.{◌⊎◌, List}
 use Rattle.std.proofs.lemmas.Bool.{cases_lt}
-use Rattle.std.proofs.lemmas.List.{length-append, length-drop, length-take-le, take-append-drop, take_all, drop-drop}
 use Rattle.std.proofs.lemmas.List.{drop_at}
-use Rattle.vbi_field.specs.Shown.{joined_rows}
-use Rattle.std.proofs.Math.Nat.{eq-or-lt_of_le, mul-le-mul_right}
-use Rattle.vbi_field.specs.ConfigView.{height_of, line_bytes, field_bytes, System, ConfigView, Ntsc, Pal}
-use Rattle.vbi_field.specs.Stream.{line_at, rows_at, rows_in}
-use Rattle.vbi_field.specs.Progress.{HoldsRows, HoldsOn, IsKept, MovesOneRow, Progress}
 use Rattle.vbi_field.proofs.Growing.{line_at-more, line_at-new}
 
 module _ (c : ConfigView) (z b : List ℕ) (i row : ℕ) (held now : List ℕ)

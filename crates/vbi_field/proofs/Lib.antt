@@ -1,4 +1,5 @@
 pub mod AddedRows
+mod Common
 pub mod Counts
 pub mod Devices
 pub mod DrawEnds

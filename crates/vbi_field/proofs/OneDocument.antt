@@ -1,11 +1,9 @@
 -- A stream has one text of each kind.
-use Rattle.std.proofs.Common.{arith}
-use Rattle.std.proofs.Common.{◌≡◌, ℕ, ◌+◌, List, ◌++◌, ap, ◌∙◌}
-use Rattle.std.specs.Prelude.{◌↔◌}
-use Rattle.vbi_field.specs.Stream.{fields_of, rest_of, readings_at, FieldReadings}
-use Rattle.vbi_line.proofs.OneReading.{is_reading, only_reading}
-use Rattle.vbi_field.specs.Texts.{FieldReads, IsWholeText, text_before_tail, whole_text, ReadingKind, by}
-use Rattle.vbi_field.specs.ConfigView.{ConfigView}
+use Rattle.vbi_field.proofs.Common.{arith, ◌≡◌, ℕ, ◌+◌, ◌++◌, ap, ◌∙◌, ◌↔◌, fields_of, rest_of, FieldReadings}
+use Rattle.vbi_field.proofs.Common.{is_reading, only_reading, FieldReads, whole_text, ReadingKind, by, ConfigView}
+use Rattle.std.proofs.Common.{List}
+use Rattle.vbi_field.specs.Stream.{readings_at}
+use Rattle.vbi_field.specs.Texts.{IsWholeText, text_before_tail}
 use Rattle.vbi_field.proofs.Entries.{entry_of, joined-same}
 
 -- a field has no other readings

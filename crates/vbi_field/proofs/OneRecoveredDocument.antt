@@ -1,17 +1,11 @@
 -- A stream has one document and one report with recovered words.
-use Rattle.std.proofs.Common.{rules}
-use Rattle.std.proofs.Common.{◌≡◌, ℕ, ◌+◌, Bool, List, ◌++◌, ap, ◌∙◌, sym, subst}
-use Rattle.std.specs.Prelude.{◌↔◌}
-use Rattle.vbi_words.specs.Levels.{Slicing}
-use Rattle.vbi_line.proofs.OneReading.{is_reading, only_reading}
-use Rattle.vbi_near.specs.Candidates.{row_of}
-use Rattle.vbi_near.specs.Recovery.{none_erased}
-use Rattle.vbi_field.specs.ConfigView.{ConfigView, System}
-use Rattle.vbi_field.specs.Recovered.{FieldRecovered, RowsRecover, recovered_of, recovered_without}
+use Rattle.vbi_field.proofs.Common.{rules, ◌≡◌, ℕ, ◌+◌, ◌++◌, ap, ◌∙◌, sym, subst, ◌↔◌, Slicing, is_reading}
+use Rattle.vbi_field.proofs.Common.{only_reading, row_of, none_erased, ConfigView, System, recovered_without}
+use Rattle.vbi_field.proofs.Common.{joined_rows, fields_of, rest_of, rows_at, row_levels, FieldRows, whole_text}
+use Rattle.std.proofs.Common.{Bool, List}
+use Rattle.vbi_field.specs.Recovered.{FieldRecovered, RowsRecover, recovered_of}
 use Rattle.vbi_near.specs.Candidates.{marks_at}
-use Rattle.vbi_field.specs.Shown.{joined_rows}
-use Rattle.vbi_field.specs.Stream.{fields_of, rest_of, rows_at, row_levels, FieldRows}
-use Rattle.vbi_field.specs.Texts.{IsRecoveredText, RecoveredKind, recovering, text_before_tail, whole_text}
+use Rattle.vbi_field.specs.Texts.{IsRecoveredText, RecoveredKind, recovering, text_before_tail}
 use Rattle.vbi_field.proofs.Entries.{entry_of, joined-same}
 use Rattle.vbi_field.proofs.OneShown.{only_near, only_shown, is_near, is_shown}
 

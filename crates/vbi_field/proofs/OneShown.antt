@@ -1,24 +1,18 @@
 -- What the definitions of `Shown` have is all that there is.
-use Rattle.std.proofs.Common.{rules}
-use Rattle.std.proofs.Common.{◌≡◌, ℕ, ◌*◌, ◌≤◌, Bool, false, List, [], ◌∷◌, take, replicate, get_or, ap, ◌∙◌, sym}
-use Rattle.std.proofs.Common.{subst, arith}
+use Rattle.vbi_field.proofs.Common.{rules, ◌≡◌, ℕ, ◌*◌, ◌≤◌, [], ◌∷◌, take, replicate, get_or, ap, ◌∙◌, sym, subst}
+use Rattle.vbi_field.proofs.Common.{arith, ◌↔◌, System, Ntsc, Pal, width_of, Reading, Slicing, Recovered, given_samples}
+use Rattle.vbi_field.proofs.Common.{none_erased, as_readings}
+use Rattle.std.proofs.Common.{Bool, false, List}
 use Rattle.std.proofs.lemmas.List.{take-replicate}
-use Rattle.std.specs.Prelude.{◌↔◌}
-use Rattle.vbi_words.specs.declared.system.System.{System}
-use Rattle.vbi_words.specs.declared.system.System.TheVariants.{Ntsc, Pal}
-use Rattle.vbi_words.specs.Geometry.{width_of}
-use Rattle.vbi_words.specs.declared.outcome.Reading.{Reading}
-use Rattle.vbi_words.specs.Levels.{Slicing}
 use Rattle.vbi_near.specs.declared.near.Near.{Near}
-use Rattle.vbi_near.specs.declared.recovery.Recovered.{Recovered}
-use Rattle.vbi_near.specs.Candidates.{Row, given_samples}
-use Rattle.vbi_near.specs.Recovery.{IsRecovered, IsSureBy, none_erased, row_reading}
+use Rattle.vbi_near.specs.Candidates.{Row}
+use Rattle.vbi_near.specs.Recovery.{IsRecovered, IsSureBy, row_reading}
 use Rattle.vbi_near.proofs.Kept.{sure-shown}
 use Rattle.vbi_near.proofs.OneNear.{one_near}
 use Rattle.vbi_near.proofs.OneRecovered.{one_recovered}
 use Rattle.vbi_near.proofs.SomeNear.{some_near}
 use Rattle.vbi_near.proofs.SomeRecovered.{some_recovered}
-use Rattle.vbi_field.specs.Shown.{IsNearRow, near_of, recovery_of, as_readings, reading_as}
+use Rattle.vbi_field.specs.Shown.{IsNearRow, near_of, recovery_of, reading_as}
 
 -- ---- the nearest word of a row
 

@@ -1,15 +1,11 @@
 -- The position to which a stream has come, and its whole rows.
-use Rattle.std.proofs.Common.{◌≡◌, ℕ, ◌+◌, ◌-◌, ◌*◌, ◌/◌, ◌%◌, ◌≤◌, ◌<◌}
-use Rattle.std.proofs.Common.{List, ◌++◌, length, take, drop, sym, ap, ◌∙◌, arith}
-use Rattle.std.proofs.lemmas.List.{length-append, take-append-drop}
-use Rattle.std.proofs.Math.Nat.{le_trans, le_of_eq, mul-le-mul_right}
+use Rattle.vbi_field.proofs.Common.{◌≡◌, ℕ, ◌+◌, ◌-◌, ◌*◌, ◌/◌, ◌%◌, ◌≤◌, ◌<◌, ◌++◌, length, take, drop, sym, ap, ◌∙◌}
+use Rattle.vbi_field.proofs.Common.{arith, length-append, take-append-drop, le_trans, le_of_eq, mul-le-mul_right}
+use Rattle.vbi_field.proofs.Common.{height_of, line_bytes, ConfigView, allowed_bytes, Line, IsAt, position_in}
+use Rattle.vbi_field.proofs.Common.{reading_among, fields_of, rest_of, reading_at, IsProgress, Progress}
+use Rattle.std.proofs.Common.{List}
 use Rattle.std.proofs.lemmas.Nat.{div-mul-add, mod-mul-add}
 use Rattle.std.proofs.Math.Seq.{drop_at}
-use Rattle.vbi_field.specs.ConfigView.{height_of, line_bytes, ConfigView, allowed_bytes}
-use Rattle.vbi_line.specs.Line.{Line}
-use Rattle.vbi_field.specs.Feed.{IsAt, position_in}
-use Rattle.vbi_field.specs.Stream.{reading_among, fields_of, rest_of, reading_at}
-use Rattle.vbi_field.specs.Progress.{IsProgress, Progress}
 use Rattle.vbi_field.proofs.Counts.{bytes_of_rows, whole_fields, past_fields}
 use Rattle.vbi_field.proofs.Growing.{reading_at-more, among_same}
 

@@ -1,24 +1,20 @@
 -- How a run ends that fetched less than a row: its reader ended or failed, or too many bytes came.
-use Rattle.std.proofs.Common.{◌≡◌, ℕ, ◌+◌, ◌*◌, ◌≤◌, ◌<◌, inl, inr, List, ◌++◌, length, take}
-use Rattle.std.proofs.Common.{refl, sym, ap, ◌∙◌, arith, subst}
-use Rattle.std.specs.Prelude.{Option, Result, Ok, Err, IfErr, IsErrAnd}
-use Rattle.std.proofs.KnownBytes.{Appends-trans, Consumes-trans}
-use Rattle.std.proofs.lemmas.List.{length-append, take_at}
-use Rattle.std.proofs.Math.Nat.{le_of_eq, le_trans, zero-mul}
-use Rattle.vbi_field.specs.ConfigView.{width_of, height_of, line_bytes, ConfigView, allowed_bytes}
-use Rattle.vbi_field.specs.Outlet.{NoError, Outlet}
+use Rattle.vbi_field.proofs.Common.{◌≡◌, ℕ, ◌+◌, ◌*◌, ◌≤◌, ◌<◌, inl, inr, ◌++◌, length, take, refl, sym, ap, ◌∙◌, arith}
+use Rattle.vbi_field.proofs.Common.{subst, Result, Ok, Err, IsErrAnd, Appends-trans, Consumes-trans, length-append}
+use Rattle.vbi_field.proofs.Common.{take_at, le_of_eq, le_trans, zero-mul, width_of, height_of, line_bytes, ConfigView}
+use Rattle.vbi_field.proofs.Common.{allowed_bytes, NoError, Outlet, Full, Intake, Runs, TakesLine, PutsTail, EndsInside}
+use Rattle.vbi_field.proofs.Common.{RunFault, Summary, Read, TooManyFields, over, fields_of, rest_of, looks_of}
+use Rattle.vbi_field.proofs.Common.{selected, whole_text, Kind, Progress}
+use Rattle.std.proofs.Common.{List}
+use Rattle.std.specs.Prelude.{Option, IfErr}
 use Rattle.vbi_line.specs.Intake as intakes
 use Rattle.vbi_line.specs.declared.intake.Filled.{Filled}
-use Rattle.vbi_line.specs.declared.intake.Filled.TheVariants.{Full, Ended}
-use Rattle.vbi_line.specs.declared.intake.Intake.{Intake}
-use Rattle.vbi_field.specs.Extracts.{Runs, TakesLine, PutsTail, AnswersAtLimit, EndsAtLimit}
-use Rattle.vbi_field.specs.Ran.{EndsInside, RunFault, Summary, Read, TooManyFields, over}
-use Rattle.vbi_field.specs.Stream.{fields_of, rest_of, cut_of, looks_of}
-use Rattle.vbi_field.specs.Feed.{selected}
-use Rattle.vbi_field.specs.Texts.{text_before_tail, whole_text, Kind}
-use Rattle.vbi_field.specs.declared.progress.Progress.{Progress}
-use Rattle.vbi_field.proofs.Counts.{sizes_of, all_fields, bytes_of_fields, rows_fit}
-use Rattle.vbi_field.proofs.Counts.{whole_fields, past_fields, selected_is, selected_past}
+use Rattle.vbi_line.specs.declared.intake.Filled.TheVariants.{Ended}
+use Rattle.vbi_field.specs.Extracts.{AnswersAtLimit, EndsAtLimit}
+use Rattle.vbi_field.specs.Stream.{cut_of}
+use Rattle.vbi_field.specs.Texts.{text_before_tail}
+use Rattle.vbi_field.proofs.Counts.{sizes_of, all_fields, bytes_of_fields, rows_fit, whole_fields, past_fields}
+use Rattle.vbi_field.proofs.Counts.{selected_is, selected_past}
 use Rattle.vbi_field.proofs.FeedTexts.{begun_same}
 use Rattle.vbi_field.proofs.AddedRows.{fields_at}
 use Rattle.vbi_field.proofs.Devices.{has_failed, inside_of, wrote_whole, put_in_part}

@@ -1,18 +1,14 @@
 -- A run whose writer failed, and a fault that is passed on.
-use Rattle.std.proofs.Common.{◌≡◌, ℕ, ◌+◌, ◌≤◌, ◌<◌, inl, List, [], ◌++◌, length, refl, sym, ◌∙◌, arith, zero-le}
-use Rattle.std.specs.Prelude.{Option, Result, Ok, Err, IsErrAnd}
-use Rattle.vbi_field.specs.Ran.{Consumes, Appends, RunFault, Summary, Write, over}
-use Rattle.std.proofs.KnownBytes.{Appends-trans, Appends-nil, Consumes-nil}
-use Rattle.std.proofs.lemmas.List.{length-append}
-use Rattle.std.proofs.Math.Nat.{zero-div}
-use Rattle.vbi_field.specs.ConfigView.{field_bytes, ConfigView, allowed_bytes}
-use Rattle.vbi_field.specs.Outlet.{device_of, failures_of, HasCause, Outlet}
+use Rattle.vbi_field.proofs.Common.{◌≡◌, ℕ, ◌+◌, ◌≤◌, ◌<◌, inl, [], ◌++◌, length, refl, sym, ◌∙◌, arith, zero-le}
+use Rattle.vbi_field.proofs.Common.{Result, Ok, Err, IsErrAnd, Consumes, Appends, RunFault, Summary, Write, over}
+use Rattle.vbi_field.proofs.Common.{Appends-trans, Appends-nil, Consumes-nil, length-append, zero-div, field_bytes}
+use Rattle.vbi_field.proofs.Common.{ConfigView, allowed_bytes, device_of, failures_of, HasCause, Outlet, Intake}
+use Rattle.vbi_field.proofs.Common.{EndsWithin, Runs, looks_of, Kind}
+use Rattle.std.proofs.Common.{List}
+use Rattle.std.specs.Prelude.{Option}
 use Rattle.vbi_line.specs.Intake as intakes
-use Rattle.vbi_line.specs.declared.intake.Intake.{Intake}
-use Rattle.vbi_field.specs.Extracts.{EndsWithin, Runs}
 use Rattle.vbi_field.specs.Outlet as outlets
-use Rattle.vbi_field.specs.Stream.{looks_of}
-use Rattle.vbi_field.specs.Texts.{text_before_tail, Kind}
+use Rattle.vbi_field.specs.Texts.{text_before_tail}
 use Rattle.vbi_field.proofs.Counts.{no_looks}
 use Rattle.vbi_field.proofs.Entries.{stood-none, text_before_tail-stood}
 use Rattle.vbi_field.proofs.Devices.{has_failed, inside_of, put_in_part}

@@ -1,26 +1,21 @@
 -- A run that fetched a whole row more: what is due with the row was written, or its writer failed.
-use Rattle.std.proofs.Common.{◌≡◌, ℕ, ◌+◌, ◌*◌, ◌≤◌, ◌<◌, inl, inr, Bool, true, false, List, ◌++◌, length, take}
-use Rattle.std.proofs.Common.{drop, sym, ap, ◌∙◌, arith, subst, cond, zero-le, add-zero, append_assoc, refl}
-use Rattle.std.specs.Prelude.{Option, Result, Ok, Err, IsErrAnd, IsTrue, ◌↔◌}
-use Rattle.vbi_field.specs.Ran.{Summary, EndsInside, RunFault, Write, Consumes, Appends, over}
-use Rattle.std.proofs.KnownBytes.{Appends-trans, Consumes-trans}
-use Rattle.std.proofs.lemmas.List.{length-append, length-drop, length-take-le, take-append-drop}
-use Rattle.std.proofs.Math.Nat.{le_of_eq, le_trans, zero-mul, mul-le-mul_right}
-use Rattle.vbi_field.specs.ConfigView.{width_of, height_of, line_bytes, field_bytes, Slicing, System, ConfigView}
-use Rattle.vbi_field.specs.ConfigView.{allowed_bytes, Pal}
-use Rattle.vbi_field.specs.Stream.{Reading, fields_of, rest_of, looks_of}
-use Rattle.vbi_field.specs.Outlet.{tries, device_of, failures_of, NoError, HasCause, IsSameDevice, Outlet}
+use Rattle.vbi_field.proofs.Common.{◌≡◌, ℕ, ◌+◌, ◌*◌, ◌≤◌, ◌<◌, inl, inr, ◌++◌, length, take, drop, sym, ap, ◌∙◌, arith}
+use Rattle.vbi_field.proofs.Common.{subst, cond, zero-le, add-zero, append_assoc, refl, Result, Ok, Err, IsErrAnd}
+use Rattle.vbi_field.proofs.Common.{IsTrue, ◌↔◌, Summary, EndsInside, RunFault, Write, Consumes, Appends, over}
+use Rattle.vbi_field.proofs.Common.{Appends-trans, Consumes-trans, length-append, length-drop, length-take-le}
+use Rattle.vbi_field.proofs.Common.{take-append-drop, le_of_eq, le_trans, zero-mul, mul-le-mul_right, width_of}
+use Rattle.vbi_field.proofs.Common.{height_of, line_bytes, field_bytes, Slicing, System, ConfigView, allowed_bytes, Pal}
+use Rattle.vbi_field.proofs.Common.{Reading, fields_of, rest_of, looks_of, tries, device_of, failures_of, NoError}
+use Rattle.vbi_field.proofs.Common.{HasCause, IsSameDevice, Outlet, Full, Intake, Runs, TakesLine, IsProgress, IsLineOf}
+use Rattle.vbi_field.proofs.Common.{MovesOneRow, AddsRow, Progress, selected, ExtendsInPart, Kind}
+use Rattle.std.proofs.Common.{Bool, true, false, List}
+use Rattle.std.specs.Prelude.{Option}
 use Rattle.vbi_line.specs.Intake as intakes
-use Rattle.vbi_line.specs.declared.intake.Filled.TheVariants.{Full}
-use Rattle.vbi_line.specs.declared.intake.Intake.{Intake}
-use Rattle.vbi_field.specs.Extracts.{Runs, TakesLine}
 use Rattle.vbi_line.specs.OneReading.{ReadsLine}
 use Rattle.vbi_field.specs.Outlet as outlets
-use Rattle.vbi_field.specs.Progress.{IsProgress, IsLineOf, MovesOneRow, AddsRow, Progress}
-use Rattle.vbi_field.specs.Feed.{selected}
-use Rattle.vbi_field.specs.Texts.{ExtendsInPart, text_before_tail, Kind}
-use Rattle.vbi_field.proofs.Counts.{sizes_of, few_fields, bytes_of_next_field, rows_fit}
-use Rattle.vbi_field.proofs.Counts.{whole_fields, past_fields, selected_is}
+use Rattle.vbi_field.specs.Texts.{text_before_tail}
+use Rattle.vbi_field.proofs.Counts.{sizes_of, few_fields, bytes_of_next_field, rows_fit, whole_fields, past_fields}
+use Rattle.vbi_field.proofs.Counts.{selected_is}
 use Rattle.vbi_field.proofs.FeedTexts.{begun_same}
 use Rattle.vbi_field.proofs.AddedRows.{fields_at, further}
 use Rattle.vbi_field.proofs.Devices.{inside_of}

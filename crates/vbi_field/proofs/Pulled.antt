@@ -1,18 +1,14 @@
 -- What a run keeps from row to row, and that it holds before the first row.
-use Rattle.std.proofs.Common.{◌≡◌, ℕ, ◌+◌, ◌*◌, ◌≤◌, ◌<◌, List, [], length, refl, sym, ap, ◌∙◌, arith}
+use Rattle.vbi_field.proofs.Common.{◌≡◌, ℕ, ◌+◌, ◌*◌, ◌≤◌, ◌<◌, [], length, refl, sym, ap, ◌∙◌, arith, Consumes}
+use Rattle.vbi_field.proofs.Common.{Appends, Consumes-nil, zero-div, width_of, height_of, line_bytes, field_bytes}
+use Rattle.vbi_field.proofs.Common.{System, ConfigView, Ntsc, Pal, tries, device_of, failures_of, NoError, IsSameDevice}
+use Rattle.vbi_field.proofs.Common.{Outlet, Intake, IsProgress, Progress, selected, Kind}
+use Rattle.std.proofs.Common.{List}
 use Rattle.std.specs.Prelude.{Option, None}
-use Rattle.std.specs.Io.KnownBytes.{Consumes, Appends}
-use Rattle.std.proofs.KnownBytes.{Consumes-nil}
-use Rattle.std.proofs.Math.Nat.{zero-div}
-use Rattle.vbi_field.specs.ConfigView.{width_of, height_of, line_bytes, field_bytes, System, ConfigView, longest_text}
-use Rattle.vbi_field.specs.ConfigView.{Ntsc, Pal}
-use Rattle.vbi_field.specs.Outlet.{tries, device_of, failures_of, NoError, IsSameDevice, Outlet}
+use Rattle.vbi_field.specs.ConfigView.{longest_text}
 use Rattle.vbi_line.specs.Intake as intakes
-use Rattle.vbi_line.specs.declared.intake.Intake.{Intake}
 use Rattle.vbi_field.specs.Outlet as outlets
-use Rattle.vbi_field.specs.Progress.{IsProgress, Progress}
-use Rattle.vbi_field.specs.Feed.{selected}
-use Rattle.vbi_field.specs.Texts.{text_before_tail, Kind}
+use Rattle.vbi_field.specs.Texts.{text_before_tail}
 use Rattle.vbi_field.proofs.Entries.{stood-none, text_before_tail-stood}
 use Rattle.vbi_field.proofs.Devices.{wrote_whole}
 

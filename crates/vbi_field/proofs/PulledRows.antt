@@ -1,15 +1,10 @@
 -- What a run keeps from row to row, with the bytes of rows that are kept.
-use Rattle.std.proofs.Common.{◌≡◌, ℕ, ◌+◌, List, ◌++◌, length, ap, ◌∙◌, arith}
-use Rattle.std.specs.Prelude.{Option, Bool, IsTrue, Ok}
-use Rattle.vbi_field.specs.ConfigView.{ConfigView, height_of}
-use Rattle.vbi_field.specs.Outlet.{Outlet}
-use Rattle.vbi_line.specs.declared.intake.Intake.{Intake}
-use Rattle.vbi_field.specs.Progress.{Progress, HoldsRows, HoldsOn, IsLineOf, MovesOneRow}
-use Rattle.vbi_field.specs.Stream.{Reading, rows_in, rows_at}
-use Rattle.vbi_field.specs.Extracts.{TakesLine}
-use Rattle.vbi_line.specs.declared.intake.Filled.TheVariants.{Full}
+use Rattle.vbi_field.proofs.Common.{◌≡◌, ℕ, ◌+◌, ◌++◌, length, ap, ◌∙◌, arith, IsTrue, Ok, ConfigView, height_of}
+use Rattle.vbi_field.proofs.Common.{Outlet, Intake, Progress, HoldsRows, HoldsOn, IsLineOf, MovesOneRow, Reading}
+use Rattle.vbi_field.proofs.Common.{rows_in, rows_at, TakesLine, Full, Kind}
+use Rattle.std.proofs.Common.{List}
+use Rattle.std.specs.Prelude.{Option, Bool}
 use Rattle.vbi_field.proofs.HeldRows.{holds_more, holds_field, holds_next, tall}
-use Rattle.vbi_field.specs.Texts.{Kind}
 use Rattle.vbi_field.proofs.Pulled.{Pulled}
 
 pub record PulledRows (t : Kind) {R W : Type 0} (remaining : R → Option (List ℕ)) (contents : W → Option (List ℕ))

@@ -1,20 +1,15 @@
 -- What the writing of a field keeps from row to row.
-use Rattle.std.proofs.Common.{rules}
-use Rattle.std.proofs.Common.{◌≡◌, ℕ, ◌+◌, ◌-◌, ◌*◌, ◌≤◌, ◌<◌, List, ◌++◌, length, sym, ap, subst, ◌∙◌, arith}
+use Rattle.vbi_field.proofs.Common.{rules, ◌≡◌, ℕ, ◌+◌, ◌-◌, ◌*◌, ◌≤◌, ◌<◌, ◌++◌, length, sym, ap, subst, ◌∙◌, arith}
+use Rattle.vbi_field.proofs.Common.{Appends, Appends-trans, length-append, height_of, line_bytes, Pal, ConfigView}
+use Rattle.vbi_field.proofs.Common.{most_rows, tries, device_of, failures_of, NoError, IsSameDevice, Puts, Wrote}
+use Rattle.vbi_field.proofs.Common.{WrotePart, Outlet, drawn_line_of, word_at, WordRow, length-drawn_line_of}
+use Rattle.std.proofs.Common.{List}
 use Rattle.std.specs.Prelude.{Option, None}
-use Rattle.std.specs.Io.KnownBytes.{Appends}
-use Rattle.std.proofs.KnownBytes.{Appends-trans}
-use Rattle.std.proofs.lemmas.List.{length-append}
-use Rattle.vbi_field.specs.ConfigView.{height_of, line_bytes, Pal, ConfigView, most_rows}
-use Rattle.vbi_line.specs.Counted.{tries, device_of, failures_of, NoError, IsSameDevice}
-use Rattle.vbi_field.specs.Outlet.{counted_of, Puts, Wrote, WrotePart, Outlet}
-use Rattle.vbi_words.specs.Drawn.{drawn_line_of}
-use Rattle.vbi_field.specs.Draws.{drawn_field_of, word_at}
-use Rattle.vbi_field.specs.declared.word_row.WordRow.{WordRow}
+use Rattle.vbi_field.specs.Outlet.{counted_of}
+use Rattle.vbi_field.specs.Draws.{drawn_field_of}
 use Rattle.vbi_field.proofs.Counts.{sizes_of}
-use Rattle.vbi_words.proofs.DrawnLines.{length-drawn_line_of}
-use Rattle.vbi_field.proofs.DrawnLemmas.{drawn_rows_of, drawn_rows_of-more}
-use Rattle.vbi_field.proofs.DrawnLemmas.{drawn_rows_of-none, drawn_rows_of-all, drawn_rows_of-split, last_word}
+use Rattle.vbi_field.proofs.DrawnLemmas.{drawn_rows_of, drawn_rows_of-more, drawn_rows_of-none, drawn_rows_of-all}
+use Rattle.vbi_field.proofs.DrawnLemmas.{drawn_rows_of-split, last_word}
 use Rattle.vbi_field.proofs.Devices.{wrote_whole, put_in_part, longer_part, later_part}
 
 module _ {W : Type 0} (contents : W → Option (List ℕ)) (c : ConfigView) (words : WordRow) (old : Outlet W) where

@@ -1,15 +1,14 @@
 -- What the calls of an intake of rows keep from read to read.
-use Rattle.std.proofs.Common.{◌≡◌, ℕ, ◌+◌, ◌*◌, ◌<◌, ◌≤◌, List, [], ◌∷◌, ◌++◌}
-use Rattle.std.proofs.Common.{length, take, refl, subst, ◌∙◌, arith}
+use Rattle.vbi_field.proofs.Common.{◌≡◌, ℕ, ◌+◌, ◌*◌, ◌<◌, ◌≤◌, [], ◌∷◌, ◌++◌, length, take, refl, subst, ◌∙◌, arith}
+use Rattle.vbi_field.proofs.Common.{Consumes-trans, Consumes-nil, length-append, length-take-le, newline, WordRow}
+use Rattle.vbi_field.proofs.Common.{tries, failures_of, NoError, longest_row, HasNoNewline, Fetches, TakesByte}
+use Rattle.vbi_field.proofs.Common.{TakesRow, RowIntake, Malformed}
+use Rattle.std.proofs.Common.{List}
 use Rattle.std.specs.Prelude.{Option, Some, None}
-use Rattle.std.proofs.KnownBytes.{Consumes-trans, Consumes-nil}
-use Rattle.std.proofs.lemmas.List.{length-append, length-take-le}
-use Rattle.vbi_field.specs.WordRows.{newline, word_row_of, WordRow}
-use Rattle.vbi_line.specs.Counted.{tries, failures_of, NoError}
-use Rattle.vbi_field.specs.ConfigView.{longest_row}
-use Rattle.vbi_field.specs.RowIntake.{counted_of, HasNoNewline, Fetches, TakesByte, TakesRow, RowIntake}
+use Rattle.vbi_field.specs.WordRows.{word_row_of}
+use Rattle.vbi_field.specs.RowIntake.{counted_of}
 use Rattle.vbi_field.specs.declared.row_intake.NextByte.TheVariants as bytes
-use Rattle.vbi_field.specs.declared.row_intake.NextRow.TheVariants.{Row, Malformed}
+use Rattle.vbi_field.specs.declared.row_intake.NextRow.TheVariants.{Row}
 use Rattle.vbi_field.proofs.WordRowLemmas.{long_row}
 
 module _ {R : Type 0} (remaining : R → Option (List ℕ)) where

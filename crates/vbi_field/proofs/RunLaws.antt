@@ -1,13 +1,11 @@
 -- What follows from what a run says.
-use Rattle.std.proofs.Common.{◌≡◌, ℕ, ◌+◌, ◌*◌, ◌/◌, ◌≤◌, ◌⊎◌, inl, inr, List, [], ◌++◌, length, take, Option}
-use Rattle.std.proofs.Common.{Some, None, sym, ap, subst, ◌∙◌, arith, append-nil}
-use Rattle.vbi_field.specs.Ran.{Consumes, IsAtEnd, EndsInside, IsFirstOf}
-use Rattle.std.proofs.lemmas.List.{length-append, take_at}
+use Rattle.vbi_field.proofs.Common.{◌≡◌, ℕ, ◌+◌, ◌*◌, ◌/◌, ◌≤◌, inl, inr, [], ◌++◌, length, take, sym, ap, subst, ◌∙◌}
+use Rattle.vbi_field.proofs.Common.{arith, Consumes, IsAtEnd, EndsInside, length-append, take_at, width_of, line_bytes}
+use Rattle.vbi_field.proofs.Common.{field_bytes, ConfigView, EndsWithin, fields_of, rest_of, looks_of, whole_text, Kind}
+use Rattle.std.proofs.Common.{◌⊎◌, List, Option, Some, None, append-nil}
+use Rattle.vbi_field.specs.Ran.{IsFirstOf}
 use Rattle.std.proofs.Math.Nat.{zero-mod}
-use Rattle.vbi_field.specs.ConfigView.{width_of, line_bytes, field_bytes, ConfigView}
-use Rattle.vbi_field.specs.Extracts.{EndsWithin}
-use Rattle.vbi_field.specs.Stream.{fields_of, rest_of, looks_of}
-use Rattle.vbi_field.specs.Texts.{text_before_tail, whole_text, Kind}
+use Rattle.vbi_field.specs.Texts.{text_before_tail}
 use Rattle.vbi_field.proofs.Counts.{rest-next, few_looks}
 
 pub first : (all z : List ℕ) (input : Option (List ℕ)) → Consumes (Some all) input z

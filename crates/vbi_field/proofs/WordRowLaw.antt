@@ -1,17 +1,16 @@
 -- The rows that the function and the relation speak of are the same.
-use Rattle.std.proofs.Common.{◌≡◌, ℕ, zero, suc, ◌<◌, Bool, true, false, cond, List, [], ◌∷◌, ◌++◌}
-use Rattle.std.proofs.Common.{length, map, get_or, refl, sym, ap, subst, ◌∙◌, arith, append_assoc}
-use Rattle.std.specs.Prelude.{Option, Some, None, ◌==◌, ◌&&◌, All, codes, slice_get}
-use Rattle.std.specs.List.{list_all, join_with_byte}
-use Rattle.std.specs.Char.{is_digit, digit_value}
-use Rattle.std.specs.Str.Parse.{AllDigits, digits_value}
-use Rattle.std.proofs.lemmas.Bool.{and_parts, eqb-true, ltb-true, leb-true, lt-ltb, le-leb}
-use Rattle.std.proofs.lemmas.Bool.Decides.{nat_tests}
-use Rattle.std.proofs.lemmas.List.Splits.{slice_split_at, slice_split_none, join_with_byte-slice_split}
-use Rattle.vbi_field.specs.WordRows.{WordRow, IsItem, IsWordRow, is_none_item, is_hex_item, is_word, item_of}
-use Rattle.vbi_field.specs.WordRows.{row_of_items, row_of_parts, parts_of, word_row_of, row_words, rows_of, AreRows}
-use Rattle.vbi_field.specs.Draws.{AreDrawable}
-use Rattle.vbi_words.specs.Words.{IsWordOrNone}
+use Rattle.vbi_field.proofs.Common.{◌≡◌, ℕ, zero, suc, ◌<◌, cond, [], ◌∷◌, ◌++◌, length, map, get_or, refl, sym, ap}
+use Rattle.vbi_field.proofs.Common.{subst, ◌∙◌, arith, append_assoc, ◌==◌, codes, slice_get, list_all, join_with_byte}
+use Rattle.vbi_field.proofs.Common.{is_digit, digits_value, ltb-true, nat_tests, slice_split_none}
+use Rattle.vbi_field.proofs.Common.{join_with_byte-slice_split, WordRow, row_of_items, row_of_parts, parts_of}
+use Rattle.vbi_field.proofs.Common.{row_words, rows_of, AreRows, AreDrawable, IsWordOrNone}
+use Rattle.std.proofs.Common.{Bool, true, false, List}
+use Rattle.std.specs.Prelude.{Option, Some, None, ◌&&◌, All}
+use Rattle.std.specs.Char.{digit_value}
+use Rattle.std.specs.Str.Parse.{AllDigits}
+use Rattle.std.proofs.lemmas.Bool.{and_parts, eqb-true, leb-true, lt-ltb, le-leb}
+use Rattle.std.proofs.lemmas.List.Splits.{slice_split_at}
+use Rattle.vbi_field.specs.WordRows.{IsItem, IsWordRow, is_none_item, is_hex_item, is_word, item_of, word_row_of}
 
 -- ---- items
 

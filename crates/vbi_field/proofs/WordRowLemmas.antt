@@ -1,19 +1,17 @@
 -- Parts and rows of the text of words.
-use Rattle.std.proofs.Common.{◌≡◌, ◌≢◌, ℕ, suc, ◌+◌, ◌-◌, ◌<◌, Bool, true, false, List, [], ◌∷◌, ◌++◌, length}
-use Rattle.std.proofs.Common.{take, drop, cond, refl, sym, ap, ◌∙◌, arith, inl, inr, map, append_assoc, get_or}
-use Rattle.std.specs.Prelude.{Option, Some, None, nat_lt, ◌==◌, ◌⊎◌}
-use Rattle.std.specs.List.{position, position_or_len, count_by, join_with_byte, onto_first}
-use Rattle.std.proofs.lemmas.Bool.{ltb-true, ltb-false}
-use Rattle.std.proofs.lemmas.List.{take_rest, take_at, take_all, length-append, map-append, get_or_append_left}
-use Rattle.std.proofs.lemmas.List.{get_or_push}
+use Rattle.vbi_field.proofs.Common.{◌≡◌, ℕ, suc, ◌+◌, ◌-◌, ◌<◌, [], ◌∷◌, ◌++◌, length, take, drop, cond, refl, sym, ap}
+use Rattle.vbi_field.proofs.Common.{◌∙◌, arith, inl, inr, map, append_assoc, get_or, ◌==◌, join_with_byte, ltb-true}
+use Rattle.vbi_field.proofs.Common.{take_at, take_all, length-append, slice_split_none, join_with_byte-slice_split}
+use Rattle.vbi_field.proofs.Common.{nat_tests, WordRow, parts_of, row_of_items, row_of_parts, rows_of, row_words}
+use Rattle.vbi_field.proofs.Common.{newline, AreRows, HasNoNewline, EndsRow}
+use Rattle.std.proofs.Common.{◌≢◌, Bool, true, false, List}
+use Rattle.std.specs.Prelude.{Option, Some, None, nat_lt, ◌⊎◌}
+use Rattle.std.specs.List.{position, position_or_len, count_by, onto_first}
+use Rattle.std.proofs.lemmas.Bool.{ltb-false}
+use Rattle.std.proofs.lemmas.List.{take_rest, map-append, get_or_append_left, get_or_push}
 use Rattle.std.proofs.lemmas.List.Sums.{position_or_len_is, fails_before_first}
-use Rattle.std.proofs.lemmas.List.Splits.{slice_split_first, slice_split_none, length-slice_split}
-use Rattle.std.proofs.lemmas.List.Splits.{join_with_byte-slice_split}
-use Rattle.std.proofs.lemmas.Bool.Decides.{nat_tests}
-use Rattle.vbi_field.specs.WordRows.{WordRow, parts_of, item_of, row_of_items, row_of_parts, word_row_of, rows_of}
-use Rattle.vbi_field.specs.WordRows.{row_words, newline, space, AreRows}
-use Rattle.vbi_field.specs.RowIntake.{HasNoNewline}
-use Rattle.vbi_field.specs.Draws.{EndsRow}
+use Rattle.std.proofs.lemmas.List.Splits.{slice_split_first, length-slice_split}
+use Rattle.vbi_field.specs.WordRows.{item_of, word_row_of, space}
 
 -- ---- the parts of a row
 

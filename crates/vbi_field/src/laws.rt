@@ -1,20 +1,18 @@
 //! Laws over the definitions: each function's contract is one, for every config, stream and text of words.
 
 ghost use Rattle.std.specs.Prelude.{◌≡◌, ◌↔◌, ℕ, ◌+◌, ◌*◌, ◌<◌, ◌≤◌, ◌⊎◌, List, length, take, Option, Some, slice_get};
-ghost use Rattle.std.specs.Prelude.{◌++◌, Bool, Result, codes};
+ghost use Rattle.std.specs.Prelude.{◌++◌, Bool, Result, codes, [], ◌∷◌};
 ghost use Rattle.std.specs.List.{concat};
 ghost use Rattle.std.specs.Io.KnownBytes.{Consumes, IsAtEnd};
 ghost use Rattle.vbi_words.specs.Geometry.{width_of, field_bytes};
 ghost use Rattle.vbi_words.specs.declared.system.System.TheVariants.{Ntsc, Pal};
 ghost use Rattle.vbi_field.specs.Texts.{FieldReads, IsWholeText, text_before_tail, whole_text, Kind, ReadingKind, by};
-ghost use Rattle.vbi_field.specs.Texts.{document, report, plain_document, plain_report};
-ghost use Rattle.vbi_field.specs.Texts.{RecoveredKind, recovering, IsRecoveredText, recovered_document};
-ghost use Rattle.vbi_field.specs.Shown.{IsNearRow, near_of, recovery_of};
+ghost use Rattle.vbi_field.specs.Texts.{document, report, plain_document, plain_report, RecoveredKind, recovering};
+ghost use Rattle.vbi_field.specs.Texts.{IsRecoveredText, recovered_document, worn_field, plain_config, black_field};
+ghost use Rattle.vbi_field.specs.Texts.{picture_field, time_field, second_pass_field, refused_field};
+ghost use Rattle.vbi_field.specs.Shown.{IsNearRow, near_of, recovery_of, as_readings};
 ghost use Rattle.vbi_field.specs.Recovered.{FieldRecovered, RowsRecover, recovered_without, recovered_record_of};
 ghost use Rattle.vbi_field.specs.Report.{recovered_entry_of};
-ghost use Rattle.vbi_field.specs.Shown.{as_readings};
-ghost use Rattle.vbi_field.specs.Texts.{worn_field};
-ghost use Rattle.std.specs.Prelude.{[], ◌∷◌};
 ghost use Rattle.vbi_words.specs.declared.outcome.Outcome.TheVariants.{Word, Blank, Change};
 ghost use Rattle.vbi_near.specs.Candidates.{Row};
 ghost use Rattle.vbi_near.specs.Recovery.{IsRecovered};
@@ -22,8 +20,6 @@ ghost use Rattle.vbi_near.specs.declared.near.Near.{Near};
 ghost use Rattle.vbi_near.specs.declared.recovery.Recovered.{Recovered};
 ghost use Rattle.vbi_words.specs.declared.system.System.{System};
 ghost use Rattle.vbi_words.specs.Levels.{Slicing};
-ghost use Rattle.vbi_field.specs.Texts.{plain_config, black_field, picture_field, time_field, second_pass_field};
-ghost use Rattle.vbi_field.specs.Texts.{refused_field};
 ghost use Rattle.vbi_field.specs.declared.outlet.Outlet.{Outlet};
 ghost use Rattle.vbi_field.specs.declared.summary.RunFault.{RunFault};
 ghost use Rattle.vbi_field.specs.declared.summary.Summary.{Summary};

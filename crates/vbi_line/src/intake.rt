@@ -50,8 +50,7 @@ pub struct Intake<'a, R> {
 }
 
 impl<'a, R: Read> Intake<'a, R> {
-    ghost use Rattle.vbi_line.specs.Counted.{tries, name_of, device_of, failures_of, NoError, HasCause};
-    ghost use Rattle.vbi_line.specs.Counted.{IsSameDevice};
+    ghost use Rattle.vbi_line.specs.Counted.{tries, name_of, device_of, failures_of, NoError, HasCause, IsSameDevice};
     ghost use Rattle.vbi_line.specs.Intake.{counted_of, fetched_of, held_of, line_of};
     ghost use Rattle.vbi_line.specs.Intake.{IsFresh, Fetches, IsFilled, KeepsReader};
 

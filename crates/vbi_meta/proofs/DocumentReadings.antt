@@ -1,30 +1,21 @@
 -- What is found in the documents of a stream is what its lines show.
-use Rattle.std.proofs.Common.{◌≡◌, ℕ, zero, suc, ◌+◌, ◌<◌, ◌==◌, cond, List, [], ◌∷◌, Bool}
-use Rattle.std.proofs.Common.{Option, Some, None, refl, sym, ap, ◌∙◌, subst, arith}
-use Rattle.std.proofs.Common.{ne_eqb}
-use Rattle.std.specs.Prelude.{codes, slice_get}
-use Rattle.serde_json.specs.Data.{Data, null}
-use Rattle.serde_json.specs.Find.{at}
-use Rattle.serde_json.specs.Read.{read}
-use Rattle.vbi_field.specs.CodeTexts.{Outcome, Word, Blank, Unfinished, Change, Hold, cause_text_of}
-use Rattle.vbi_field.specs.declared.readings.FieldReadings.{FieldReadings}
-use Rattle.vbi_field.specs.Stream.{Reading, fields_of, reading_at, readings_at, rows_at}
-use Rattle.vbi_field.specs.Stream.{row_levels, line_at}
-use Rattle.vbi_field.specs.ConfigView.{System, ConfigView}
+use Rattle.vbi_meta.proofs.Common.{◌≡◌, ℕ, zero, suc, ◌+◌, ◌<◌, ◌==◌, cond, List, [], ◌∷◌, Bool, refl, sym, ap, ◌∙◌}
+use Rattle.vbi_meta.proofs.Common.{subst, arith, codes, Data, at, read, Outcome, Word, Blank, Unfinished, Change, Hold}
+use Rattle.vbi_meta.proofs.Common.{cause_text_of, FieldReadings, Reading, fields_of, reading_at, readings_at, rows_at}
+use Rattle.vbi_meta.proofs.Common.{row_levels, line_at, System, ConfigView, is_reading, Recovered, IsRecovered}
+use Rattle.vbi_meta.proofs.Common.{none_erased, is_one, whole_text, document, recovered_document, value_of, Near}
+use Rattle.vbi_meta.proofs.Common.{FieldRecovered, cause_line, cause_lines, hundredths, word_or_zero, as_readings}
+use Rattle.vbi_meta.proofs.Common.{reading_as, joined_rows, IsOfRun, object_of, whole_of, document_value, near_value}
+use Rattle.vbi_meta.proofs.Common.{nears_value, recovered_value, IsReadAs, field_in, word_of, HasLine, nearest_of}
+use Rattle.std.proofs.Common.{Option, Some, None, ne_eqb}
+use Rattle.std.specs.Prelude.{slice_get}
+use Rattle.serde_json.specs.Data.{null}
 use Rattle.vbi_words.specs.Readings.{Reads}
-use Rattle.vbi_line.proofs.OneReading.{is_reading, only_reading}
-use Rattle.vbi_near.specs.declared.recovery.Recovered.{Recovered}
-use Rattle.vbi_near.specs.Recovery.{IsRecovered, none_erased}
-use Rattle.vbi_field.proofs.OneRecoveredDocument.{is_one, only_one}
-use Rattle.vbi_field.specs.Texts.{RowReads, FieldRecovers, whole_text, document, recovered_document}
-use Rattle.vbi_field.specs.Document.{value_of}
-use Rattle.vbi_field.specs.Recovered.{Near, FieldRecovered, cause_line, cause_lines, hundredths, word_or_zero}
+use Rattle.vbi_line.proofs.OneReading.{only_reading}
+use Rattle.vbi_field.proofs.OneRecoveredDocument.{only_one}
+use Rattle.vbi_field.specs.Texts.{RowReads, FieldRecovers}
 use Rattle.vbi_field.specs.Recovered.{recovered_of}
-use Rattle.vbi_field.specs.Shown.{as_readings, reading_as, joined_rows}
-use Rattle.vbi_meta.specs.DocumentValue.{IsOfRun, object_of, whole_of}
-use Rattle.vbi_meta.specs.DocumentValue.{document_value, near_value, nears_value, recovered_value}
-use Rattle.vbi_meta.specs.ReadBack.{IsReadAs, field_in, word_of, HasLine, HasReading}
-use Rattle.vbi_meta.specs.ReadBack.{ReadsWord, HasReadings, ReadsBack, nearest_of, count_in, HasNearest, LinePlace}
+use Rattle.vbi_meta.specs.ReadBack.{HasReading, ReadsWord, HasReadings, ReadsBack, count_in, HasNearest, LinePlace}
 use Rattle.vbi_meta.specs.ReadBack.{HasField, ShowsWord, HasRecovered, RecoversBack, RuleSays, HasSaid, FollowsRule}
 use Rattle.vbi_meta.specs.ReadBack.{FollowsLines}
 use Rattle.vbi_meta.proofs.DocumentReads.{document_is_read, recovered_is_read}

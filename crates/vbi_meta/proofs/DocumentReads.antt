@@ -1,31 +1,23 @@
 -- The documents of a stream are read as their values.
-use Rattle.std.proofs.Common.{◌≡◌, ℕ, ◌+◌, ◌*◌, ◌/◌, ◌%◌, ◌<◌, ◌≤◌, ◌^◌, List, [], ◌∷◌, ◌++◌, length, Bool, Some}
-use Rattle.std.proofs.Common.{false, refl, sym, ap, ◌∙◌, subst, arith, option_and_then, append-nil}
-use Rattle.std.proofs.lemmas.Str.{IsUtf8-append}
-use Rattle.std.specs.List.{join_by, range_with_len}
-use Rattle.std.specs.Prelude.{codes, IsUtf8}
-use Rattle.json.proofs.Printed.Tokens.{tokens-print_spaced}
-use Rattle.json.proofs.Printed.Trees.{ArePrintable-json_tokens, value-json_tokens}
-use Rattle.json.proofs.Printed.Utf8.{IsUtf8-are_ascii}
+use Rattle.vbi_meta.proofs.Common.{◌≡◌, ℕ, ◌+◌, ◌*◌, ◌%◌, ◌<◌, ◌≤◌, ◌^◌, List, [], ◌∷◌, ◌++◌, length, Bool, false, refl}
+use Rattle.vbi_meta.proofs.Common.{sym, ap, ◌∙◌, subst, arith, option_and_then, append-nil, IsUtf8-append, join_by}
+use Rattle.vbi_meta.proofs.Common.{range_with_len, codes, tokens-print_spaced, ArePrintable-json_tokens}
+use Rattle.vbi_meta.proofs.Common.{IsUtf8-are_ascii, tokens, ArePrintable, AreGaps, json_tokens, depth, Data, of_json}
+use Rattle.vbi_meta.proofs.Common.{max_depth, read, System, ConfigView, Ntsc, Pal, field_bytes, is_one}
+use Rattle.vbi_meta.proofs.Common.{recovered_without, recovered_record_of, document, recovered_document, whole_text}
+use Rattle.vbi_meta.proofs.Common.{fields_of, rest_of, rows_in, IsOfRun, document_with, document_value, recovered_value}
+use Rattle.vbi_meta.proofs.Common.{recovered_field_value, IsReadAs, Slicing}
+use Rattle.std.proofs.Common.{◌/◌, Some}
+use Rattle.std.specs.Prelude.{IsUtf8}
+use Rattle.json.proofs.Printed.Trees.{value-json_tokens}
 use Rattle.json.specs.Json as json
-use Rattle.json.specs.Lex.{tokens}
-use Rattle.json.specs.Print.{ArePrintable}
-use Rattle.json.specs.Spaced.{AreGaps, print_spaced}
-use Rattle.json.specs.Tree.{json_tokens, depth}
-use Rattle.serde_json.specs.Data.{Data}
-use Rattle.serde_json.specs.Read.{of_json, max_depth, read}
-use Rattle.vbi_field.specs.ConfigView.{System, ConfigView, most_fields, Ntsc, Pal, field_bytes}
-use Rattle.vbi_field.proofs.OneRecoveredDocument.{is_one}
+use Rattle.json.specs.Spaced.{print_spaced}
+use Rattle.vbi_field.specs.ConfigView.{most_fields}
 use Rattle.vbi_field.specs.Document.{tail_of}
-use Rattle.vbi_field.specs.Recovered.{recovered_without, recovered_record_of}
-use Rattle.vbi_field.specs.Texts.{document, recovered_document, text_before_tail, whole_text}
-use Rattle.vbi_field.specs.Stream.{fields_of, rest_of, rows_in}
-use Rattle.vbi_meta.specs.DocumentValue.{IsOfRun, document_with, document_value, recovered_value}
-use Rattle.vbi_meta.specs.DocumentValue.{recovered_field_value}
-use Rattle.vbi_meta.specs.ReadBack.{IsReadAs}
+use Rattle.vbi_field.specs.Texts.{text_before_tail}
 use Rattle.vbi_meta.proofs.DocumentTexts.{tokens_of, Records, head_with, plain_head, recovered_head, document_json}
-use Rattle.vbi_meta.proofs.DocumentTexts.{pieces, pieces_tokens, pieces_gaps, pieces_print}
-use Rattle.vbi_meta.proofs.DocumentTexts.{tokens_gapped_then, gaps_gapped_then}
+use Rattle.vbi_meta.proofs.DocumentTexts.{pieces, pieces_tokens, pieces_gaps, pieces_print, tokens_gapped_then}
+use Rattle.vbi_meta.proofs.DocumentTexts.{gaps_gapped_then}
 use Rattle.vbi_meta.proofs.FieldWrites.{AreShort, is_written}
 use Rattle.vbi_meta.proofs.LineFeeds.{tokens-line_feed}
 use Rattle.vbi_meta.proofs.NearTexts.{recovered_json}
@@ -35,7 +27,6 @@ use Rattle.vbi_meta.proofs.StreamRecords.{plain_records, plain_read, recovered_r
 use Rattle.vbi_meta.proofs.StreamRecords.{recovered_prints, recovered_depth}
 use Rattle.vbi_meta.proofs.ValueReads.{Reads, AreUtf8, AreRead, printed_utf8, stream_reads, stream_depth}
 use Rattle.vbi_meta.proofs.ValueReads.{recovered_reads}
-use Rattle.vbi_words.specs.Levels.{Slicing}
 
 -- ---- any text
 

@@ -1,16 +1,14 @@
 -- The text of a whole document, of either version, as tokens, each with a gap before it.
-use Rattle.std.proofs.Common.{arith}
-use Rattle.std.proofs.Common.{◌≡◌, ℕ, ◌+◌, ◌==◌, Bool, true, false, cond, List, [], ◌∷◌, ◌++◌, decimal, refl, sym, ap}
-use Rattle.std.proofs.Common.{◌∙◌, subst, append_assoc, append-nil, map, inr}
+use Rattle.vbi_meta.proofs.Common.{arith, ◌≡◌, ℕ, ◌+◌, ◌==◌, Bool, true, false, cond, List, [], ◌∷◌, ◌++◌, decimal}
+use Rattle.vbi_meta.proofs.Common.{refl, sym, ap, ◌∙◌, subst, append_assoc, append-nil, map, inr, join_by, codes}
+use Rattle.vbi_meta.proofs.Common.{escape, IsGap, AreGaps, Token, end_array, json_tokens, items_tokens, members_tokens}
+use Rattle.vbi_meta.proofs.Common.{System, ConfigView, Ntsc, Pal, width_of, height_of, name_of}
 use Rattle.std.specs.Fmt.{digits}
-use Rattle.std.specs.List.{join_by}
-use Rattle.std.specs.Prelude.{codes, flat_map}
+use Rattle.std.specs.Prelude.{flat_map}
 use Rattle.json.specs.Json as json
-use Rattle.json.specs.Print.{escape, escape_byte}
-use Rattle.json.specs.Spaced.{IsGap, AreGaps, print_spaced}
-use Rattle.json.specs.Token.{Token, begin_object, begin_array, end_array, key, number}
-use Rattle.json.specs.Tree.{json_tokens, items_tokens, members_tokens}
-use Rattle.vbi_field.specs.ConfigView.{System, ConfigView, Ntsc, Pal, width_of, height_of, name_of}
+use Rattle.json.specs.Print.{escape_byte}
+use Rattle.json.specs.Spaced.{print_spaced}
+use Rattle.json.specs.Token.{begin_object, begin_array, key, number}
 use Rattle.vbi_field.specs.Document.{head_of, parameters_of, tail_of}
 use Rattle.vbi_field.specs.Recovered.{recovered_head_of}
 use Rattle.vbi_meta.proofs.RecordTexts.{Pieces, plain, gapped, count_json, quoted_then}

@@ -1,21 +1,13 @@
 -- What is found in a text that is read as a document of either version. DocumentReadings stands on it.
-use Rattle.std.proofs.Common.{◌≡◌, ℕ, zero, suc, ◌+◌, ◌<◌, ◌≤◌, List, [], ◌∷◌}
-use Rattle.std.proofs.Common.{Option, Some, None, option_and_then, refl, sym, ap, ◌∙◌, inl, inr, ◌⊎◌, map, arith}
+use Rattle.vbi_meta.proofs.Common.{◌≡◌, ℕ, zero, suc, ◌+◌, ◌<◌, ◌≤◌, List, [], ◌∷◌, option_and_then, refl, sym, ap, ◌∙◌}
+use Rattle.vbi_meta.proofs.Common.{inl, inr, ◌⊎◌, map, arith, range_with_len, codes, Data, string, at, read, items_of}
+use Rattle.vbi_meta.proofs.Common.{cause_text_of, FieldReadings, Reading, fields_of, rest_of, ConfigView, value_of}
+use Rattle.vbi_meta.proofs.Common.{whole_of, lines_value, field_with, document_with, field_in, word_of, HasLine}
+use Rattle.vbi_meta.proofs.Common.{nearest_of}
+use Rattle.std.proofs.Common.{Option, Some, None}
 use Rattle.std.proofs.lemmas.Bool.{cases_lt}
-use Rattle.std.specs.List.{range_with_len}
-use Rattle.std.specs.Prelude.{codes}
-use Rattle.serde_json.specs.Data.{Data, string}
-use Rattle.serde_json.specs.Find.{at, get_item, as_str}
-use Rattle.serde_json.specs.Read.{read}
-use Rattle.serde_json.specs.View.{items_of}
-use Rattle.vbi_field.specs.CodeTexts.{cause_text_of}
-use Rattle.vbi_field.specs.declared.readings.FieldReadings.{FieldReadings}
-use Rattle.vbi_field.specs.Stream.{Reading, fields_of, rest_of}
-use Rattle.vbi_field.specs.ConfigView.{ConfigView}
-use Rattle.vbi_field.specs.Document.{value_of}
-use Rattle.vbi_meta.specs.DocumentValue.{whole_of, lines_value, field_with, document_with}
-use Rattle.vbi_meta.specs.ReadBack.{field_in, number_of, word_of, cause_of, pass_of, HasLine}
-use Rattle.vbi_meta.specs.ReadBack.{HasCut, HasFields, nearest_of}
+use Rattle.serde_json.specs.Find.{get_item, as_str}
+use Rattle.vbi_meta.specs.ReadBack.{number_of, cause_of, pass_of, HasCut, HasFields}
 use Rattle.vbi_meta.specs.Settings.{whole, member_of}
 
 -- ---- lists

@@ -1,22 +1,15 @@
 -- What a record of version 3 has of a field: its numbers are of 64 bits, and its causes need no escape.
-use Rattle.std.proofs.Common.{◌≡◌, ℕ, ◌<◌, ◌^◌, ◌==◌, Bool, true, false, List, length}
-use Rattle.std.proofs.Common.{refl, sym, subst}
-use Rattle.std.specs.Prelude.{if◌then◌else◌}
-use Rattle.vbi_words.specs.declared.system.System.{System}
-use Rattle.vbi_words.specs.declared.outcome.Reading.{Reading}
-use Rattle.vbi_words.specs.Geometry.{line_at}
-use Rattle.vbi_words.specs.Levels.{Slicing, row_levels}
+use Rattle.vbi_meta.proofs.Common.{◌≡◌, ℕ, ◌<◌, ◌^◌, ◌==◌, Bool, true, false, List, length, refl, sym, subst}
+use Rattle.vbi_meta.proofs.Common.{if◌then◌else◌, System, Reading, line_at, Slicing, row_levels, Recovered, Line}
+use Rattle.vbi_meta.proofs.Common.{Candidates, unit_of, Seen, IsRecovered, alone, said_by, FieldRecovered, cause_line}
+use Rattle.vbi_meta.proofs.Common.{as_readings, joined_rows}
 use Rattle.vbi_words.specs.Readings.{IsReading}
-use Rattle.vbi_near.specs.declared.recovery.Recovered.{Recovered}
-use Rattle.vbi_near.specs.Candidates.{Line, Candidates, row_of, marks_at}
-use Rattle.vbi_near.specs.Distances.{unit_of}
-use Rattle.vbi_near.specs.Recovery.{Seen, AreSeen, IsRecovered, alone, are_open, stands_by, stands_of, said_by, row_at}
-use Rattle.vbi_near.specs.Recovery.{recovered_of, field_line}
-use Rattle.vbi_field.specs.Recovered.{FieldRecovered, RowsRecover, cause_line}
-use Rattle.vbi_field.specs.Shown.{as_readings, joined_rows}
+use Rattle.vbi_near.specs.Candidates.{row_of, marks_at}
+use Rattle.vbi_near.specs.Recovery.{AreSeen, are_open, stands_by, stands_of, row_at, recovered_of, field_line}
+use Rattle.vbi_field.specs.Recovered.{RowsRecover}
 use Rattle.vbi_field.specs.Stream.{FieldRows}
-use Rattle.vbi_meta.proofs.RecoveredLines.{SayWords, AreWords, near_few, of_both, alone_words, by_words}
-use Rattle.vbi_meta.proofs.RecoveredLines.{either, line_shown}
+use Rattle.vbi_meta.proofs.RecoveredLines.{SayWords, AreWords, near_few, of_both, alone_words, by_words, either}
+use Rattle.vbi_meta.proofs.RecoveredLines.{line_shown}
 use Rattle.vbi_meta.proofs.ShownLines.{IsShown, AreShown, IsShort, short_row, short_levels, is_shown}
 use Rattle.vbi_meta.proofs.ValueReads.{IsWritten}
 

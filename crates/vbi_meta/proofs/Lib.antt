@@ -1,3 +1,4 @@
+mod Common
 pub mod DocumentReadings
 pub mod DocumentReads
 pub mod DocumentTexts

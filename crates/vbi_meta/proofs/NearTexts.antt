@@ -1,18 +1,13 @@
 -- What a record of version 3 has of nearest words, as tokens.
-use Rattle.std.proofs.Common.{◌≡◌, ℕ, Bool, true, false, cond, List, [], ◌∷◌, ◌++◌, ◌==◌, decimal, sym, refl, ap, ◌∙◌}
-use Rattle.std.proofs.Common.{append_assoc}
-use Rattle.std.specs.Prelude.{codes}
+use Rattle.vbi_meta.proofs.Common.{◌≡◌, ℕ, Bool, true, false, cond, List, [], ◌∷◌, ◌++◌, ◌==◌, decimal, sym, refl, ap}
+use Rattle.vbi_meta.proofs.Common.{◌∙◌, append_assoc, codes, Token, end_array, json_tokens, Slicing, Reading}
+use Rattle.vbi_meta.proofs.Common.{FieldReadings, Near, FieldRecovered, cause_lines, word_or_zero, hundredths}
+use Rattle.vbi_meta.proofs.Common.{as_readings}
 use Rattle.json.specs.Json as json
 use Rattle.json.specs.Print.{escape_byte}
 use Rattle.json.specs.Spaced.{print_spaced}
-use Rattle.json.specs.Token.{Token, end_array, end_object}
-use Rattle.json.specs.Tree.{json_tokens}
-use Rattle.vbi_words.specs.Levels.{Slicing}
-use Rattle.vbi_field.specs.Stream.{Reading}
-use Rattle.vbi_field.specs.declared.readings.FieldReadings.{FieldReadings}
-use Rattle.vbi_field.specs.Recovered.{Near, FieldRecovered, cause_lines, word_or_zero, hundredths, near_text_of}
-use Rattle.vbi_field.specs.Recovered.{nears_text_of}
-use Rattle.vbi_field.specs.Shown.{as_readings}
+use Rattle.json.specs.Token.{end_object}
+use Rattle.vbi_field.specs.Recovered.{near_text_of, nears_text_of}
 use Rattle.vbi_meta.proofs.RecordTexts.{Pieces, plain, count_json, record_json, seven, IsLast}
 
 -- ---- the trees

@@ -1,12 +1,8 @@
 -- Texts of plain bytes.
-use Rattle.std.proofs.Common.{◌≡◌, ℕ, ◌<◌, ◌^◌, ◌&&◌, ◌||◌, not, Bool, true, List, [], ◌∷◌}
-use Rattle.std.proofs.Common.{◌++◌, inl, decimal, arith, leb, eqb}
-use Rattle.std.proofs.lemmas.Bool.{and_parts}
-use Rattle.std.proofs.lemmas.Fmt.{decimal_is_IsNumeral}
-use Rattle.std.proofs.lemmas.Str.Parse.{digit_from_value}
-use Rattle.std.specs.List.{AllByRecursion}
-use Rattle.std.specs.Str.Parse.{AllDigits}
-use Rattle.vbi_meta.specs.ReadBack.{IsPlain}
+use Rattle.vbi_meta.proofs.Common.{◌≡◌, ℕ, ◌<◌, ◌^◌, ◌&&◌, ◌||◌, not, Bool, true, List, [], ◌∷◌, ◌++◌, inl, decimal}
+use Rattle.vbi_meta.proofs.Common.{arith, leb, and_parts, decimal_is_IsNumeral, digit_from_value, AllByRecursion}
+use Rattle.vbi_meta.proofs.Common.{AllDigits, IsPlain}
+use Rattle.std.proofs.Common.{eqb}
 
 -- each byte of the text is plain
 pub record Plain (text : List ℕ) : Type 0 where

@@ -1,25 +1,15 @@
 -- The document of a run is plain.
-use Rattle.std.proofs.Common.{◌≡◌, ℕ, ◌+◌, ◌<◌, ◌^◌, ◌%◌, Bool, false, List, [], ◌∷◌, ◌++◌, length, refl}
-use Rattle.std.proofs.Common.{inl, inr, ◌∙◌, sym, subst, arith, lit<}
-use Rattle.std.proofs.lemmas.List.Elements.{All-from_recursion}
-use Rattle.std.specs.List.{AllByRecursion, join_by, range_with_len}
-use Rattle.std.specs.Prelude.{codes}
-use Rattle.json.proofs.Printed.Tokens.{tokens-print_spaced}
-use Rattle.json.proofs.Printed.Trees.{ArePrintable-json_tokens}
-use Rattle.json.specs.Lex.{tokens}
-use Rattle.json.specs.Print.{ArePrintable}
+use Rattle.vbi_meta.proofs.Common.{◌≡◌, ℕ, ◌+◌, ◌<◌, ◌^◌, ◌%◌, Bool, false, List, [], ◌∷◌, ◌++◌, length, refl, inl, inr}
+use Rattle.vbi_meta.proofs.Common.{◌∙◌, sym, subst, arith, lit<, All-from_recursion, AllByRecursion, join_by}
+use Rattle.vbi_meta.proofs.Common.{range_with_len, codes, tokens-print_spaced, ArePrintable-json_tokens, tokens}
+use Rattle.vbi_meta.proofs.Common.{ArePrintable, Token, json_tokens, Outcome, Word, Blank, Unfinished, Change, Hold}
+use Rattle.vbi_meta.proofs.Common.{System, ConfigView, Ntsc, Pal, field_bytes, row_levels, line_at, fields_of, rest_of}
+use Rattle.vbi_meta.proofs.Common.{reading_at, readings_at, is_reading, document, whole_text, IsOfRun, field_value}
+use Rattle.vbi_meta.proofs.Common.{IsPlain, IsSmall, IsPlainText}
 use Rattle.json.specs.Spaced.{print_spaced}
-use Rattle.json.specs.Token.{Token}
-use Rattle.json.specs.Tree.{json_tokens}
-use Rattle.vbi_field.specs.CodeTexts.{Outcome, Word, Blank, Unfinished, Change, Hold}
-use Rattle.vbi_field.specs.ConfigView.{System, ConfigView, Ntsc, Pal, field_bytes}
-use Rattle.vbi_field.specs.Stream.{row_levels, line_at, fields_of, rest_of, reading_at, readings_at}
 use Rattle.vbi_words.specs.Readings.{Reads}
-use Rattle.vbi_line.proofs.OneReading.{is_reading}
-use Rattle.vbi_field.specs.Texts.{document, text_before_tail, whole_text}
+use Rattle.vbi_field.specs.Texts.{text_before_tail}
 use Rattle.vbi_field.specs.Document.{tail_of}
-use Rattle.vbi_meta.specs.DocumentValue.{IsOfRun, field_value}
-use Rattle.vbi_meta.specs.ReadBack.{IsPlain, IsSmall, IsPlainText}
 use Rattle.vbi_meta.proofs.DocumentReads.{few_fields}
 use Rattle.vbi_meta.proofs.DocumentTexts.{tokens_of, head_with, plain_head, document_json, pieces, pieces_tokens}
 use Rattle.vbi_meta.proofs.DocumentTexts.{pieces_gaps, pieces_print}

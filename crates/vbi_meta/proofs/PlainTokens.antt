@@ -1,19 +1,12 @@
 -- Trees of JSON whose tokens are printed in plain bytes and have small numbers, and those of a document.
-use Rattle.std.proofs.Common.{◌≡◌, ℕ, suc, zero, ◌+◌, ◌<◌, ◌^◌, ◌==◌, ◌&&◌, Bool, true, false, cond, List, [], ◌∷◌}
-use Rattle.std.proofs.Common.{◌++◌, ◌⊎◌, inl, inr, refl, arith, lit<}
-use Rattle.std.specs.List.{AllByRecursion, range_with_len}
-use Rattle.std.specs.Prelude.{codes}
+use Rattle.vbi_meta.proofs.Common.{◌≡◌, ℕ, suc, zero, ◌+◌, ◌<◌, ◌^◌, ◌==◌, ◌&&◌, Bool, true, false, cond, List, [], ◌∷◌}
+use Rattle.vbi_meta.proofs.Common.{◌++◌, ◌⊎◌, inl, inr, refl, arith, lit<, AllByRecursion, range_with_len, codes}
+use Rattle.vbi_meta.proofs.Common.{escape, quoted, token_text, ends, IsGap, AreGaps, Token, json_tokens, items_tokens}
+use Rattle.vbi_meta.proofs.Common.{members_tokens, Reading, FieldReadings, System, ConfigView, Ntsc, Pal, width_of}
+use Rattle.vbi_meta.proofs.Common.{height_of, name_of, cause_text_of, value_of, IsPlain, IsSmall}
 use Rattle.json.specs.Json as json
-use Rattle.json.specs.Print.{escape, escape_byte, quoted, token_text, begins, ends}
-use Rattle.json.specs.Spaced.{IsGap, AreGaps, print_spaced}
-use Rattle.json.specs.Token.{Token}
-use Rattle.json.specs.Tree.{json_tokens, items_tokens, members_tokens}
-use Rattle.vbi_field.specs.Stream.{Reading}
-use Rattle.vbi_field.specs.declared.readings.FieldReadings.{FieldReadings}
-use Rattle.vbi_field.specs.ConfigView.{System, ConfigView, Ntsc, Pal, width_of, height_of, name_of}
-use Rattle.vbi_field.specs.CodeTexts.{cause_text_of}
-use Rattle.vbi_field.specs.Document.{value_of}
-use Rattle.vbi_meta.specs.ReadBack.{IsPlain, IsSmall}
+use Rattle.json.specs.Print.{escape_byte, begins}
+use Rattle.json.specs.Spaced.{print_spaced}
 use Rattle.vbi_meta.proofs.DocumentTexts.{tokens_of, Records, parameters_json, cut_json, entries_json, document_json}
 use Rattle.vbi_meta.proofs.PlainBytes.{Plain, then, known, are_plain, count}
 use Rattle.vbi_meta.proofs.RecordTexts.{Pieces, count_json, lines_json, words_json, record_json}

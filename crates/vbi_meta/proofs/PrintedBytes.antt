@@ -1,11 +1,7 @@
 -- Texts on one line: each of their bytes is printed ASCII.
-use Rattle.std.proofs.Common.{◌≡◌, ℕ, ◌<◌, ◌^◌, ◌&&◌, Bool, true, List, [], ◌∷◌, ◌++◌, decimal, arith, leb}
-use Rattle.std.proofs.lemmas.Bool.{and_parts}
-use Rattle.std.proofs.lemmas.Fmt.{decimal_is_IsNumeral}
-use Rattle.std.proofs.lemmas.Str.Parse.{digit_from_value}
-use Rattle.std.specs.List.{AllByRecursion}
-use Rattle.std.specs.Str.Parse.{AllDigits}
-use Rattle.vbi_meta.specs.ReadBack.{IsPrinted}
+use Rattle.vbi_meta.proofs.Common.{◌≡◌, ℕ, ◌<◌, ◌^◌, ◌&&◌, Bool, true, List, [], ◌∷◌, ◌++◌, decimal, arith, leb}
+use Rattle.vbi_meta.proofs.Common.{and_parts, decimal_is_IsNumeral, digit_from_value, AllByRecursion, AllDigits}
+use Rattle.vbi_meta.proofs.Common.{IsPrinted}
 
 pub record Printed (text : List ℕ) : Type 0 where
   pub all : AllByRecursion IsPrinted text

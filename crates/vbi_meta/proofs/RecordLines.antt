@@ -1,17 +1,11 @@
 -- A record of version 3 is on one line.
-use Rattle.std.proofs.Common.{ℕ, ◌<◌, ◌^◌, ◌==◌, Bool, List, ◌++◌, decimal, refl, arith}
-use Rattle.std.proofs.lemmas.List.Elements.{All-from_recursion}
-use Rattle.std.specs.Prelude.{All, codes}
-use Rattle.vbi_words.specs.declared.system.System.{System}
-use Rattle.vbi_words.specs.Levels.{Slicing}
-use Rattle.vbi_field.proofs.OneRecoveredDocument.{is_one}
+use Rattle.vbi_meta.proofs.Common.{ℕ, ◌<◌, ◌^◌, ◌==◌, Bool, List, ◌++◌, decimal, refl, arith, All-from_recursion, codes}
+use Rattle.vbi_meta.proofs.Common.{System, Slicing, is_one, Near, FieldRecovered, cause_lines, word_or_zero, hundredths}
+use Rattle.vbi_meta.proofs.Common.{recovered_record_of, recovered_without, as_readings, Reading, rows_in, FieldReadings}
+use Rattle.vbi_meta.proofs.Common.{IsPrinted}
+use Rattle.std.specs.Prelude.{All}
 use Rattle.vbi_field.specs.Document.{lines_of}
-use Rattle.vbi_field.specs.Recovered.{Near, FieldRecovered, cause_lines, word_or_zero, hundredths, near_text_of}
-use Rattle.vbi_field.specs.Recovered.{nears_text_of, record_with, recovered_record_of, recovered_without}
-use Rattle.vbi_field.specs.Shown.{as_readings}
-use Rattle.vbi_field.specs.Stream.{Reading, rows_in}
-use Rattle.vbi_field.specs.declared.readings.FieldReadings.{FieldReadings}
-use Rattle.vbi_meta.specs.ReadBack.{IsPrinted}
+use Rattle.vbi_field.specs.Recovered.{near_text_of, nears_text_of, record_with}
 use Rattle.vbi_meta.proofs.FieldWrites.{AreShort, is_written}
 use Rattle.vbi_meta.proofs.PrintedBytes.{Printed, then, known, count}
 use Rattle.vbi_meta.proofs.RecordTexts.{LineList, list_of, word_list, cause_list, pass_list}

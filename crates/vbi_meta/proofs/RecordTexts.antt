@@ -1,18 +1,12 @@
 -- The record of a field as tokens, each with a gap before it: of either version, by its lines, the lines whose causes
 -- it has, and the members that come after those.
-use Rattle.std.proofs.Common.{arith}
-use Rattle.std.proofs.Common.{◌≡◌, ℕ, Bool, true, false, cond, List, [], ◌∷◌, ◌++◌, decimal, refl, sym, ap, ◌∙◌}
-use Rattle.std.proofs.Common.{append_assoc, append-nil}
-use Rattle.std.specs.Prelude.{codes}
+use Rattle.vbi_meta.proofs.Common.{arith, ◌≡◌, ℕ, Bool, true, false, cond, List, [], ◌∷◌, ◌++◌, decimal, refl, sym, ap}
+use Rattle.vbi_meta.proofs.Common.{◌∙◌, append_assoc, append-nil, codes, escape, quoted, Token, json_tokens}
+use Rattle.vbi_meta.proofs.Common.{members_tokens, Reading, FieldReadings, cause_text_of, value_of}
 use Rattle.json.specs.Json as json
-use Rattle.json.specs.Print.{escape, escape_byte, quoted}
+use Rattle.json.specs.Print.{escape_byte}
 use Rattle.json.specs.Spaced.{print_spaced}
-use Rattle.json.specs.Token.{Token}
-use Rattle.json.specs.Tree.{json_tokens, members_tokens}
-use Rattle.vbi_field.specs.Stream.{Reading}
-use Rattle.vbi_field.specs.declared.readings.FieldReadings.{FieldReadings}
-use Rattle.vbi_field.specs.CodeTexts.{cause_text_of}
-use Rattle.vbi_field.specs.Document.{value_of, record_of, lines_of}
+use Rattle.vbi_field.specs.Document.{record_of, lines_of}
 use Rattle.vbi_field.specs.Recovered.{record_with}
 use Rattle.vbi_meta.proofs.ShownLines.{AreShown}
 

@@ -1,39 +1,32 @@
 -- What a document has of lines with recovered words: numbers of 64 bits. For what is said is a word, and no sample is
 -- off by more than white is from black. FieldWrites stands on it.
-use Rattle.std.proofs.Common.{◌≡◌, ℕ, ◌-◌, ◌*◌, ◌<◌, ◌≤◌, ◌^◌, ◌&&◌, Bool, true, false}
-use Rattle.std.proofs.Common.{List, [], ◌∷◌, length, refl, sym, ap, subst, arith, lit<}
+use Rattle.vbi_meta.proofs.Common.{◌≡◌, ℕ, ◌*◌, ◌<◌, ◌≤◌, ◌^◌, ◌&&◌, Bool, true, false, List, [], ◌∷◌, length, refl}
+use Rattle.vbi_meta.proofs.Common.{sym, ap, subst, arith, lit<, if◌then◌else◌, System, Outcome, Word, Blank, Unfinished}
+use Rattle.vbi_meta.proofs.Common.{Change, Hold, Slicing, samples_of, row_levels, IsWord, Near, Recovered, Line}
+use Rattle.vbi_meta.proofs.Common.{Candidates, unit_of, Seen, alone, said_by, word_or_zero, hundredths, reading_as}
+use Rattle.std.proofs.Common.{◌-◌}
 use Rattle.std.proofs.Math.Nat.{div-le_self}
-use Rattle.std.specs.Prelude.{Option, Some, None, is_some, if◌then◌else◌}
-use Rattle.vbi_words.specs.declared.system.System.{System}
-use Rattle.vbi_words.specs.declared.outcome.Outcome.{Outcome}
-use Rattle.vbi_words.specs.declared.outcome.Outcome.TheVariants.{Word, Blank, Unfinished, Change, Hold}
-use Rattle.vbi_words.specs.Levels.{Slicing, samples_of, row_levels}
-use Rattle.vbi_words.specs.Words.{IsWord}
+use Rattle.std.specs.Prelude.{Option, Some, None, is_some}
 use Rattle.vbi_line.proofs.OneReading.{is_outcome}
 use Rattle.vbi_near.specs.declared.near.Nears.{Nears}
 use Rattle.vbi_near.specs.declared.margins.Margins.{Margins}
 use Rattle.vbi_near.specs.declared.margins.MarginSet.{MarginSet}
-use Rattle.vbi_near.specs.declared.near.Near.{Near}
-use Rattle.vbi_near.specs.declared.recovery.Recovered.{Recovered}
 use Rattle.vbi_near.specs.declared.word_rule.Stand.{Stand}
 use Rattle.vbi_near.specs.declared.word_rule.Stand.TheVariants.{Alone, Apart, Together}
-use Rattle.vbi_near.specs.Candidates.{Row, Line, Lines, Candidates, HasNear, HasNearIf, AreOf, AreOfBoth}
-use Rattle.vbi_near.specs.Candidates.{given_samples, given_line, given_pair}
-use Rattle.vbi_near.specs.Distances.{Samples, most_of, off_by, row_distance, distance_of, known_but, unit_of}
+use Rattle.vbi_near.specs.Candidates.{Row, Lines, HasNear, HasNearIf, AreOf, AreOfBoth, given_samples, given_line}
+use Rattle.vbi_near.specs.Candidates.{given_pair}
+use Rattle.vbi_near.specs.Distances.{Samples, most_of, off_by, row_distance, distance_of, known_but}
 use Rattle.vbi_near.specs.LevelledLines.{levelled_unit}
 use Rattle.vbi_near.specs.LineCodes.{codes_of, is_beyond_79999}
 use Rattle.vbi_near.specs.Margins.{levelled_margins, given_margins}
 use Rattle.vbi_near.specs.Pictures.{IsPlace}
-use Rattle.vbi_near.specs.Recovery.{Seen, Stands, IsSeen, alone, own_of, is_open, is_confirmed, stays, recovered_as}
-use Rattle.vbi_near.specs.Recovery.{said_by, shown_in}
+use Rattle.vbi_near.specs.Recovery.{Stands, IsSeen, own_of, is_open, is_confirmed, stays, recovered_as, shown_in}
 use Rattle.vbi_near.specs.WordRule.{is_clear, is_close, word_in, code_in, said_of, unless_beyond, recovered_by}
-use Rattle.vbi_near.specs.WordRule.{first_said}
-use Rattle.vbi_near.specs.WordRule.{said_in}
+use Rattle.vbi_near.specs.WordRule.{first_said, said_in}
 use Rattle.vbi_near.proofs.Chosen.{code-place}
 use Rattle.vbi_near.proofs.Most.{most_of-fits}
 use Rattle.vbi_near.proofs.OneSeen.{open_asked}
-use Rattle.vbi_field.specs.Recovered.{word_or_zero, hundredths}
-use Rattle.vbi_field.specs.Shown.{IsNearRow, reading_as}
+use Rattle.vbi_field.specs.Shown.{IsNearRow}
 use Rattle.vbi_meta.proofs.ShownLines.{IsShown, IsShort, samples_below, word_shown, outcome_shown, reading_shown}
 use Rattle.vbi_meta.proofs.ValueReads.{IsFew}
 

@@ -1,26 +1,20 @@
 -- What a line's reading gives to a document: numbers of 64 bits, and a cause in UTF-8 with nothing to escape.
-use Rattle.std.proofs.Common.{◌≡◌, ℕ, ◌<◌, ◌≤◌, ◌^◌, Bool, List, [], ◌∷◌, ◌++◌, length, decimal, IsUtf8}
-use Rattle.std.proofs.Common.{◌∙◌, refl, ap, ap₂, inl, inr, arith, lit<, true}
+use Rattle.vbi_meta.proofs.Common.{◌≡◌, ℕ, ◌<◌, ◌≤◌, ◌^◌, Bool, List, [], ◌∷◌, ◌++◌, length, decimal, ◌∙◌, refl, ap}
+use Rattle.vbi_meta.proofs.Common.{ap₂, inl, inr, arith, lit<, true, decimal_is_IsNumeral, IsUtf8-append}
+use Rattle.vbi_meta.proofs.Common.{digit_from_value, codes, AllDigits, are_ascii, IsUtf8-are_ascii, escape, Outcome}
+use Rattle.vbi_meta.proofs.Common.{Word, Blank, Unfinished, Change, Hold, cause_text_of, Reading, reading_at}
+use Rattle.vbi_meta.proofs.Common.{readings_at, row_levels, line_at, FieldReadings, System, ConfigView, Ntsc, Pal}
+use Rattle.vbi_meta.proofs.Common.{Slicing, samples_of, IsWord, is_reading, value_of}
+use Rattle.std.proofs.Common.{IsUtf8}
 use Rattle.std.proofs.lemmas.List.{length-take, length-map}
-use Rattle.std.proofs.lemmas.Fmt.{decimal_is_IsNumeral, IsAscii-decimal}
-use Rattle.std.proofs.lemmas.Str.{IsUtf8-append, IsUtf8-from_ascii}
-use Rattle.std.proofs.lemmas.Str.Parse.{digit_from_value}
-use Rattle.std.specs.Prelude.{codes}
-use Rattle.std.specs.Str.Parse.{AllDigits}
+use Rattle.std.proofs.lemmas.Fmt.{IsAscii-decimal}
+use Rattle.std.proofs.lemmas.Str.{IsUtf8-from_ascii}
 use Rattle.json.proofs.Printed.Strings.{escape_byte_plain}
-use Rattle.json.proofs.Printed.Utf8.{are_ascii, IsUtf8-are_ascii}
-use Rattle.json.specs.Print.{escape, escape_byte}
-use Rattle.vbi_field.specs.CodeTexts.{Outcome, Word, Blank, Unfinished, Change, Hold, cause_text_of}
-use Rattle.vbi_field.specs.Stream.{Reading, reading_at, readings_at, row_levels, line_at}
-use Rattle.vbi_field.specs.declared.readings.FieldReadings.{FieldReadings}
-use Rattle.vbi_field.specs.ConfigView.{System, ConfigView, Ntsc, Pal, line_bytes}
-use Rattle.vbi_words.specs.Levels.{Slicing, samples_of}
+use Rattle.json.specs.Print.{escape_byte}
+use Rattle.vbi_field.specs.ConfigView.{line_bytes}
 use Rattle.vbi_words.specs.Outcomes.{FirstHopeless, IsOutcome}
 use Rattle.vbi_words.specs.Readings.{Reads}
-use Rattle.vbi_words.specs.Words.{IsWord}
 use Rattle.vbi_line.specs.OneReading.{reading_of}
-use Rattle.vbi_line.proofs.OneReading.{is_reading}
-use Rattle.vbi_field.specs.Document.{value_of}
 use Rattle.vbi_meta.proofs.PrintedBytes.{Printed, then, known, count}
 
 -- a reading that a line of a stream can have

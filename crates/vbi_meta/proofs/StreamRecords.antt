@@ -1,19 +1,13 @@
 -- The records of a stream's documents: their texts, their trees, and the values that these are read as.
-use Rattle.std.proofs.Common.{◌≡◌, ℕ, ◌+◌, ◌≤◌, ◌==◌, Bool, true, false, cond, List, [], ◌∷◌, ◌++◌, ap, ◌∙◌}
-use Rattle.std.proofs.Common.{lit<, lit≤, arith}
+use Rattle.vbi_meta.proofs.Common.{◌≡◌, ℕ, ◌+◌, ◌≤◌, ◌==◌, Bool, true, false, cond, List, [], ◌∷◌, ◌++◌, ap, ◌∙◌, lit<}
+use Rattle.vbi_meta.proofs.Common.{lit≤, arith, json_tokens, depth, Slicing, none_erased, is_one, ConfigView, Near}
+use Rattle.vbi_meta.proofs.Common.{FieldRecovered, cause_lines, hundredths, word_or_zero, recovered_record_of}
+use Rattle.vbi_meta.proofs.Common.{as_readings, Reading, readings_at, rows_at, field_value, recovered_field_value}
 use Rattle.json.specs.Json as json
 use Rattle.json.specs.Spaced.{print_spaced}
-use Rattle.json.specs.Tree.{json_tokens, depth}
-use Rattle.vbi_words.specs.Levels.{Slicing}
-use Rattle.vbi_near.specs.Recovery.{none_erased}
-use Rattle.vbi_field.proofs.OneRecoveredDocument.{is_one}
-use Rattle.vbi_field.specs.ConfigView.{ConfigView}
 use Rattle.vbi_field.specs.Document.{record_of}
-use Rattle.vbi_field.specs.Recovered.{Near, FieldRecovered, cause_lines, hundredths, word_or_zero, nears_text_of}
-use Rattle.vbi_field.specs.Recovered.{recovered_of, recovered_record_of}
-use Rattle.vbi_field.specs.Shown.{as_readings}
-use Rattle.vbi_field.specs.Stream.{Reading, readings_at, rows_at}
-use Rattle.vbi_meta.specs.DocumentValue.{IsConfig, field_value, recovered_field_value}
+use Rattle.vbi_field.specs.Recovered.{nears_text_of, recovered_of}
+use Rattle.vbi_meta.specs.DocumentValue.{IsConfig}
 use Rattle.vbi_meta.proofs.DocumentTexts.{Records}
 use Rattle.vbi_meta.proofs.FieldWrites.{AreShort, is_written}
 use Rattle.vbi_meta.proofs.NearTexts.{near_json_by, near_json, near_members, recovered_json, nears_last}

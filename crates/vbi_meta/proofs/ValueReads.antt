@@ -1,37 +1,28 @@
 -- Trees of JSON and the values that they are read as, built together, and those of a document of either version.
-use Rattle.std.proofs.Common.{◌≡◌, ◌≢◌, ℕ, suc, zero, ◌+◌, ◌<◌, ◌≤◌, ◌^◌, ◌==◌, ◌&&◌, not, Bool, true, false, cond}
-use Rattle.std.proofs.Common.{bytes_eq, get_or, length, List, [], ◌∷◌, ◌++◌, Some, option_map, option_and_then}
-use Rattle.std.proofs.Common.{IsUtf8, map, refl, sym, ap, ap₂, ◌∙◌, arith, lit<, lit≤}
-use Rattle.std.proofs.lemmas.Bool.{true≢false, not-true, and_parts}
+use Rattle.vbi_meta.proofs.Common.{◌≡◌, ℕ, suc, zero, ◌+◌, ◌<◌, ◌≤◌, ◌^◌, ◌==◌, ◌&&◌, not, Bool, true, false, cond}
+use Rattle.vbi_meta.proofs.Common.{length, List, [], ◌∷◌, ◌++◌, option_map, option_and_then, map, refl, sym, ap, ap₂}
+use Rattle.vbi_meta.proofs.Common.{◌∙◌, arith, lit<, lit≤, not-true, and_parts, IsUtf8-append, range_with_len, codes}
+use Rattle.vbi_meta.proofs.Common.{are_ascii, IsUtf8-are_ascii, token_text, ends, AreGaps, Token, json_tokens}
+use Rattle.vbi_meta.proofs.Common.{items_tokens, members_tokens, depth, Data, string, max_depth, of_json, items_of}
+use Rattle.vbi_meta.proofs.Common.{System, ConfigView, Ntsc, Pal, width_of, height_of, name_of, Reading, FieldReadings}
+use Rattle.vbi_meta.proofs.Common.{cause_text_of, value_of, Near, FieldRecovered, word_or_zero, hundredths, cause_lines}
+use Rattle.vbi_meta.proofs.Common.{as_readings, Slicing, object_of, whole_of, lines_value, field_with, field_value}
+use Rattle.vbi_meta.proofs.Common.{near_value, nears_value, recovered_field_value, document_with}
+use Rattle.std.proofs.Common.{◌≢◌, bytes_eq, get_or, Some, IsUtf8}
+use Rattle.std.proofs.lemmas.Bool.{true≢false}
 use Rattle.std.proofs.lemmas.Slice.Eq.{bytes_eq-Decides}
-use Rattle.std.proofs.lemmas.Str.{IsUtf8-append, IsUtf8-nil}
-use Rattle.std.specs.List.{range_with_len}
-use Rattle.std.specs.Prelude.{codes, fold, ⊤}
+use Rattle.std.proofs.lemmas.Str.{IsUtf8-nil}
+use Rattle.std.specs.Prelude.{fold, ⊤}
 use Rattle.json.proofs.Printed.Decimals.{IsNumber-decimal}
-use Rattle.json.proofs.Printed.Utf8.{are_ascii, IsUtf8-are_ascii, IsUtf8-quoted, IsUtf8-key, IsUtf8-separator}
-use Rattle.json.proofs.Printed.Utf8.{IsUtf8-IsGap}
+use Rattle.json.proofs.Printed.Utf8.{IsUtf8-quoted, IsUtf8-key, IsUtf8-separator, IsUtf8-IsGap}
 use Rattle.json.specs.Json as json
-use Rattle.json.specs.Print.{token_text, ends}
-use Rattle.json.specs.Spaced.{AreGaps, print_spaced}
+use Rattle.json.specs.Spaced.{print_spaced}
 use Rattle.json.specs.Strict.{keys, AreDistinct, HasUniqueKeys, ItemsHaveUniqueKeys, MembersHaveUniqueKeys}
-use Rattle.json.specs.Token.{Token}
-use Rattle.json.specs.Tree.{json_tokens, items_tokens, members_tokens, depth, items_depth, HasNumbers, ItemsHaveNumbers}
-use Rattle.json.specs.Tree.{MembersHaveNumbers}
+use Rattle.json.specs.Tree.{items_depth, HasNumbers, ItemsHaveNumbers, MembersHaveNumbers}
 use Rattle.serde_json.proofs.Numbers.{number_of-decimal}
-use Rattle.serde_json.specs.Data.{Data, null, number, string, array, object, item, Members, put}
-use Rattle.serde_json.specs.Read.{max_depth, of_json, of_items, of_members}
-use Rattle.serde_json.specs.View.{items_of}
-use Rattle.vbi_field.specs.ConfigView.{System, ConfigView, Ntsc, Pal, width_of, height_of, name_of}
-use Rattle.vbi_field.specs.Stream.{Reading}
-use Rattle.vbi_field.specs.declared.readings.FieldReadings.{FieldReadings}
-use Rattle.vbi_field.specs.CodeTexts.{cause_text_of}
-use Rattle.vbi_field.specs.Document.{value_of}
-use Rattle.vbi_field.specs.Recovered.{Near, FieldRecovered, word_or_zero, hundredths, cause_lines}
-use Rattle.vbi_field.specs.Shown.{as_readings}
-use Rattle.vbi_words.specs.Levels.{Slicing}
-use Rattle.vbi_meta.specs.DocumentValue.{object_of, array_of, whole_of, lines_value, field_with, field_value}
-use Rattle.vbi_meta.specs.DocumentValue.{near_value, nears_value, recovered_field_value, parameters_value}
-use Rattle.vbi_meta.specs.DocumentValue.{document_with}
+use Rattle.serde_json.specs.Data.{null, number, array, object, item, Members, put}
+use Rattle.serde_json.specs.Read.{of_items, of_members}
+use Rattle.vbi_meta.specs.DocumentValue.{array_of, parameters_value}
 use Rattle.vbi_meta.proofs.DocumentTexts.{tokens_of, Records, parameters_json, cut_json, entries_json, document_json}
 use Rattle.vbi_meta.proofs.NearTexts.{near_json_by, near_json, nears_json, recovered_json}
 use Rattle.vbi_meta.proofs.RecordTexts.{Pieces, count_json, lines_json, words_json, record_json}

@@ -6,8 +6,7 @@ use Rattle.vbi_plan.specs.declared.plan.Spacing.{Spacing}
 use Rattle.vbi_plan.specs.declared.plan.Spacing.TheVariants.{Video, Both, Film, Rising}
 use Rattle.vbi_plan.specs.declared.plan.Stretch.{Stretch}
 use Rattle.vbi_plan.specs.Plans.{AreOf, CountsOn, GoesOn, IsBefore, IsGood, IsInPlace, IsReached, Plan, Shows}
-use Rattle.vbi_plan.specs.Plans.{StandsFor}
-use Rattle.vbi_plan.specs.Plans.{fields_in, is_both, out_at, place_of, rank_at, rank_of}
+use Rattle.vbi_plan.specs.Plans.{StandsFor, fields_in, is_both, out_at, place_of, rank_at, rank_of}
 
 -- what a place has is one thing
 pub some_is : {A : Type 0} (a b : A) → Some a ≡ Some b → a ≡ b

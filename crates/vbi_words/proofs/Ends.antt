@@ -1,6 +1,5 @@
 -- Each state but `dead` can still become a word, and what a state shows where nothing more comes.
-use Rattle.std.proofs.Common.{rules}
-use Rattle.std.proofs.Common.{◌≡◌, ℕ, ◌≤◌, ◌<◌, ◌+◌, ◌-◌, Bool, true, false, leb, eqb, ◌&&◌, List, [], ◌∷◌, ◌++◌}
+use Rattle.std.proofs.Common.{rules, ◌≡◌, ℕ, ◌≤◌, ◌<◌, ◌+◌, ◌-◌, Bool, true, false, leb, eqb, ◌&&◌, List, [], ◌∷◌, ◌++◌}
 use Rattle.std.proofs.Common.{◌↔◌, Some, None, inl, inr, refl, ap, sym, ◌∙◌, subst, arith, add_comm, length-append}
 use Rattle.std.proofs.Math.ListN.{replicate, length, length-replicate}
 use Rattle.std.proofs.lemmas.List.{append-nil, replicate-append-replicate}

@@ -1,7 +1,4 @@
-use Rattle.std.proofs.Common.{ap, sym, ◌∙◌, ◌-◌, length}
-use Rattle.vbi_words.specs.Geometry.{line_bytes}
-use Rattle.vbi_field.specs.Draws.{word_at}
-use Rattle.vbi_words.proofs.DrawnLines.{length-drawn_line_of}
+use Rattle.vbi_field.proofs.Common.{ap, sym, ◌∙◌, ◌-◌, length, line_bytes, word_at, length-drawn_line_of}
 use Rattle.vbi_field.proofs.drawing.next_line.Goals as goal
 
 pub draw_line-requires : goal.draw_line-requires

@@ -1,8 +1,5 @@
-use Rattle.std.proofs.Common.{ap, ◌∙◌, arith, length}
-use Rattle.vbi_words.specs.Geometry.{height_of}
-use Rattle.vbi_field.specs.Draws.{word_at}
+use Rattle.vbi_field.proofs.Common.{ap, ◌∙◌, arith, length, height_of, word_at, length-drawn_line_of}
 use Rattle.vbi_field.proofs.Counts.{sizes_of}
-use Rattle.vbi_words.proofs.DrawnLines.{length-drawn_line_of}
 use Rattle.vbi_field.proofs.PutFieldSteps.{Putting-none, Putting-more, put_whole, put_part}
 use Rattle.vbi_field.proofs.drawing.put_field.Goals as goal
 

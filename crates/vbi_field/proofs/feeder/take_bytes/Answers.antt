@@ -1,5 +1,4 @@
-use Rattle.std.proofs.Common.{◌+◌, cond, refl, ap, ◌∙◌, arith, rules}
-use Rattle.vbi_words.specs.Geometry.{width_of}
+use Rattle.vbi_field.proofs.Common.{◌+◌, cond, refl, ap, ◌∙◌, arith, rules, width_of}
 use Rattle.vbi_field.proofs.FeedSteps.{too_many, not_full, stand_next, fed_inside, fed_row, fed_in_part}
 use Rattle.vbi_field.proofs.feeder.take_bytes.Goals as goal
 

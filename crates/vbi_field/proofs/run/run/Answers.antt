@@ -1,8 +1,6 @@
-use Rattle.std.specs.Prelude.{IsTrue}
-use Rattle.vbi_field.specs.Progress.{HoldsRows}
-use Rattle.std.proofs.Common.{◌≡◌, ◌++◌, ◌<◌, ◌≤◌, ◌+◌, ◌*◌, refl, ◌∙◌, arith, rules}
+use Rattle.vbi_field.proofs.Common.{IsTrue, HoldsRows, ◌≡◌, ◌++◌, ◌<◌, ◌≤◌, ◌+◌, ◌*◌, refl, ◌∙◌, arith, rules}
+use Rattle.vbi_field.proofs.Common.{height_of, line_bytes}
 use Rattle.std.proofs.Math.Nat.{le_of_lt}
-use Rattle.vbi_words.specs.Geometry.{height_of, line_bytes}
 use Rattle.vbi_field.proofs.Counts.{row_fits}
 use Rattle.vbi_field.proofs.PullEnds.{ended, read_fault, at_limit}
 use Rattle.vbi_field.proofs.PullFaults.{head_fault}

@@ -1,5 +1,4 @@
-use Rattle.std.proofs.Common.{[], ◌∷◌, arith}
-use Rattle.vbi_near.specs.Candidates.{given_samples, row_of}
+use Rattle.vbi_field.proofs.Common.{[], ◌∷◌, arith, given_samples, row_of}
 use Rattle.vbi_near.proofs.Counting.{zeros-long, pile-empty, few-empty}
 use Rattle.vbi_field.proofs.OneShown.{only_near}
 use Rattle.vbi_field.proofs.shown.nearest_of_row.Goals as goal

@@ -1,5 +1,4 @@
-use Rattle.std.proofs.Common.{ap, ◌∙◌}
-use Rattle.vbi_field.specs.ConfigView.{width_of}
+use Rattle.vbi_field.proofs.Common.{ap, ◌∙◌, width_of}
 use Rattle.vbi_field.proofs.OneShown.{nothing_erased}
 use Rattle.vbi_field.proofs.shown.none_erased.Goals as goal
 

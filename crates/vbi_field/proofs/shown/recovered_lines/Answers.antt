@@ -1,5 +1,4 @@
-use Rattle.std.proofs.Common.{ap, ◌∙◌}
-use Rattle.vbi_field.specs.Shown.{as_readings}
+use Rattle.vbi_field.proofs.Common.{ap, ◌∙◌, as_readings}
 use Rattle.vbi_field.proofs.OneShown.{only_shown, has_three}
 use Rattle.vbi_field.proofs.shown.recovered_lines.Goals as goal
 

@@ -1,11 +1,7 @@
-use Rattle.std.proofs.Common.{sym, ap}
+use Rattle.vbi_field.proofs.Common.{sym, ap, Recovered, as_readings, FieldReadings}
 use Rattle.std.specs.Prelude.{List}
-use Rattle.vbi_field.proofs.OneShown.{sure_rows}
-use Rattle.vbi_near.specs.declared.recovery.Recovered.{Recovered}
-use Rattle.vbi_field.specs.Shown.{as_readings}
+use Rattle.vbi_field.proofs.OneShown.{sure_rows, is_shown}
 use Rattle.vbi_field.specs.Shown.{recovery_of}
-use Rattle.vbi_field.specs.Stream.{FieldReadings}
-use Rattle.vbi_field.proofs.OneShown.{is_shown}
 use Rattle.vbi_field.proofs.shown.shown_lines.Goals as goal
 
 pub returns-then-is_sure-3 : goal.returns-then-is_sure-3

@@ -1,7 +1,5 @@
-use Rattle.std.proofs.Common.{◌≡◌, ◌^◌, ◌<◌, drop}
-use Rattle.std.specs.List.{list_all}
-use Rattle.std.specs.Char.{is_digit}
-use Rattle.std.specs.Str.Parse.{digits_value, digits_value_after}
+use Rattle.vbi_field.proofs.Common.{◌≡◌, ◌^◌, ◌<◌, drop, list_all, is_digit, digits_value}
+use Rattle.std.specs.Str.Parse.{digits_value_after}
 use Rattle.vbi_field.proofs.word_row.hex_value.Given as goal
 
 abbrev pub invariant-loop-byte : goal.invariant-loop-byte

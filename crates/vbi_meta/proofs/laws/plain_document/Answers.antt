@@ -1,5 +1,4 @@
-use Rattle.std.proofs.Common.{sym, subst}
-use Rattle.vbi_meta.specs.ReadBack.{IsPlainText}
+use Rattle.vbi_meta.proofs.Common.{sym, subst, IsPlainText}
 use Rattle.vbi_meta.proofs.PlainDocument.{plain_document}
 use Rattle.vbi_meta.proofs.laws.plain_document.Goals as goal
 

@@ -4,8 +4,7 @@ use Rattle.std.specs.Prelude.{Some, None, slice_get, replicate}
 use Rattle.std.proofs.lemmas.Bool.Decides.{eqb_tells}
 use Rattle.std.proofs.lemmas.List.{length-replicate}
 use Rattle.vbi_plan.specs.declared.plan.Stretch.{Stretch}
-use Rattle.vbi_plan.specs.Plans.{Takes}
-use Rattle.vbi_plan.specs.Plans.{given_by, out_at, shown, taken_from}
+use Rattle.vbi_plan.specs.Plans.{Takes, given_by, out_at, shown, taken_from}
 use Rattle.vbi_plan.proofs.Checking.{some_is}
 use Rattle.vbi_plan.proofs.plan_laws.file_shows.Goals as goal
 

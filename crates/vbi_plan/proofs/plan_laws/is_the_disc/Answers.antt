@@ -1,13 +1,11 @@
-use Rattle.std.proofs.Common.{◌≡◌, ◌∙◌, ℕ, zero, suc, ◌+◌, ◌*◌, ◌≤◌, sym, ap, arith, subst}
-use Rattle.std.proofs.Common.{List, ◌-◌}
+use Rattle.std.proofs.Common.{◌≡◌, ◌∙◌, ℕ, zero, suc, ◌+◌, ◌*◌, ◌≤◌, sym, ap, arith, subst, List, ◌-◌}
 use Rattle.std.specs.Prelude.{Option}
 use Rattle.std.proofs.lemmas.Option.{slice_get_within}
 use Rattle.vbi_plan.specs.declared.plan.Spacing.{Spacing}
 use Rattle.vbi_plan.specs.declared.plan.Spacing.TheVariants.{Video}
 use Rattle.vbi_plan.specs.declared.plan.Stretch.{Stretch}
 use Rattle.vbi_side.specs.Numbers.{IsMarked}
-use Rattle.vbi_plan.specs.Plans.{CountsOn, IsDone, IsOfDisc, Plan, RiseFrom, Shows, Takes}
-use Rattle.vbi_plan.specs.Plans.{place_of, rank_at, rank_of}
+use Rattle.vbi_plan.specs.Plans.{CountsOn, IsDone, IsOfDisc, Plan, RiseFrom, Shows, Takes, place_of, rank_at, rank_of}
 use Rattle.vbi_plan.proofs.Checking.{some_is}
 use Rattle.vbi_side.proofs.Truth.{video_fits}
 use Rattle.vbi_plan.proofs.plan_laws.is_the_disc.Goals as goal

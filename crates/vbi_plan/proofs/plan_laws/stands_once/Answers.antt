@@ -1,5 +1,4 @@
-use Rattle.std.proofs.Common.{◌≡◌, ℕ, zero, suc, ◌+◌, ◌<◌, ◌≤◌, ap, arith}
-use Rattle.std.proofs.Common.{inl, inr, length, ◌-◌}
+use Rattle.std.proofs.Common.{◌≡◌, ℕ, zero, suc, ◌+◌, ◌<◌, ◌≤◌, ap, arith, inl, inr, length, ◌-◌}
 use Rattle.std.specs.Prelude.{◌⊎◌}
 use Rattle.vbi_plan.specs.Plans.{IsDone, Plan, StandsFor, rank_at}
 use Rattle.vbi_plan.proofs.plan_laws.stands_once.Goals as goal

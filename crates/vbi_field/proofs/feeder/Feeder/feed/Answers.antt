@@ -1,5 +1,4 @@
-use Rattle.std.proofs.Common.{◌≡◌, ◌≤◌, length, refl, ap, arith, rules}
-use Rattle.std.specs.Prelude.{Err}
+use Rattle.vbi_field.proofs.Common.{◌≡◌, ◌≤◌, length, refl, ap, arith, rules, Err}
 use Rattle.vbi_field.proofs.FeedLoop.{taken_none, taken_more, taken_fault, taken_whole, fault_since}
 use Rattle.vbi_field.specs.declared.summary.RunFault.TheVariants.{Failed}
 use Rattle.vbi_field.proofs.feeder.Feeder.feed.Goals as goal

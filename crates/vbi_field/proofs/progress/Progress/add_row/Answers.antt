@@ -1,5 +1,4 @@
-use Rattle.std.proofs.Common.{◌-◌, ◌++◌, ◌∙◌, refl, arith}
-use Rattle.vbi_field.specs.Stream.{rows_at}
+use Rattle.vbi_field.proofs.Common.{◌-◌, ◌++◌, ◌∙◌, refl, arith, rows_at}
 use Rattle.vbi_field.proofs.AddedRows.{added_inside, added_whole, added_in_part}
 use Rattle.vbi_field.proofs.progress.Progress.add_row.Goals as goal
 

@@ -1,9 +1,8 @@
-use Rattle.std.proofs.Common.{ℕ, ◌+◌, Bool, List, ap, ◌∙◌, sym, refl}
-use Rattle.std.specs.Prelude.{◌==◌}
-use Rattle.vbi_near.specs.Recovery.{none_erased}
+use Rattle.vbi_field.proofs.Common.{ℕ, ◌+◌, ap, ◌∙◌, sym, refl, ◌==◌, none_erased, as_readings, joined_rows}
+use Rattle.vbi_field.proofs.Common.{readings_of}
+use Rattle.std.proofs.Common.{Bool, List}
 use Rattle.vbi_field.specs.Report.{recovered_entry_of}
-use Rattle.vbi_field.specs.Shown.{as_readings, joined_rows, recovery_of}
-use Rattle.vbi_field.specs.Stream.{readings_of}
+use Rattle.vbi_field.specs.Shown.{recovery_of}
 use Rattle.vbi_field.proofs.Entries.{no_joint}
 use Rattle.vbi_field.proofs.HeldRows.{joined_in}
 use Rattle.vbi_field.proofs.report.RecoveredReportKind.entry.Goals as goal

@@ -1,5 +1,4 @@
-use Rattle.std.proofs.Common.{◌≡◌, arith}
-use Rattle.vbi_field.specs.ConfigView.{longest_row}
+use Rattle.vbi_field.proofs.Common.{◌≡◌, arith, longest_row}
 use Rattle.vbi_field.proofs.RowSteps.{newline_came, bad_newline_came, too_long}
 use Rattle.vbi_field.proofs.row_intake.RowIntake.next_row.Goals as goal
 
