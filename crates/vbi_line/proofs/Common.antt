@@ -34,7 +34,7 @@ pub use denote.Builtin.{u8}
 pub use denote.Memory.{mem}
 pub use denote.Steps.{nothing}
 pub use seplogic.Ra.Ura.{Ura}
-pub use types.Kit.{!, ‵, ◌$◌, ◌∵◌, ◌⊛◌, done, fjoin, fsplit, move, qed, raw, rewrite, split, use1, use2}
+pub use types.Kit.{ !, ‵, ◌$◌, ◌∵◌, ◌⊛◌, done, fjoin, fsplit, move, qed, raw, rewrite, split, use1, use2}
 pub use types.Logic.{Logic, sem}
 pub use types.SemTy.{cells}
 pub use Rattle.vbi_line.specs.Counted.{IsSameDevice, NoError, device_of, failures_of}

@@ -154,14 +154,8 @@ impl Decoder {
         ensures none { IfNone result (stay_of system (state_of self) ≡ dead) }
     {
         match self.limit(system) {
-            Some(limit) => {
-                if self.length() < limit {
-                    Some(self.grown(1))
-                } else {
-                    None
-                }
-            }
-            None => Some(self.grown(1)),
+            Some(limit) if self.length() >= limit => None,
+            _ => Some(self.grown(1)),
         }
     }
 
@@ -174,32 +168,20 @@ impl Decoder {
         ensures none { IfNone result (turn_of system (state_of self) ≡ dead) }
     {
         match self {
-            Decoder::Lead(run) => {
-                if run >= system.half_min() {
-                    Some(begin_second(true, 0, 0))
-                } else {
-                    None
-                }
-            }
+            Decoder::Lead(run) if run >= system.half_min() => Some(begin_second(true, 0, 0)),
             Decoder::First {
                 level,
                 run,
                 cells,
                 bits,
-            } => {
-                if run >= system.half_min() {
-                    Some(begin_second(!level, cells, bits))
-                } else {
-                    None
-                }
-            }
+            } if run >= system.half_min() => Some(begin_second(!level, cells, bits)),
             Decoder::Second {
                 level,
                 run,
                 cells,
                 bits,
             } => turn_second(system, level, run, cells, bits),
-            Decoder::Tail(_) => None,
+            Decoder::Lead(_) | Decoder::First { .. } | Decoder::Tail(_) => None,
         }
     }
 
@@ -233,15 +215,9 @@ impl Decoder {
                 cells,
                 bits,
                 ..
-            } => {
-                if cells == CELLS && run >= system.half_min() {
-                    Some(word_of(bits))
-                } else {
-                    None
-                }
-            }
+            } if cells == CELLS && run >= system.half_min() => Some(word_of(bits)),
             Decoder::Tail(bits) => Some(word_of(bits)),
-            Decoder::Lead(_) | Decoder::First { .. } => None,
+            Decoder::Lead(_) | Decoder::First { .. } | Decoder::Second { .. } => None,
         }
     }
 
@@ -260,13 +236,8 @@ impl Decoder {
     {
         match self.word(system) {
             Some(word) => Outcome::Word(word),
-            None => {
-                if self.is_lead() {
-                    Outcome::Blank
-                } else {
-                    Outcome::Unfinished
-                }
-            }
+            None if self.is_lead() => Outcome::Blank,
+            None => Outcome::Unfinished,
         }
     }
 
@@ -279,15 +250,9 @@ impl Decoder {
         match self {
             Decoder::Tail(_) | Decoder::Lead(_) => None,
             Decoder::First { .. } => Some(system.half_max()),
-            Decoder::Second { level, cells, .. } => {
-                if cells < CELLS {
-                    Some(2 * system.half_max())
-                } else if level {
-                    Some(system.half_max())
-                } else {
-                    None
-                }
-            }
+            Decoder::Second { cells, .. } if cells < CELLS => Some(2 * system.half_max()),
+            Decoder::Second { level: true, .. } => Some(system.half_max()),
+            Decoder::Second { .. } => None,
         }
     }
 
@@ -308,36 +273,14 @@ impl Decoder {
         ensures state { state_of result ≡ grown count (state_of self) }
         ensures sound { IsSound result × (run_of result ≤ run_of self + count) }
     {
-        match self {
-            Decoder::Lead(run) => Decoder::Lead(run + count),
-            Decoder::First {
-                level,
-                run,
-                cells,
-                bits,
-            } => {
-                Decoder::First {
-                    level,
-                    run: run + count,
-                    cells,
-                    bits,
-                }
-            }
-            Decoder::Second {
-                level,
-                run,
-                cells,
-                bits,
-            } => {
-                Decoder::Second {
-                    level,
-                    run: run + count,
-                    cells,
-                    bits,
-                }
-            }
-            Decoder::Tail(bits) => Decoder::Tail(bits),
+        let mut grown = self;
+        match &mut grown {
+            Decoder::Lead(run) => *run += count,
+            Decoder::First { run, .. } => *run += count,
+            Decoder::Second { run, .. } => *run += count,
+            Decoder::Tail(_) => {}
         }
+        grown
     }
 
     /// The decoder after `count` columns of this level. `Err(n)`: after n of them a word could still be shown, and

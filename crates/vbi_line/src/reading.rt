@@ -81,36 +81,17 @@ fn read_both(packed: &Packed, system: System) -> Reading
     ensures { IsReading system packed.now result }
 {
     let plain = find_outcome(packed, system);
-    match plain {
-        Outcome::Word(_) => {
-            Reading {
-                outcome: plain,
-                pass: 1,
-            }
-        }
-        Outcome::Blank => {
-            Reading {
-                outcome: plain,
-                pass: 0,
-            }
-        }
+    let (outcome, pass) = match plain {
+        Outcome::Word(_) => (plain, 1),
+        Outcome::Blank => (plain, 0),
         Outcome::Unfinished | Outcome::Change(_) | Outcome::Hold(_) => {
             match smoothed_word(packed, system) {
-                Some(word) => {
-                    Reading {
-                        outcome: Outcome::Word(word),
-                        pass: 2,
-                    }
-                }
-                None => {
-                    Reading {
-                        outcome: plain,
-                        pass: 0,
-                    }
-                }
+                Some(word) => (Outcome::Word(word), 2),
+                None => (plain, 0),
             }
         }
-    }
+    };
+    Reading { outcome, pass }
 }
 
 /// The word that the smoothed levels show. The first three columns of a run keep the smoothed level of the columns
