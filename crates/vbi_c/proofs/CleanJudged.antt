@@ -1,6 +1,6 @@
 -- A side that leaves nothing to doubt is judged as it is.
 use Rattle.std.specs.Prelude.{◌⊎◌}
-use Rattle.std.proofs.Common.{◌≡◌, ◌≢◌, ℕ, ◌+◌, ◌*◌, false, refl, inl, inr}
+use Rattle.std.proofs.Common.{◌≡◌, ◌≢◌, ◌∙◌, ℕ, ◌+◌, ◌*◌, ap, false, refl, inl, inr}
 use Rattle.vbi_side.specs.declared.pace.Pace.TheVariants.{Video, Film}
 use Rattle.vbi_whole.specs.CleanRuns.{IsCleanRun}
 use Rattle.vbi_side.specs.Numbers.{AreAnswers}
@@ -12,7 +12,7 @@ use Rattle.vbi_seek.specs.declared.asked.Asked.TheVariants.{Given, Found}
 use Rattle.vbi_c.specs.CalledWhole.{Called}
 use Rattle.vbi_c.specs.CleanSides.{IsJudgedClean}
 use Rattle.vbi_c.specs.Judging.{IsGiven}
-use Rattle.vbi_c.specs.WholeSides.{both_by}
+use Rattle.vbi_c.specs.WholeSides.{both_by, side_for_c}
 use Rattle.vbi_c.proofs.SidesCalled.{answers_at, found_on}
 
 module _ (number : ℕ → ℕ) (called : Called) (begin last : ℕ) (is : IsJudgedClean number called begin last)
@@ -42,8 +42,9 @@ module _ (number : ℕ → ℕ) (called : Called) (begin last : ℕ) (is : IsJud
         go (inr e) = rw e (one_field number called.seen begin last run.read.each run.read.others run.three
             called.numbers answers)
 
-    pub clean_whole : called.side ≡ found_whole begin (begin + 2 * last)
-    clean_whole = called_whole called.siding.numbering number called.seen begin last run.read.each run.read.others
+    pub clean_whole : called.side ≡ side_for_c (found_whole begin (begin + 2 * last))
+    clean_whole =
+        let (found, finds, e) = found_on called false is.answered at_video none_on_both in
+        e ∙ ap side_for_c (called_whole called.siding.numbering number called.seen begin last run.read.each run.read.others
         run.three (λ p inside. (run.keeps p inside).0) called.numbers answers called.may_end called.ends
-        is.clean.begun is.clean.ended is.clean.unpadded called.side called.old called.new
-        (found_on called false is.answered at_video none_on_both)
+        is.clean.begun is.clean.ended is.clean.unpadded found called.old called.new finds)

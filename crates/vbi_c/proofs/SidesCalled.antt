@@ -1,11 +1,17 @@
 -- Sides that are called whole by the calls: the laws of vbi_side, of what C hands over.
-use Rattle.std.proofs.Common.{◌≡◌, Bool, subst}
+use Rattle.std.proofs.Common.{◌≡◌, ◌∙◌, ℕ, Bool, ap, arith, refl, sym, subst}
 use Rattle.std.specs.Prelude.{if◌then◌else◌}
 use Rattle.vbi_side.specs.declared.pace.Pace.{Pace}
 use Rattle.vbi_side.specs.declared.pace.Pace.TheVariants.{Video}
 use Rattle.vbi_side.specs.Numbers.{AreAnswers}
-use Rattle.vbi_c.specs.CalledWhole.{Called, Finds, IsAnswered, slack_at}
-use Rattle.vbi_c.specs.WholeSides.{both_by}
+use Rattle.vbi_whole.specs.declared.verdict.Finding.{Finding}
+use Rattle.vbi_whole.specs.declared.verdict.Reasons.{Reasons}
+use Rattle.vbi_whole.specs.declared.verdict.Verdict.{Verdict}
+use Rattle.vbi_whole.specs.declared.verdict.Verdict.TheVariants.{Yes, No, CannotTell}
+use Rattle.vbi_whole.specs.Verdicts.{IsFinding}
+use Rattle.vbi_c.specs.declared.whole_side.LdvbiSide.{LdvbiSide}
+use Rattle.vbi_c.specs.CalledWhole.{Called, Finds, IsAnswered, judged_at, slack_at}
+use Rattle.vbi_c.specs.WholeSides.{both_by, verdict_for_c}
 
 -- what is answered, at the pace that is known
 pub answers_at : (called : Called) (pace : Pace) → IsAnswered called → called.siding.pace ≡ pace
@@ -23,3 +29,34 @@ pub found_on : (called : Called) (on_both : Bool) → IsAnswered called → call
     → both_by called.both called.numbers ≡ on_both → Finds called Video (if on_both then 1 else 0)
 found_on called on_both is paced on =
     subst (λ (on : Bool). Finds called Video (if on then 1 else 0)) on (found_at called Video is paced)
+
+-- what was found of a side that is answered so, with this verdict and these reasons
+abbrev pub as_found : LdvbiSide → Verdict → Reasons → Finding
+as_found side verdict reasons = record {
+  tally = side.tally;
+  first = side.first;
+  last = side.last;
+  swap = side.swap;
+  padded = side.padded;
+  blank = side.blank;
+  verdict = verdict;
+  reasons = reasons;
+}
+
+is_yes : (verdict : Verdict) → verdict_for_c verdict ≡ 1 → verdict ≡ Yes
+is_yes CannotTell e = absurd (omega (arith, e))
+is_yes Yes e = refl
+is_yes No e = absurd (omega (arith, e))
+
+-- what was found of a side that is called whole
+pub found_whole : (called : Called) (pace : Pace) (slack : ℕ) → Finds called pace slack → called.side.verdict ≡ 1
+    → (reasons : Reasons) × IsFinding (judged_at called pace slack) called.may_end
+    (as_found called.side Yes reasons) called.old called.new
+found_whole called pace slack (found, finds, e) whole =
+    let yes : found.verdict ≡ Yes = is_yes found.verdict (ap (λ (s : LdvbiSide). s.verdict) (sym e) ∙ whole) in (
+      found.reasons,
+      subst (λ (v : Verdict). IsFinding (judged_at called pace slack) called.may_end
+          (as_found called.side v found.reasons) called.old called.new) yes
+          (subst (λ (s : LdvbiSide). IsFinding (judged_at called pace slack) called.may_end
+          (as_found s found.verdict found.reasons) called.old called.new) (sym e) finds),
+    )

@@ -13,7 +13,8 @@ use Rattle.vbi_c.specs.declared.fields.LdvbiFieldReadings.{LdvbiFieldReadings}
 use Rattle.vbi_seek.specs.declared.asked.Judging.{Judging}
 use Rattle.vbi_c.specs.declared.whole_side.Siding.{Siding}
 use Rattle.vbi_c.specs.Judging.{AreJudged}
-use Rattle.vbi_c.specs.WholeSides.{slack_by}
+use Rattle.vbi_c.specs.declared.whole_side.LdvbiSide.{LdvbiSide}
+use Rattle.vbi_c.specs.WholeSides.{slack_by, side_for_c}
 use Rattle.vbi_whole.specs.Gaps.{Judged, to_judge, rule_by}
 
 -- what the calls are given of a side, and what they answer: ldvbi_judge of its readings, and then ldvbi_judge_side,
@@ -29,7 +30,7 @@ pub record Called : Type 0 where
   pub may_end : Bool
   pub old : List Gap
   pub new : List Gap
-  pub side : Finding
+  pub side : LdvbiSide
 
 -- by how many fields its numbers may be off from each other, at this pace
 abbrev pub slack_at : paces.Pace → Called → ℕ
@@ -40,9 +41,11 @@ abbrev pub judged_at : Called → paces.Pace → ℕ → Judged
 judged_at called pace slack =
     to_judge (rule_by pace slack called.siding.numbering) called.seen called.numbers called.ends
 
--- this is found of it then
+-- this is found of it then, and answered
 abbrev pub Finds : Called → paces.Pace → ℕ → Type 0
-Finds called pace slack = IsFinding (judged_at called pace slack) called.may_end called.side called.old called.new
+Finds called pace slack =
+    (found : Finding) × IsFinding (judged_at called pace slack) called.may_end found called.old called.new
+    × (called.side ≡ side_for_c found)
 
 -- the calls answer so: the side is judged at the pace at which its numbers were
 pub record IsAnswered (called : Called) : Type 0 where

@@ -1,6 +1,6 @@
 -- The verdict on a side, as C asks for it: first the system is looked at, then the lengths of the arrays, then what is
 -- counted, then the pace, then the clock.
-use Rattle.std.specs.Prelude.{ℕ, ◌==◌, if◌then◌else◌, Bool, true, false, not, List, Option, Some, None, ok_or}
+use Rattle.std.specs.Prelude.{ℕ, ◌+◌, ◌==◌, if◌then◌else◌, Bool, true, false, not, List, Option, Some, None, ok_or}
 use Rattle.std.specs.Prelude.{Result, Ok}
 use Rattle.vbi_side.specs.declared.number.Number.{Number}
 use Rattle.vbi_side.specs.declared.clock.Clock as clocks
@@ -8,6 +8,11 @@ use Rattle.vbi_side.specs.declared.clock.Clock.TheVariants.{Plain}
 use Rattle.vbi_side.specs.declared.pace.Pace as paces
 use Rattle.vbi_side.specs.declared.pace.Pace.TheVariants.{Video, Film}
 use Rattle.vbi_whole.specs.NumbersOnBoth.{is_on_both}
+use Rattle.vbi_whole.specs.declared.verdict.Finding.{Finding}
+use Rattle.vbi_whole.specs.declared.verdict.Reasons.{Reasons}
+use Rattle.vbi_whole.specs.declared.verdict.Verdict.{Verdict}
+use Rattle.vbi_whole.specs.declared.verdict.Verdict.TheVariants.{Yes, No, CannotTell}
+use Rattle.vbi_c.specs.declared.whole_side.LdvbiSide.{LdvbiSide}
 use Rattle.vbi_c.specs.declared.whole_side.LdvbiSideRule.{LdvbiSideRule}
 use Rattle.vbi_c.specs.declared.whole_side.Siding.{Siding}
 use Rattle.vbi_c.specs.declared.status.Refusal.{Refusal}
@@ -59,3 +64,35 @@ judged_by siding both seen numbers ends =
 -- whether the capture may end before the disc does
 abbrev pub may_end_by : ℕ → Bool
 may_end_by may_end = not (may_end == 0)
+
+-- the number of a verdict
+abbrev pub verdict_for_c : Verdict → ℕ
+verdict_for_c CannotTell = 0
+verdict_for_c Yes = 1
+verdict_for_c No = 2
+
+-- the number of a reason, if it holds
+abbrev pub reason : ℕ → Bool → ℕ
+reason bit holds = if holds then bit else 0
+
+-- the sum of the numbers of all reasons
+abbrev pub reasons_for_c : Reasons → ℕ
+reasons_for_c reasons =
+    reason 1 reasons.is_lost + reason 2 reasons.is_held + reason 4 reasons.goes_back + reason 8 reasons.is_joined
+    + reason 16 reasons.begins_late + reason 32 reasons.is_swapped + reason 64 reasons.is_off
+    + reason 128 reasons.no_numbers + reason 256 reasons.end_unseen + reason 512 reasons.begin_unseen
+    + reason 1024 reasons.many_doubtful + reason 2048 reasons.is_open + reason 4096 reasons.is_inserted
+    + reason 8192 reasons.is_padded + reason 16384 reasons.is_blank
+
+-- what is found of a side, as C sees it
+abbrev pub side_for_c : Finding → LdvbiSide
+side_for_c found = record {
+  tally = found.tally;
+  first = found.first;
+  last = found.last;
+  swap = found.swap;
+  padded = found.padded;
+  blank = found.blank;
+  verdict = verdict_for_c found.verdict;
+  reasons = reasons_for_c found.reasons;
+}

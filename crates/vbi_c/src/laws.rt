@@ -20,6 +20,8 @@ ghost use Rattle.vbi_side.specs.declared.pace.Pace.TheVariants.{Video, Film};
 ghost use Rattle.vbi_side.specs.Clocks.{IsProper};
 ghost use Rattle.vbi_side.specs.Worked.{field_of};
 ghost use Rattle.vbi_seek.specs.declared.asked.Asked.TheVariants.{Given, Found};
+ghost use Rattle.vbi_whole.specs.declared.verdict.Verdict.TheVariants.{Yes, No, CannotTell};
+ghost use Rattle.vbi_whole.specs.Verdicts.{no_reason};
 ghost use Rattle.vbi_c.specs.declared.fields.LdvbiFieldReadings.{LdvbiFieldReadings};
 ghost use Rattle.vbi_c.specs.declared.record.LdvbiRecord.{LdvbiRecord};
 ghost use Rattle.vbi_seek.specs.declared.side_bytes.Setup.{Setup};
@@ -44,7 +46,7 @@ ghost use Rattle.vbi_c.specs.Stops.{IsStopOf};
 ghost use Rattle.vbi_c.specs.Ends.{ends_status, IsEndOf};
 ghost use Rattle.vbi_c.specs.Erased.{none_erased, erased_of, with_erased};
 ghost use Rattle.vbi_c.specs.WholeSides.{pace_given, siding_by, numbering_of, both_by, both_for_c, slack_by};
-ghost use Rattle.vbi_c.specs.WholeSides.{may_end_by};
+ghost use Rattle.vbi_c.specs.WholeSides.{may_end_by, verdict_for_c, reasons_for_c};
 ghost use Rattle.vbi_c.specs.Worked.{ntsc, pal, judged_as, code_as, reading_as, near_as, lines_read_as};
 ghost use Rattle.vbi_c.specs.Worked.{field_read_as, sided_as};
 ghost use Rattle.vbi_c.specs.Worked.{sided_by, rule_as, plain_rule, on_one, on_both};
@@ -205,6 +207,21 @@ pub fn worked_sides()
     ensures lead_outs { (answer : ℕ) → IsEndOf (lines_read_as 0x88FFFF 0x80EEEE 0x80EEEE) answer → answer ≡ 1 }
     ensures lead_ins { (answer : ℕ) → IsEndOf (lines_read_as 0 0x88FFFF 0) answer → answer ≡ 3 }
     ensures none_on_16 { (answer : ℕ) → IsEndOf (lines_read_as 0x80EEEE 0 0) answer → answer ≡ 0 }
+{}
+
+/// The numbers of the verdicts and of their reasons, and that reasons that hold together add up.
+pub fn worked_reasons()
+    ensures verdicts { map verdict_for_c (CannotTell ∷ Yes ∷ No ∷ []) ≡ 0 ∷ 1 ∷ 2 ∷ [] }
+    ensures seen { map reasons_for_c (no_reason ∷ record no_reason { is_lost = true }
+        ∷ record no_reason { is_held = true } ∷ record no_reason { goes_back = true }
+        ∷ record no_reason { is_joined = true } ∷ record no_reason { begins_late = true }
+        ∷ record no_reason { is_swapped = true } ∷ record no_reason { is_inserted = true }
+        ∷ record no_reason { is_padded = true } ∷ []) ≡ 0 ∷ 1 ∷ 2 ∷ 4 ∷ 8 ∷ 16 ∷ 32 ∷ 4096 ∷ 8192 ∷ [] }
+    ensures left_open { map reasons_for_c (record no_reason { is_off = true } ∷ record no_reason { no_numbers = true }
+        ∷ record no_reason { end_unseen = true } ∷ record no_reason { begin_unseen = true }
+        ∷ record no_reason { many_doubtful = true } ∷ record no_reason { is_open = true }
+        ∷ record no_reason { is_blank = true } ∷ []) ≡ 64 ∷ 128 ∷ 256 ∷ 512 ∷ 1024 ∷ 2048 ∷ 16384 ∷ [] }
+    ensures both { reasons_for_c (record no_reason { is_lost = true; end_unseen = true }) ≡ 257 }
 {}
 
 /// The clocks that C hands over, and those that it is answered. What is answered is taken again. A clock is looked at

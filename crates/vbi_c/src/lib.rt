@@ -69,4 +69,4 @@ pub use sizes::{ldvbi_field_bytes, ldvbi_line_bytes, ldvbi_line_samples, ldvbi_l
 pub use stops::ldvbi_judge_stops;
 pub use vbi_seek::{FoundField as LdvbiPlace, Neighbour as LdvbiNeighbour};
 pub use version::{ldvbi_abi, ldvbi_version};
-pub use whole_side::{LdvbiSideRule, ldvbi_find_both, ldvbi_find_clock, ldvbi_judge_side};
+pub use whole_side::{LdvbiSide, LdvbiSideRule, ldvbi_find_both, ldvbi_find_clock, ldvbi_judge_side};

@@ -3,11 +3,13 @@
 ghost use Rattle.std.specs.Prelude.{◌≡◌, ◌≢◌, ◌≤◌, length, IfOk};
 ghost use Rattle.vbi_side.specs.declared.clock.Clock as clocks;
 ghost use Rattle.vbi_side.specs.declared.pace.Pace as paces;
+ghost use Rattle.vbi_whole.specs.declared.verdict.Finding.{Finding};
 ghost use Rattle.vbi_whole.specs.Verdicts.{IsFinding};
 ghost use Rattle.vbi_c.specs.Clocks.{clock_for_c, IsClockFound};
 ghost use Rattle.vbi_c.specs.Judging.{are_as_long};
 ghost use Rattle.vbi_c.specs.WholeSides.{pace_given, siding_by, siding_with, numbering_of, both_by};
 ghost use Rattle.vbi_c.specs.WholeSides.{both_for_c, slack_by, may_end_by, judged_by};
+ghost use Rattle.vbi_c.specs.WholeSides.{verdict_for_c, reason, reasons_for_c, side_for_c};
 ghost use Rattle.vbi_c.specs.Statuses.{status_of};
 ghost use Rattle.vbi_whole.specs.Gaps.{rule_by};
 
@@ -16,7 +18,10 @@ use crate::judging::{are_as_long, counted_of, with_lengths};
 use crate::status::{DONE, Refusal};
 use std::mem::size_of;
 use vbi_side::{Clock, Number, Pace, Sightings};
-use vbi_whole::{Finding, Gap, Numbering, Rule, Side, find_clock, is_on_both, judge_whole};
+use vbi_whole::{
+    Finding, Gap, Numbering, Reasons, Rule, Side, Tally, Verdict, find_clock, is_on_both,
+    judge_whole,
+};
 
 /// The rule by which a side is judged, in C's numbers.
 #[derive(Clone, Copy)]
@@ -36,6 +41,87 @@ pub struct LdvbiSideRule {
 
 // As include/ldvbi.h has it.
 const _: () = prove!(size_of::<LdvbiSideRule>() == 28);
+
+/// What is said of a side, in C's numbers.
+#[derive(Clone, Copy)]
+#[repr(C)]
+pub struct LdvbiSide {
+    /// What its gaps come to.
+    pub tally: Tally,
+    /// The first field with a believed number, counted from 0; 0 if there is none.
+    pub first: usize,
+    /// The last one.
+    pub last: usize,
+    /// The first field that was swapped with one beside it, counted from 0; 0 if there is none.
+    pub swap: usize,
+    /// How many of its fields are padding.
+    pub padded: usize,
+    /// The first of over a hundred fields without a number between two that go on, counted from 0; 0 if there are none.
+    pub blank: usize,
+    /// 1 if it is whole, 2 if it isn't, 0 if that can't be told.
+    pub verdict: u32,
+    /// Why not: the sum of the numbers of all reasons, each a bit.
+    pub reasons: u32,
+}
+
+// As include/ldvbi.h has it.
+const _: () = prove!(size_of::<LdvbiSide>() == 152);
+
+/// The number of a verdict.
+fn verdict_for_c(verdict: Verdict) -> u32
+    ensures { result ≡ verdict_for_c verdict }
+{
+    match verdict {
+        Verdict::CannotTell => 0,
+        Verdict::Yes => 1,
+        Verdict::No => 2,
+    }
+}
+
+/// The number of a reason, if it holds.
+fn reason(bit: u32, holds: bool) -> u32
+    ensures value { result ≡ reason bit holds }
+    ensures range { result ≤ bit }
+{
+    if holds { bit } else { 0 }
+}
+
+/// The sum of the numbers of all reasons.
+fn reasons_for_c(reasons: Reasons) -> u32
+    ensures { result ≡ reasons_for_c reasons }
+{
+    reason(1, reasons.is_lost)
+        + reason(2, reasons.is_held)
+        + reason(4, reasons.goes_back)
+        + reason(8, reasons.is_joined)
+        + reason(16, reasons.begins_late)
+        + reason(32, reasons.is_swapped)
+        + reason(64, reasons.is_off)
+        + reason(128, reasons.no_numbers)
+        + reason(256, reasons.end_unseen)
+        + reason(512, reasons.begin_unseen)
+        + reason(1024, reasons.many_doubtful)
+        + reason(2048, reasons.is_open)
+        + reason(4096, reasons.is_inserted)
+        + reason(8192, reasons.is_padded)
+        + reason(16384, reasons.is_blank)
+}
+
+/// What is found of a side, as C sees it.
+fn side_for_c(found: Finding) -> LdvbiSide
+    ensures { result ≡ side_for_c found }
+{
+    LdvbiSide {
+        tally: found.tally,
+        first: found.first,
+        last: found.last,
+        swap: found.swap,
+        padded: found.padded,
+        blank: found.blank,
+        verdict: verdict_for_c(found.verdict),
+        reasons: reasons_for_c(found.reasons),
+    }
+}
 
 /// What a side is judged by.
 #[derive(Clone, Copy)]
@@ -168,13 +254,13 @@ pub extern "C" fn ldvbi_judge_side(
     numbers: &[Number],
     ends: &[u32],
     gaps: &mut [Gap],
-    side: &mut Finding,
+    side: &mut LdvbiSide,
 ) -> u32
     ensures status { result ≡ status_of (siding_by rule.now
         (are_as_long (length seen.now) (length numbers.now) (length ends.now))) }
     ensures judges { IfOk (siding_by rule.now (are_as_long (length seen.now) (length numbers.now) (length ends.now)))
-        (λ siding. IsFinding (judged_by siding rule.now.both seen.now numbers.now ends.now) (may_end_by may_end)
-        side.new gaps.old gaps.new) }
+        (λ siding. (found : Finding) × IsFinding (judged_by siding rule.now.both seen.now numbers.now ends.now)
+        (may_end_by may_end) found gaps.old gaps.new × (side.new ≡ side_for_c found)) }
     ensures unwritten { result ≢ 0 → (gaps.new ≡ gaps.old) × (side.new ≡ side.old) }
 {
     let fit = are_as_long(seen.len(), numbers.len(), ends.len());
@@ -186,7 +272,7 @@ pub extern "C" fn ldvbi_judge_side(
                 numbers,
                 ends,
             };
-            *side = judge_whole(&judged, may_end != 0, gaps);
+            *side = side_for_c(judge_whole(&judged, may_end != 0, gaps));
             DONE
         }
         Err(refusal) => refusal.status(),

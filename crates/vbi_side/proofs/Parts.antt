@@ -9,8 +9,7 @@ use Rattle.vbi_side.specs.declared.pace.Pace.{Pace}
 use Rattle.vbi_side.specs.declared.pace.Pace.TheVariants.{Video, Film}
 use Rattle.vbi_side.specs.declared.sighting.Sightings.{Sightings}
 use Rattle.vbi_side.specs.Paces.{spot, fits, stays, Count, nearly}
-use Rattle.vbi_side.specs.Beliefs.{reach, field_weight, weight_at, weight_below}
-use Rattle.vbi_side.specs.Beliefs.{support_of, Believed}
+use Rattle.vbi_side.specs.Beliefs.{reach, field_weight, weight_at, weight_below, support_of, Believed}
 use Rattle.vbi_side.specs.DueNumbers.{slack_of, Leaves, IsLeft, Due}
 use Rattle.vbi_side.specs.Numbers.{due, IsAnswer}
 use Rattle.vbi_side.specs.Parts.{IsPart}

@@ -10,11 +10,11 @@
 //! they promise in plain words: a law that changes changes its row there. The `.._alike` edits of `must-fail` turn a
 //! definition with its code, and are refused here.
 
-ghost use Rattle.std.specs.Prelude.{◌≡◌, ◌≢◌, ◌↔◌, ◌⊎◌, ℕ, ◌+◌, ◌<◌, ◌≤◌, true, false, List, [], ◌∷◌, map};
-ghost use Rattle.std.specs.Prelude.{Option, Some, None, slice_get};
+ghost use Rattle.std.specs.Prelude.{◌≡◌, ◌≢◌, ◌↔◌, ◌⊎◌, ℕ, ◌+◌, ◌<◌, ◌≤◌, true, false, List, [], ◌∷◌, map, Option};
+ghost use Rattle.std.specs.Prelude.{Some, None, slice_get};
 ghost use Rattle.vbi_words.specs.declared.system.System.TheVariants.{Ntsc, Pal};
-ghost use Rattle.vbi_words.specs.declared.code.Code.TheVariants.{Picture, Time, ClvPicture, Chapter};
-ghost use Rattle.vbi_words.specs.declared.code.Code.TheVariants.{LeadIn, LeadOut, ClvMark};
+ghost use Rattle.vbi_words.specs.declared.code.Code.TheVariants.{Picture, Time, ClvPicture, Chapter, LeadIn, LeadOut};
+ghost use Rattle.vbi_words.specs.declared.code.Code.TheVariants.{ClvMark};
 ghost use Rattle.vbi_side.specs.declared.lines.Counted.TheVariants.{Pictures, Times};
 ghost use Rattle.vbi_words.specs.declared.system.System.{System};
 ghost use Rattle.vbi_side.specs.declared.lines.Counted.{Counted};
@@ -24,8 +24,7 @@ ghost use Rattle.vbi_side.specs.declared.sighting.Sightings.{Sightings};
 ghost use Rattle.vbi_side.specs.declared.pace.Pace.{Pace};
 ghost use Rattle.vbi_side.specs.declared.pace.Pace.TheVariants.{Video, Film};
 ghost use Rattle.vbi_side.specs.Sightings.{Shows};
-ghost use Rattle.vbi_side.specs.Lines.{number_from, code_in, sightings_of, pass_weight, number_weight};
-ghost use Rattle.vbi_side.specs.Lines.{is_instead};
+ghost use Rattle.vbi_side.specs.Lines.{number_from, code_in, sightings_of, pass_weight, number_weight, is_instead};
 ghost use Rattle.vbi_side.specs.Paces.{spot, fits, stays, nearly};
 ghost use Rattle.vbi_side.specs.Beliefs.{reach, enough, field_most, support_of, Believed};
 ghost use Rattle.vbi_side.specs.DueNumbers.{slack_of, Due};
@@ -36,8 +35,8 @@ ghost use Rattle.vbi_side.specs.Truth.{IsNear, AreEven, RunsOn, IsRegular, IsSou
 ghost use Rattle.vbi_side.specs.Truth.{StandsStill, video_disc, film_disc};
 ghost use Rattle.vbi_side.specs.Misread.{Capture, sightings_in, misread_weight, AreTold, IsRead};
 ghost use Rattle.vbi_side.specs.Whole.{IsWhole, TakesTurns};
-ghost use Rattle.vbi_side.specs.Worked.{wrong_by_9, wrong_by_10, apart_by, still_of, film_side};
-ghost use Rattle.vbi_side.specs.Worked.{field_of, instead_of, shown_in, told_by};
+ghost use Rattle.vbi_side.specs.Worked.{wrong_by_9, wrong_by_10, apart_by, still_of, film_side, field_of, instead_of};
+ghost use Rattle.vbi_side.specs.Worked.{shown_in, told_by};
 
 /// If the disc ran on around a field that has a number and what was misread there weighs less than enough, a
 /// believed number is that number.

@@ -1,8 +1,7 @@
 //! From the words of a field's lines to the numbers that they show.
 
 ghost use Rattle.std.specs.Prelude.{◌≡◌, ◌≤◌, ◌∷◌, [], List};
-ghost use Rattle.vbi_side.specs.Lines.{rate_of, pass_weight, code_in, sighting_of};
-ghost use Rattle.vbi_side.specs.Lines.{is_instead, sightings_of};
+ghost use Rattle.vbi_side.specs.Lines.{rate_of, pass_weight, code_in, sighting_of, is_instead, sightings_of};
 
 use crate::sighting::{Sighting, Sightings};
 use vbi_words::{Code, System, Word24, classify};

@@ -1,6 +1,6 @@
 -- A run of a disc, each number of which was read, from the disc's first number to lead-out: nothing is said of it.
-use Rattle.std.proofs.Common.{◌≡◌, ◌≢◌, ℕ, zero, suc, ◌+◌, ◌*◌, ◌-◌, ◌<◌, ◌≤◌, Bool, true, false}
-use Rattle.std.proofs.Common.{List, [], length, drop, refl, arith, ap, sym, ◌∙◌, subst, inl, inr}
+use Rattle.std.proofs.Common.{◌≡◌, ◌≢◌, ℕ, zero, suc, ◌+◌, ◌*◌, ◌-◌, ◌<◌, ◌≤◌, Bool, true, false, List, [], length}
+use Rattle.std.proofs.Common.{drop, refl, arith, ap, sym, ◌∙◌, subst, inl, inr}
 use Rattle.std.specs.Prelude.{Some, slice_get, ◌⊎◌, nat_le, nat_lt, ◌==◌, not, count_by}
 use Rattle.std.proofs.lemmas.Bool.{lt-ltb}
 use Rattle.std.proofs.lemmas.Bool.Decides.{leb_tells, eqb_tells}
@@ -11,59 +11,55 @@ use Rattle.vbi_side.specs.declared.number.Number.{Number}
 use Rattle.vbi_side.specs.declared.pace.Pace.TheVariants.{Video}
 use Rattle.vbi_side.specs.declared.sighting.Sightings.{Sightings}
 use Rattle.vbi_whole.specs.declared.verdict.Finding.{Finding}
+use Rattle.vbi_whole.specs.declared.verdict.Reasons.{Reasons}
+use Rattle.vbi_whole.specs.declared.verdict.Verdict.{Verdict}
+use Rattle.vbi_whole.specs.declared.verdict.Verdict.TheVariants.{Yes}
+use Rattle.vbi_side.specs.declared.clock.Clock.TheVariants.{Plain}
 use Rattle.vbi_side.specs.Sightings.{Shows}
 use Rattle.vbi_side.specs.Clocks.{kept, nearly_by}
 use Rattle.vbi_whole.specs.BlankFields.{IsBlank, IsBlankTold}
 use Rattle.vbi_whole.specs.CleanRuns.{IsReadTwice, IsOneOfThree}
 use Rattle.vbi_whole.specs.Drifts.{IsDrift, IsDriftTold}
 use Rattle.vbi_side.specs.Ends.{lead_out}
-use Rattle.vbi_whole.specs.Gaps.{AreNeighbours, AreGaps}
-use Rattle.vbi_whole.specs.Gaps.{since_end}
+use Rattle.vbi_whole.specs.Gaps.{AreNeighbours, AreGaps, since_end, rule_by, of_video}
 use Rattle.vbi_whole.specs.Detours.{detoured, detoured_from}
 use Rattle.vbi_whole.specs.Told.{tally_of}
 use Rattle.vbi_side.specs.Numbers.{believed, nothing, doubtful_of, AreAnswers, IsAnswer, IsMarked}
 use Rattle.vbi_side.specs.Side.{AreEnds}
 use Rattle.vbi_whole.specs.Swaps.{IsSwap, IsSwapTold}
 use Rattle.vbi_whole.specs.Verdicts.{IsFinding, found_whole, reasons_of, too_few, is_off, is_begin_unseen, AreReasons}
-use Rattle.vbi_whole.specs.Verdicts.{lead_out_follows, is_end_unseen, count_of, are_doubtful}
-use Rattle.vbi_whole.specs.Verdicts.{padded_in, verdict_of, yes}
+use Rattle.vbi_whole.specs.Verdicts.{lead_out_follows, is_end_unseen, count_of, are_doubtful, padded_in, verdict_of}
+use Rattle.vbi_whole.specs.Verdicts.{no_reason}
 use Rattle.vbi_whole.proofs.CleanRuns.{place_of, shown_marked, marked_at, all_believed}
 use Rattle.vbi_side.proofs.Counting.{kept_is}
-use Rattle.vbi_whole.proofs.NoReason.{false_true, both_false, not_less, more_not_le, unsaid, none_counted, one_counted}
-use Rattle.vbi_whole.proofs.NoReason.{follows, stray_shows}
+use Rattle.vbi_whole.proofs.NoReason.{false_true, both_false, not_less, more_not_le, none_counted, one_counted, follows}
+use Rattle.vbi_whole.proofs.NoReason.{stray_shows}
 use Rattle.vbi_side.proofs.Truth.{near_same}
 use Rattle.vbi_side.specs.Paces.{spot}
-use Rattle.vbi_whole.specs.Gaps.{rule_by, of_video}
 use Rattle.vbi_side.specs.declared.place.Place.{Place}
 use Rattle.vbi_whole.proofs.GapLaws.{not_on}
 
 -- ---- records
 
-abbrev made : Tally → ℕ → ℕ → ℕ → ℕ → ℕ → Finding
-made tally first last swap verdict reasons = record {
-  tally = tally;
-  first = first;
-  last = last;
-  swap = swap;
-  padded = 0;
-  blank = 0;
-  verdict = verdict;
-  reasons = reasons;
-}
-
-same_finding : (finding : Finding) (tally : Tally) (first last swap verdict reasons : ℕ) → finding.tally ≡ tally
-    → finding.first ≡ first → finding.last ≡ last → finding.swap ≡ swap → finding.padded ≡ 0
-    → finding.blank ≡ 0
-    → finding.verdict ≡ verdict → finding.reasons ≡ reasons → finding ≡ made tally first last swap verdict reasons
-same_finding finding tally first last swap verdict reasons a b c d none dark e f =
-    ap (λ (x : ℕ). let one : Finding = record finding { padded = x } in one) none
-    ∙ ap (λ (x : ℕ). let one : Finding = record finding { padded = 0; blank = x } in one) dark
-    ∙ ap (λ (x : Tally). made x finding.first finding.last finding.swap finding.verdict finding.reasons) a
-    ∙ ap (λ (x : ℕ). made tally x finding.last finding.swap finding.verdict finding.reasons) b
-    ∙ ap (λ (x : ℕ). made tally first x finding.swap finding.verdict finding.reasons) c
-    ∙ ap (λ (x : ℕ). made tally first last x finding.verdict finding.reasons) d
-    ∙ ap (λ (x : ℕ). made tally first last swap x finding.reasons) e
-    ∙ ap (λ (x : ℕ). made tally first last swap verdict x) f
+same_finding : (finding : Finding) (first last : ℕ) → finding.tally ≡ tally_of Plain [] 0
+    → finding.first ≡ first → finding.last ≡ last → finding.swap ≡ 0 → finding.padded ≡ 0 → finding.blank ≡ 0
+    → finding.verdict ≡ Yes → finding.reasons ≡ no_reason → finding ≡ found_whole first last
+same_finding finding first last a b c d e f g h = go finding.tally finding.first finding.last finding.swap
+    finding.padded finding.blank finding.verdict finding.reasons a b c d e f g h
+  where
+    go : (tally : Tally) (from to swap padded blank : ℕ) (verdict : Verdict) (reasons : Reasons)
+        → tally ≡ tally_of Plain [] 0 → from ≡ first → to ≡ last → swap ≡ 0 → padded ≡ 0 → blank ≡ 0
+        → verdict ≡ Yes → reasons ≡ no_reason → record {
+          tally = tally;
+          first = from;
+          last = to;
+          swap = swap;
+          padded = padded;
+          blank = blank;
+          verdict = verdict;
+          reasons = reasons;
+        } ≡ found_whole first last
+    go tally from to swap padded blank verdict reasons a b c d e f g h = cc
 
 -- ---- the ends of a side, written out
 
@@ -277,7 +273,7 @@ module _ (numbering : Numbering) (number : ℕ → ℕ) (fields : List Sightings
         (omega (arith, steps last (omega arith))))
 
     -- what is said against the capture
-    abbrev against : Tally → Bool → Bool → ℕ → Place → Place → ℕ
+    abbrev against : Tally → Bool → Bool → ℕ → Place → Place → Reasons
     against tally swapped drifts blank first end =
         reasons_of (of_video numbering fields answers ends) may_end (record {
           tally = tally;
@@ -289,19 +285,9 @@ module _ (numbering : Numbering) (number : ℕ → ℕ) (fields : List Sightings
           last = end;
         })
 
-    no_reason : against (tally_of numbering.clock [] 0) false false 0 (spot begin (number 0))
-        (spot (begin + 2 * last) (number last)) ≡ 0
-    no_reason = omega (
-      arith,
-      unsaid 16 (too_few Video (since_end ends begin) (kept numbering.clock (number 0))) early,
-      unsaid 64 (is_off (rule_by Video 0 numbering) (tally_of numbering.clock [] 0)
-          (spot begin (kept numbering.clock (number 0))) (spot (begin + 2 * last) (kept numbering.clock (number last))))
-          on,
-      unsaid 256 (is_end_unseen may_end ends (begin + 2 * last)) end_seen,
-      unsaid 512 (is_begin_unseen ends (spot begin (number 0))) begin_seen,
-      unsaid 1024 (are_doubtful answers) few_doubtful,
-      unsaid 8192 (nat_lt 0 (padded_in ends)) (ap (nat_lt 0) unpadded),
-    )
+    none_said : against (tally_of numbering.clock [] 0) false false 0 (spot begin (number 0))
+        (spot (begin + 2 * last) (number last)) ≡ no_reason
+    none_said = rw (early, on, end_seen, begin_seen, few_doubtful, unpadded) refl
 
     all_said : (tally other : Tally) (swapped drifts : Bool) (dark : ℕ) (a b c d : Place) → tally ≡ other
         → swapped ≡ false → drifts ≡ false → dark ≡ 0 → a ≡ b → c ≡ d
@@ -335,11 +321,11 @@ module _ (numbering : Numbering) (number : ℕ → ℕ) (fields : List Sightings
       undrifting true drift = absurd (no_drift drift.0 drift.1)
       undrifting false drift = refl
 
-      said : (finding.first ≡ begin) × (finding.last ≡ begin + 2 * last) × (finding.reasons ≡ 0)
+      said : (finding.first ≡ begin) × (finding.last ≡ begin + 2 * last) × (finding.reasons ≡ no_reason)
       said = go is.reasons
         where
           go : AreReasons (of_video numbering fields answers ends) may_end finding is.swapped is.drifts
-              → (finding.first ≡ begin) × (finding.last ≡ begin + 2 * last) × (finding.reasons ≡ 0)
+              → (finding.first ≡ begin) × (finding.last ≡ begin + 2 * last) × (finding.reasons ≡ no_reason)
           go (inl (never, e, first, end)) = absurd (never (begin + 2 * 0) (number 0) (has 0 (omega arith)))
           go (inr (m, n, ends_at, e)) =
               let (first, from, end, to) = ends_are finding.first m finding.last n ends_at in (
@@ -350,12 +336,12 @@ module _ (numbering : Numbering) (number : ℕ → ℕ) (fields : List Sightings
                     (spot (begin + 2 * last) (number last)) told_none (unswapped is.swapped is.swap).0
                     (undrifting is.drifts is.drift) (no_dark finding.blank is.blank)
                     (ap (λ x. spot x m) first ∙ ap (spot begin) (sym from))
-                    (ap (λ x. spot x n) end ∙ ap (spot (begin + 2 * last)) (sym to)) ∙ no_reason,
+                    (ap (λ x. spot x n) end ∙ ap (spot (begin + 2 * last)) (sym to)) ∙ none_said,
               )
 
       pub called_whole : finding ≡ found_whole begin (begin + 2 * last)
       called_whole =
           let (first, end, none) = said in
-          same_finding finding (tally_of numbering.clock [] 0) begin (begin + 2 * last) 0 yes 0 told_none first end
+          same_finding finding begin (begin + 2 * last) told_none first end
           (unswapped is.swapped is.swap).1 (is.padded ∙ unpadded) (no_dark finding.blank is.blank)
           (is.verdict ∙ ap verdict_of none) none

@@ -14,11 +14,9 @@ use Rattle.vbi_side.specs.Beliefs.{reach, enough}
 use Rattle.vbi_side.specs.Truth.{RunsOn, wrong_weight}
 use Rattle.vbi_side.specs.Numbers.{AreAnswers}
 use Rattle.vbi_side.specs.Side.{DiscRuns, Rises, captured, IsOneRun}
-use Rattle.vbi_whole.specs.Gaps.{IsGap}
-use Rattle.vbi_side.proofs.Truth.{video_fits, on_the_disc}
+use Rattle.vbi_whole.specs.Gaps.{IsGap, of_video}
+use Rattle.vbi_side.proofs.Truth.{video_fits, on_the_disc, near_same}
 use Rattle.vbi_side.proofs.Anchors.{marked_is, anchor}
-use Rattle.vbi_side.proofs.Truth.{near_same}
-use Rattle.vbi_whole.specs.Gaps.{of_video}
 use Rattle.vbi_whole.proofs.GapLaws.{not_on}
 
 -- in one run the disc's fields are as far apart as those of the capture

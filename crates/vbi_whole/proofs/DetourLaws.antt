@@ -1,6 +1,6 @@
 -- What detours say of a capture and its disc.
-use Rattle.std.proofs.Common.{◌≡◌, ◌≢◌, ℕ, zero, suc, ◌+◌, ◌*◌, ◌-◌, ◌<◌, ◌≤◌, Bool, true, false, List, [], ◌∷◌}
-use Rattle.std.proofs.Common.{refl, arith, ap, sym, ◌∙◌, subst, inl, inr}
+use Rattle.std.proofs.Common.{◌≡◌, ◌≢◌, ℕ, zero, suc, ◌+◌, ◌*◌, ◌-◌, ◌<◌, ◌≤◌, Bool, true, false, List, [], ◌∷◌, refl}
+use Rattle.std.proofs.Common.{arith, ap, sym, ◌∙◌, subst, inl, inr}
 use Rattle.std.specs.Prelude.{Option, Some, None, ◌&&◌, ◌||◌, ◌==◌, nat_lt, slice_get, if◌then◌else◌}
 use Rattle.std.proofs.lemmas.Bool.{and_parts, ltb-true}
 use Rattle.std.proofs.lemmas.Option.{slice_get_within}
@@ -12,16 +12,14 @@ use Rattle.vbi_side.specs.declared.sighting.Sightings.{Sightings}
 use Rattle.vbi_side.specs.Clocks.{kept, nearly_by, DiscCountsBy}
 use Rattle.vbi_whole.specs.Detours.{may_turn, is_inserted, detour_of, fields_by, turned, detoured_from, detoured}
 use Rattle.vbi_whole.specs.Detours.{IsToldAs, IsLeft, skips, repeats}
-use Rattle.vbi_whole.specs.Gaps.{back, inserted, replaced, IsGap}
+use Rattle.vbi_whole.specs.Gaps.{back, inserted, replaced, IsGap, rule_by, of_video, from_of, to_of}
 use Rattle.vbi_side.specs.Side.{Rises, captured, IsOneRun}
 use Rattle.vbi_whole.proofs.Detouring.{no_detour, a_detour, detour_kind}
 use Rattle.vbi_whole.proofs.GapLaws.{on_video, gap_is_cut}
 use Rattle.vbi_side.proofs.Sides.{apart}
 use Rattle.vbi_whole.proofs.Telling.{some_is}
 use Rattle.vbi_side.proofs.Truth.{video_fits}
-use Rattle.vbi_whole.specs.Gaps.{rule_by, of_video}
 use Rattle.vbi_whole.specs.declared.gap.Rule.{Rule}
-use Rattle.vbi_whole.specs.Gaps.{from_of, to_of}
 
 -- ---- what is told
 

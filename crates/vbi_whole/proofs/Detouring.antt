@@ -6,13 +6,11 @@ use Rattle.std.proofs.lemmas.List.{append_assoc, append-nil, length-append}
 use Rattle.vbi_whole.specs.declared.gap.Gap.{Gap}
 use Rattle.vbi_whole.specs.declared.tally.Tally.{Tally}
 use Rattle.vbi_side.specs.Clocks.{nearly_by}
-use Rattle.vbi_whole.specs.Gaps.{inserted, replaced}
-use Rattle.vbi_whole.specs.Detours.{may_turn, may_replace, is_inserted, detour_of, fields_by}
-use Rattle.vbi_whole.specs.Detours.{turned, detoured_from, detoured}
-use Rattle.vbi_whole.specs.Told.{AreTold, AreTelling}
-use Rattle.vbi_whole.specs.Told.{listed, stage}
+use Rattle.vbi_whole.specs.Gaps.{inserted, replaced, from_of, to_of}
+use Rattle.vbi_whole.specs.Detours.{may_turn, may_replace, is_inserted, detour_of, fields_by, turned, detoured_from}
+use Rattle.vbi_whole.specs.Detours.{detoured}
+use Rattle.vbi_whole.specs.Told.{AreTold, AreTelling, listed, stage}
 use Rattle.vbi_whole.specs.declared.gap.Rule.{Rule}
-use Rattle.vbi_whole.specs.Gaps.{from_of, to_of}
 
 module _ (rule : Rule) where
   -- ---- two gaps

@@ -1,9 +1,7 @@
 -- Where the numbers of a span count to each other, and where they don't.
-use Rattle.std.proofs.lemmas.Bool.{le-leb}
-use Rattle.std.proofs.Common.{◌≡◌, ℕ, suc, ◌+◌, ◌*◌, ◌<◌, ◌≤◌, true, false, List, sym, subst, arith}
-use Rattle.std.proofs.Common.{◌∙◌, inl, inr}
+use Rattle.std.proofs.lemmas.Bool.{le-leb, leb-true, and_parts, and_from}
+use Rattle.std.proofs.Common.{◌≡◌, ℕ, suc, ◌+◌, ◌*◌, ◌<◌, ◌≤◌, true, false, List, sym, subst, arith, ◌∙◌, inl, inr}
 use Rattle.std.specs.Prelude.{Option, Some, None, nat_le, ◌⊎◌}
-use Rattle.std.proofs.lemmas.Bool.{leb-true}
 use Rattle.std.proofs.lemmas.Bool.Decides.{leb_tells, eqb_tells}
 use Rattle.vbi_side.specs.declared.number.Number.{Number}
 use Rattle.vbi_side.specs.declared.pace.Pace.{Pace}
@@ -16,7 +14,6 @@ use Rattle.vbi_whole.specs.declared.gap.Rule.{Rule}
 use Rattle.vbi_whole.specs.Drifts.{leads, leads_by, RunsOn, IsDrift, IsApart, IsSpan}
 use Rattle.vbi_side.specs.Clocks.{by_clock}
 use Rattle.vbi_whole.specs.Gaps.{AreNeighbours, IsLast, goes_on}
-use Rattle.std.proofs.lemmas.Bool.{and_parts, and_from}
 use Rattle.vbi_whole.proofs.Telling.{last_new, neighbours_of}
 use Rattle.vbi_whole.proofs.GapLaws.{same_before, same_number}
 

@@ -10,10 +10,9 @@ use Rattle.vbi_side.proofs.Counting.{kept_is, out_up, out_far}
 use Rattle.vbi_side.proofs.Truth.{near_same, video_fits}
 use Rattle.vbi_whole.specs.declared.gap.Gap.{Gap}
 use Rattle.vbi_whole.specs.declared.gap.Numbering.{Numbering}
-use Rattle.vbi_whole.specs.Gaps.{lost, open_gap, gap_of, skipped}
+use Rattle.vbi_whole.specs.Gaps.{lost, open_gap, gap_of, skipped, rule_by, amid}
 use Rattle.vbi_whole.specs.Told.{lost_of, undecided_of}
 use Rattle.vbi_side.specs.Paces.{spot}
-use Rattle.vbi_whole.specs.Gaps.{rule_by, amid}
 
 pub skipped_few : (clock : Clock) (m n : ℕ) → m < n → skipped clock m n + out_between clock m n ≤ n - m - 1
 skipped_few clock m n less =

@@ -1,5 +1,5 @@
 -- What the gaps of a capture say of it.
-use Rattle.vbi_side.proofs.Truth.{near_same}
+use Rattle.vbi_side.proofs.Truth.{near_same, video_fits, film_fits}
 use Rattle.std.proofs.Common.{◌-◌, ◌≡◌, ◌≢◌, ℕ, zero, suc, ◌+◌, ◌*◌, ◌<◌, ◌≤◌, Bool, true, false, List, [], ◌∷◌, ◌++◌}
 use Rattle.std.proofs.Common.{arith, ap, sym, ◌∙◌, subst, inl, inr, length, refl}
 use Rattle.std.specs.Prelude.{Option, Some, None, ◌⊎◌, nat_le, nat_lt, if◌then◌else◌, ◌&&◌, not, ◌==◌}
@@ -10,22 +10,18 @@ use Rattle.vbi_side.specs.declared.number.Number.{Number}
 use Rattle.vbi_whole.specs.declared.gap.Gap.{Gap}
 use Rattle.vbi_side.specs.declared.pace.Pace.{Pace}
 use Rattle.vbi_side.specs.declared.pace.Pace.TheVariants.{Video, Film}
-use Rattle.vbi_side.specs.Paces.{nearly, fits, stays}
-use Rattle.vbi_side.specs.Clocks.{kept, DiscCountsBy}
+use Rattle.vbi_side.specs.Paces.{nearly, fits, stays, spot}
+use Rattle.vbi_side.specs.Clocks.{kept, DiscCountsBy, by_clock}
 use Rattle.vbi_side.specs.Numbers.{believed, IsMarked}
 use Rattle.vbi_side.specs.Side.{captured, AreLost}
 use Rattle.vbi_side.specs.declared.sighting.Sightings.{Sightings}
 use Rattle.vbi_whole.specs.declared.gap.Numbering.{Numbering}
 use Rattle.vbi_whole.specs.Gaps.{lost, held, back, still, joined, open_gap, has_stills, is_open, lacking_by, gap_as}
-use Rattle.vbi_whole.specs.Gaps.{kind_of}
-use Rattle.vbi_whole.specs.Gaps.{fields_of, ended_between, shown_between, AreNeighbours, IsGap, AreGaps}
-use Rattle.vbi_whole.specs.Gaps.{CountTo, HasRightEnds, LostAtLeast, HeldAtLeast, lacking}
+use Rattle.vbi_whole.specs.Gaps.{kind_of, fields_of, ended_between, shown_between, AreNeighbours, IsGap, AreGaps}
+use Rattle.vbi_whole.specs.Gaps.{CountTo, HasRightEnds, LostAtLeast, HeldAtLeast, lacking, Judged, amid_of, from_of}
+use Rattle.vbi_whole.specs.Gaps.{to_of, goes_on, of_video}
 use Rattle.std.proofs.lemmas.Bool.{and_parts}
-use Rattle.vbi_side.proofs.Truth.{video_fits, film_fits}
 use Rattle.vbi_whole.proofs.Telling.{gap_is, some_is}
-use Rattle.vbi_side.specs.Paces.{spot}
-use Rattle.vbi_side.specs.Clocks.{by_clock}
-use Rattle.vbi_whole.specs.Gaps.{Judged, amid_of, from_of, to_of, goes_on, of_video}
 use Rattle.vbi_whole.specs.declared.gap.Rule.{Rule}
 use Rattle.vbi_side.specs.declared.place.Place.{Place}
 

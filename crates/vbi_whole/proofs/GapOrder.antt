@@ -1,6 +1,6 @@
 -- Each gap is told, once, and in order.
-use Rattle.std.proofs.Common.{◌≡◌, ◌≢◌, ℕ, zero, suc, ◌<◌, ◌≤◌, true, false, List, [], ◌∷◌, ◌++◌}
-use Rattle.std.proofs.Common.{arith, ap, sym, ◌∙◌, subst, inl, inr, length}
+use Rattle.std.proofs.Common.{◌≡◌, ◌≢◌, ℕ, zero, suc, ◌<◌, ◌≤◌, true, false, List, [], ◌∷◌, ◌++◌, arith, ap, sym, ◌∙◌}
+use Rattle.std.proofs.Common.{subst, inl, inr, length}
 use Rattle.std.specs.Prelude.{Some, slice_get, ◌⊎◌}
 use Rattle.std.proofs.lemmas.Bool.Decides.{leb_tells, eqb_tells}
 use Rattle.std.proofs.lemmas.List.{length_push, get_or_append_left}
@@ -10,14 +10,11 @@ use Rattle.std.proofs.lemmas.Option.{slice_get-get_or, slice_get_within, get_or_
 use Rattle.vbi_whole.specs.declared.gap.Gap.{Gap}
 use Rattle.vbi_side.specs.Clocks.{nearly_by}
 use Rattle.vbi_side.specs.Numbers.{IsMarked}
-use Rattle.vbi_whole.specs.Gaps.{gap_of, gap_as}
-use Rattle.vbi_whole.specs.Gaps.{kind_of}
-use Rattle.vbi_whole.specs.Gaps.{ended_between, shown_between, AreNeighbours, IsFree, IsGap, AreGaps}
+use Rattle.vbi_whole.specs.Gaps.{gap_of, gap_as, kind_of, ended_between, shown_between, AreNeighbours, IsFree, IsGap}
+use Rattle.vbi_whole.specs.Gaps.{AreGaps, Judged, amid_of, from_of}
 use Rattle.vbi_whole.proofs.Telling.{some_is, pushed, moved}
 use Rattle.vbi_whole.proofs.GapLaws.{same_before, same_number, none_found}
 use Rattle.vbi_side.specs.Paces.{spot}
-use Rattle.vbi_whole.specs.Gaps.{Judged, amid_of}
-use Rattle.vbi_whole.specs.Gaps.{from_of}
 
 -- what is in the list is a gap that ends before field k
 pub each_gap : (judged : Judged) (k : ℕ) (gaps : List Gap) (unread : ℕ)

@@ -1,6 +1,6 @@
 -- What is told to be lost is lost, if the numbers at the ends of what is told so are right.
-use Rattle.std.proofs.Common.{◌≡◌, ◌≢◌, ℕ, suc, ◌+◌, ◌-◌, ◌<◌, ◌≤◌, true, false, List, [], ◌∷◌}
-use Rattle.std.proofs.Common.{refl, arith, ap, sym, ◌∙◌, subst, inl, inr}
+use Rattle.std.proofs.Common.{◌≡◌, ◌≢◌, ℕ, suc, ◌+◌, ◌-◌, ◌<◌, ◌≤◌, true, false, List, [], ◌∷◌, refl, arith, ap, sym}
+use Rattle.std.proofs.Common.{◌∙◌, subst, inl, inr}
 use Rattle.std.specs.Prelude.{Option, Some, ◌⊎◌, ◌==◌, slice_get, sum_by, if◌then◌else◌}
 use Rattle.std.proofs.lemmas.Bool.Decides.{leb_tells, eqb_tells}
 use Rattle.std.proofs.lemmas.List.Sums.{sum_by-cons}
@@ -8,7 +8,7 @@ use Rattle.std.proofs.Math.Dec.{eqb}
 use Rattle.vbi_whole.specs.declared.gap.Gap.{Gap}
 use Rattle.vbi_side.specs.Clocks.{DiscCountsBy}
 use Rattle.vbi_whole.specs.Detours.{detoured, turned, IsToldAs}
-use Rattle.vbi_whole.specs.Gaps.{lost, inserted, replaced, IsGap, AreGaps, HasRightEnds, LostAtLeast}
+use Rattle.vbi_whole.specs.Gaps.{lost, inserted, replaced, IsGap, AreGaps, HasRightEnds, LostAtLeast, Judged}
 use Rattle.vbi_side.specs.Numbers.{IsMarked}
 use Rattle.vbi_side.specs.Side.{Rises, captured, AreEnds}
 use Rattle.vbi_whole.specs.Told.{fields_if}
@@ -17,7 +17,6 @@ use Rattle.vbi_whole.proofs.DetourLaws.{each_told}
 use Rattle.vbi_whole.proofs.GapLaws.{gap_least}
 use Rattle.vbi_whole.proofs.GapOrder.{each_gap, gaps_ordered}
 use Rattle.vbi_side.proofs.Sides.{apart}
-use Rattle.vbi_whole.specs.Gaps.{Judged}
 
 -- ---- gaps one after the other
 

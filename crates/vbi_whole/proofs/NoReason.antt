@@ -15,7 +15,6 @@ use Rattle.vbi_side.specs.Ends.{lead_out}
 use Rattle.vbi_side.specs.Sightings.{Shows}
 use Rattle.vbi_side.specs.declared.place.Place.{Place}
 use Rattle.vbi_whole.specs.Swaps.{is_stray, shows_off}
-use Rattle.vbi_whole.specs.Verdicts.{reason}
 
 -- ---- tests and lists
 
@@ -38,10 +37,6 @@ more_not_le a b lt = elim (leb_tells a b) [
   | inl (t, le) ↦ absurd (omega (arith, le, lt))
   | inr (f, other) ↦ f
 ]
-
-pub unsaid : (bit : ℕ) (holds : Bool) → holds ≡ false → reason bit holds ≡ 0
-unsaid bit true e = absurd (false_true (sym e))
-unsaid bit false e = refl
 
 pub none_counted : {A : Type 0} (test : A → Bool) (xs : List A)
     → ((i : ℕ) (x : A) → slice_get xs i ≡ Some x → test x ≡ false) → count_by test xs ≡ 0

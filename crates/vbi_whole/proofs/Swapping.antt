@@ -1,6 +1,6 @@
 -- Where a swap is found, and where none is.
-use Rattle.std.proofs.Common.{◌≡◌, ℕ, ◌+◌, ◌*◌, true, false, List, sym, subst, arith, ◌∙◌}
-use Rattle.std.proofs.Common.{eq-eqb, ap, ◌<◌, ◌≤◌, inl, inr}
+use Rattle.std.proofs.Common.{◌≡◌, ℕ, ◌+◌, ◌*◌, true, false, List, sym, subst, arith, ◌∙◌, eq-eqb, ap, ◌<◌, ◌≤◌, inl}
+use Rattle.std.proofs.Common.{inr}
 use Rattle.std.specs.Prelude.{Option, Some, None, IfSome, slice_get}
 use Rattle.std.proofs.lemmas.Bool.Decides.{eqb_tells}
 use Rattle.vbi_side.specs.declared.number.Number.{Number}
@@ -13,10 +13,9 @@ use Rattle.vbi_side.specs.Numbers.{IsMarked}
 use Rattle.vbi_side.specs.Paces.{spot}
 use Rattle.vbi_whole.specs.Gaps.{AreNeighbours, IsLast}
 use Rattle.vbi_whole.specs.Swaps.{is_stray, IsSwap, IsFirstStray}
-use Rattle.vbi_side.proofs.Truth.{video_fits}
+use Rattle.vbi_side.proofs.Truth.{video_fits, near_same}
 use Rattle.vbi_whole.proofs.Telling.{neighbours_of}
 use Rattle.vbi_whole.proofs.GapLaws.{same_before, same_number, on_video}
-use Rattle.vbi_side.proofs.Truth.{near_same}
 
 -- where a number and the one before it don't go on, no swap lies between
 pub none_between : (clock : Clock) (seen : List Sightings) (answers : List Number) (k n : ℕ) (place : Place)

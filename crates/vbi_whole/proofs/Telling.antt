@@ -1,6 +1,6 @@
 -- How the gaps of a capture are told, field by field.
-use Rattle.std.proofs.Common.{◌≡◌, ◌≢◌, ℕ, zero, suc, ◌+◌, ◌<◌, ◌≤◌, Bool, true, false, List, [], ◌∷◌, ◌++◌}
-use Rattle.std.proofs.Common.{refl, arith, ap, sym, ◌∙◌, subst, inl, inr, get_or, length}
+use Rattle.std.proofs.Common.{◌≡◌, ◌≢◌, ℕ, zero, suc, ◌+◌, ◌<◌, ◌≤◌, Bool, true, false, List, [], ◌∷◌, ◌++◌, refl}
+use Rattle.std.proofs.Common.{arith, ap, sym, ◌∙◌, subst, inl, inr, get_or, length}
 use Rattle.std.specs.Prelude.{Some, None, slice_get, slice_set, ◌⊎◌, nat_le, sum_by, if◌then◌else◌, unwrap_or}
 use Rattle.std.proofs.lemmas.Bool.Decides.{leb_tells}
 use Rattle.std.proofs.lemmas.List.{length-set, length_push, get_or_append_left, get_or-set_other, get_or-set_same}
@@ -16,13 +16,11 @@ use Rattle.vbi_side.specs.declared.clock.Clock.{Clock}
 use Rattle.vbi_side.specs.Numbers.{believed, IsMarked}
 use Rattle.vbi_whole.specs.Told.{capped, one_if, one_if_open, fields_if, lost_of, undecided_of, still_end_of}
 use Rattle.vbi_whole.specs.Told.{begins_still, last_still, stills_of, tally_of, with_gap, AreWritten, AreTold}
-use Rattle.vbi_whole.specs.Told.{AreTelling, IsTelling}
+use Rattle.vbi_whole.specs.Told.{AreTelling, IsTelling, listed, Stage}
 use Rattle.vbi_whole.proofs.Detouring.{settled_few}
-use Rattle.vbi_whole.specs.Gaps.{lost, held, back, still, joined, inserted, gap_of, gap_as, kind_of, since_end}
-use Rattle.vbi_whole.specs.Gaps.{is_end}
-use Rattle.vbi_whole.specs.Gaps.{AreNeighbours, IsFree, IsGap, AreGaps, IsLast, skipped}
-use Rattle.vbi_whole.specs.Gaps.{Judged, amid_of, from_of, to_of, goes_on}
-use Rattle.vbi_whole.specs.Told.{listed, Stage}
+use Rattle.vbi_whole.specs.Gaps.{lost, held, back, still, joined, inserted, gap_of, gap_as, kind_of, since_end, is_end}
+use Rattle.vbi_whole.specs.Gaps.{AreNeighbours, IsFree, IsGap, AreGaps, IsLast, skipped, Judged, amid_of, from_of}
+use Rattle.vbi_whole.specs.Gaps.{to_of, goes_on}
 use Rattle.vbi_whole.specs.declared.gap.Rule.{Rule}
 use Rattle.vbi_whole.specs.declared.gap.Amid.{Amid}
 use Rattle.vbi_side.specs.Paces.{spot}

@@ -1,6 +1,6 @@
 -- What the verdict of a capture says of it.
-use Rattle.std.proofs.Common.{◌≡◌, ◌≢◌, ℕ, ◌+◌, ◌*◌, ◌-◌, ◌<◌, ◌≤◌, Bool, true, false, List}
-use Rattle.std.proofs.Common.{refl, arith, ap, sym, subst, ◌∙◌, inl, inr, length}
+use Rattle.std.proofs.Common.{◌≡◌, ◌≢◌, ℕ, ◌+◌, ◌*◌, ◌-◌, ◌<◌, ◌≤◌, Bool, true, false, List, refl, arith, ap, sym}
+use Rattle.std.proofs.Common.{subst, ◌∙◌, inl, inr, length}
 use Rattle.std.specs.Prelude.{Option, Some, slice_get, ◌⊎◌, nat_le, nat_lt, ◌==◌, ◌&&◌, ◌||◌, not, sum_by}
 use Rattle.std.specs.Prelude.{if◌then◌else◌}
 use Rattle.std.proofs.lemmas.Bool.Decides.{leb_tells, eqb_tells}
@@ -10,8 +10,10 @@ use Rattle.vbi_side.specs.declared.sighting.Sightings.{Sightings}
 use Rattle.vbi_whole.specs.declared.gap.Gap.{Gap}
 use Rattle.vbi_whole.specs.declared.tally.Tally.{Tally}
 use Rattle.vbi_whole.specs.declared.verdict.Finding.{Finding}
+use Rattle.vbi_whole.specs.declared.verdict.Reasons.{Reasons}
+use Rattle.vbi_whole.specs.declared.verdict.Verdict.TheVariants.{Yes, CannotTell}
 use Rattle.vbi_side.specs.declared.pace.Pace.TheVariants.{Video, Film}
-use Rattle.vbi_side.specs.Paces.{nearly}
+use Rattle.vbi_side.specs.Paces.{nearly, spot}
 use Rattle.vbi_side.specs.declared.clock.Clock.{Clock}
 use Rattle.vbi_side.specs.declared.clock.Clock.TheVariants.{Plain}
 use Rattle.vbi_side.specs.Clocks.{kept, out_near, DiscCountsBy, DiscNearlyBy, IsClear, IsClearAt}
@@ -22,10 +24,9 @@ use Rattle.vbi_side.specs.Truth.{IsNear, wrong_weight}
 use Rattle.vbi_side.specs.Numbers.{believed, AreAnswers, IsMarked}
 use Rattle.vbi_side.specs.Side.{DiscRuns, DiscCounts, Rises, captured, NoneLost, AreLost, AreEnds, IsAnchor}
 use Rattle.vbi_whole.specs.declared.gap.Numbering.{Numbering}
-use Rattle.vbi_whole.specs.Gaps.{lost, HasRightEnds, LostAtLeast}
+use Rattle.vbi_whole.specs.Gaps.{lost, HasRightEnds, LostAtLeast, to_judge, Judged, rule_by, goes_on, of_video}
 use Rattle.vbi_whole.specs.Told.{fields_if, capped}
-use Rattle.vbi_whole.specs.Verdicts.{yes, no, cannot_tell, verdict_of, reason, is_off, HasNone, AreReasons}
-use Rattle.vbi_whole.specs.Verdicts.{IsFinding, is_seen}
+use Rattle.vbi_whole.specs.Verdicts.{verdict_of, is_off, HasNone, AreReasons, IsFinding}
 use Rattle.std.proofs.lemmas.Bool.{and_parts}
 use Rattle.vbi_side.proofs.Truth.{video_fits, film_fits}
 use Rattle.vbi_side.proofs.Filling.{answer_believed}
@@ -33,25 +34,25 @@ use Rattle.vbi_side.proofs.Sides.{apart, near_one, alone_of, none_lost, lost_bet
 use Rattle.vbi_side.proofs.Anchors.{anchor}
 use Rattle.vbi_whole.proofs.LostFields.{told_lost}
 use Rattle.vbi_whole.specs.Detours.{detoured}
-use Rattle.vbi_side.specs.Paces.{spot}
-use Rattle.vbi_whole.specs.Gaps.{to_judge, Judged, rule_by, goes_on, of_video}
 
 -- ---- the verdict
 
--- yes leaves no reason
-yes_none : (reasons : ℕ) → verdict_of reasons ≡ yes → reasons ≡ 0
-yes_none reasons = go (eqb_tells reasons 0) (is_seen reasons)
-  where
-    go : ((eqb reasons 0 ≡ true) × (reasons ≡ 0)) ⊎ ((eqb reasons 0 ≡ false) × (reasons ≢ 0)) → (b : Bool)
-        → (if eqb reasons 0 then yes else (if b then no else cannot_tell)) ≡ yes → reasons ≡ 0
-    go (inl (t, e)) b v = e
-    go (inr (f, other)) true v = let h : no ≡ yes = rw f at v in absurd (omega (arith, h))
-    go (inr (f, other)) false v = let h : cannot_tell ≡ yes = rw f at v in absurd (omega (arith, h))
+-- yes leaves none of these reasons
+record AreNone (reasons : Reasons) : Type 0 where
+  numbers : reasons.no_numbers ≡ false
+  off : reasons.is_off ≡ false
+  gaps : reasons.is_open ≡ false
+  inserted : reasons.is_inserted ≡ false
+  blank : reasons.is_blank ≡ false
 
--- a reason that isn't there doesn't hold
-unheld : (bit : ℕ) (b : Bool) → 0 < bit → reason bit b ≡ 0 → b ≡ false
-unheld bit true some e = absurd (omega (arith, some, e))
-unheld bit false some e = refl
+yes_none : (reasons : Reasons) → verdict_of reasons ≡ Yes → AreNone reasons
+yes_none reasons whole = record {
+  numbers = grind (arith);
+  off = grind (arith);
+  gaps = grind (arith);
+  inserted = grind (arith);
+  blank = grind (arith);
+}
 
 -- nothing is counted
 none_there : (count : ℕ) → nat_lt 0 count ≡ false → count ≡ 0
@@ -80,18 +81,18 @@ is_near gaps false none e = elim (leb_tells 1 gaps) [
 
 -- the ends of a capture that is said to be whole
 yes_near : (judged : Judged) (may_end : Bool) (finding : Finding) (old new : List Gap)
-    → IsFinding judged may_end finding old new → finding.verdict ≡ yes
+    → IsFinding judged may_end finding old new → finding.verdict ≡ Yes
     → (m n : ℕ) × AreEnds judged.numbers finding.first m finding.last n
     × (goes_on judged.rule (spot (finding.first + finding.tally.stood) m) (spot finding.last n) ≡ true)
 yes_near judged may_end finding old new is verdict = go is.reasons
   where
-    none : finding.reasons ≡ 0
+    none : AreNone finding.reasons
     none = yes_none finding.reasons (sym is.verdict ∙ verdict)
 
     go : AreReasons judged may_end finding is.swapped is.drifts
         → (m n : ℕ) × AreEnds judged.numbers finding.first m finding.last n
         × (goes_on judged.rule (spot (finding.first + finding.tally.stood) m) (spot finding.last n) ≡ true)
-    go (inl (never, e, first, last)) = absurd (omega (arith, none, e))
+    go (inl (never, e, first, last)) = absurd (let h = none.numbers in cc)
     go (inr (m, n, are, e)) =
         let first = finding.first in
         let last = finding.last in
@@ -99,10 +100,9 @@ yes_near judged may_end finding old new is verdict = go is.reasons
         let from = kept judged.rule.numbering.clock m in
         let to = kept judged.rule.numbering.clock n in
         let off_here = is.drifts || is_off judged.rule tally (spot first from) (spot last to) in
-        -- each reason is one of a sum that is 0
-        let open_none = unheld 2048 (nat_lt 0 tally.open_gaps) (omega arith) (omega (arith, e, none)) in
-        let off = unheld 64 off_here (omega arith) (omega (arith, e, none)) in
-        let away = unheld 4096 (nat_lt 0 tally.inserted) (omega arith) (omega (arith, e, none)) in
+        let open_none : nat_lt 0 tally.open_gaps ≡ false = ap (λ (r : Reasons). r.is_open) (sym e) ∙ none.gaps in
+        let off : off_here ≡ false = ap (λ (r : Reasons). r.is_off) (sym e) ∙ none.off in
+        let away : nat_lt 0 tally.inserted ≡ false = ap (λ (r : Reasons). r.is_inserted) (sym e) ∙ none.inserted in
         let here = none_there tally.inserted away in
         let near = is_near tally.open_gaps
         (nearly judged.rule.pace judged.rule.slack (spot (first + tally.stood + tally.inserted) from)
@@ -130,7 +130,7 @@ within slack i m j n e =
 
 pub yes_ends : (numbering : Numbering) (may_end : Bool) (seen : List Sightings) (answers : List Number) (ends : List ℕ)
     (finding : Finding) (old new : List Gap)
-    → IsFinding (of_video numbering seen answers ends) may_end finding old new → finding.verdict ≡ yes
+    → IsFinding (of_video numbering seen answers ends) may_end finding old new → finding.verdict ≡ Yes
     → (m n : ℕ) × AreEnds answers finding.first m finding.last n
     × (finding.last + 2 * kept numbering.clock m ≡ finding.first + finding.tally.stood + 2 * kept numbering.clock n)
 yes_ends numbering may_end seen answers ends finding old new is verdict =
@@ -164,7 +164,7 @@ pub whole_clock : (disc : ℕ → Option ℕ) (place : ℕ → ℕ) (fields : Li
     (old new : List Gap) → DiscCountsBy numbering.clock Video disc → Rises place
     → AreAnswers Video fields answers
     → IsFinding (of_video numbering seen answers ends) may_end finding old new
-    → finding.verdict ≡ yes
+    → finding.verdict ≡ Yes
     → wrong_weight (captured disc place) fields finding.first < enough
     → wrong_weight (captured disc place) fields finding.last < enough
     → IsClearAt numbering.clock answers finding.first → IsClearAt numbering.clock answers finding.last
@@ -183,7 +183,7 @@ pub whole_yes : (disc : ℕ → Option ℕ) (place : ℕ → ℕ) (fields : List
     (old new : List Gap) → numbering.clock ≡ Plain → DiscRuns Video disc → Rises place
     → AreAnswers Video fields answers
     → IsFinding (of_video numbering seen answers ends) may_end finding old new
-    → finding.verdict ≡ yes
+    → finding.verdict ≡ Yes
     → wrong_weight (captured disc place) fields finding.first < enough
     → wrong_weight (captured disc place) fields finding.last < enough → finding.first + 2 * reach ≤ finding.last
     → NoneLost place (finding.first + reach) (finding.last - reach)
@@ -198,7 +198,7 @@ pub yes_of_both : (slack : ℕ) (disc : ℕ → Option ℕ) (place : ℕ → ℕ
     (old new : List Gap) → slack ≤ 1 → DiscNearlyBy numbering.clock slack disc → Rises place
     → AreAnswers Video fields answers
     → IsFinding (to_judge (rule_by Video slack numbering) seen answers ends) may_end finding old new
-    → finding.verdict ≡ yes
+    → finding.verdict ≡ Yes
     → wrong_weight (captured disc place) fields finding.first < enough
     → wrong_weight (captured disc place) fields finding.last < enough
     → IsClearAt numbering.clock answers finding.first → IsClearAt numbering.clock answers finding.last
@@ -226,7 +226,7 @@ pub yes_of_film : (disc : ℕ → Option ℕ) (place : ℕ → ℕ) (fields : Li
     (old new : List Gap) → DiscCountsBy numbering.clock Film disc → Rises place
     → AreAnswers Film fields answers
     → IsFinding (to_judge (rule_by Film slack numbering) seen answers ends) may_end finding old new
-    → finding.verdict ≡ yes
+    → finding.verdict ≡ Yes
     → wrong_weight (captured disc place) fields finding.first < enough
     → wrong_weight (captured disc place) fields finding.last < enough
     → IsClearAt numbering.clock answers finding.first → IsClearAt numbering.clock answers finding.last
@@ -265,7 +265,7 @@ pub yes_anywhere : (disc : ℕ → Option ℕ) (place : ℕ → ℕ) (fields : L
     (old new : List Gap) → DiscCountsBy numbering.clock Video disc → Rises place
     → AreAnswers Video fields answers
     → IsFinding (of_video numbering seen answers ends) may_end finding old new
-    → finding.verdict ≡ yes
+    → finding.verdict ≡ Yes
     → wrong_weight (captured disc place) fields finding.first < enough
     → wrong_weight (captured disc place) fields finding.last < enough → finding.first + 2 * reach ≤ finding.last
     → (m n p q some : ℕ) × IsMarked answers finding.first m × IsMarked answers finding.last n
@@ -306,7 +306,7 @@ pub plain_of_both : (slack : ℕ) (disc : ℕ → Option ℕ) (place : ℕ → �
     (finding : Finding) (old new : List Gap) → slack ≤ 1 → numbering.clock ≡ Plain → DiscCounts slack disc
     → Rises place → AreAnswers Video fields answers
     → IsFinding (to_judge (rule_by Video slack numbering) seen answers ends) may_end finding old new → finding.verdict
-    ≡ yes
+    ≡ Yes
     → wrong_weight (captured disc place) fields finding.first < enough
     → wrong_weight (captured disc place) fields finding.last < enough → finding.first + 2 * reach ≤ finding.last
     → (p q some : ℕ) × IsNear finding.first p × IsNear finding.last q × AreLost place p q some × (some ≤ 2 * slack)
@@ -321,7 +321,7 @@ pub plain_of_film : (disc : ℕ → Option ℕ) (place : ℕ → ℕ) (fields : 
     (old new : List Gap) → numbering.clock ≡ Plain → DiscRuns Film disc → Rises place
     → AreAnswers Film fields answers
     → IsFinding (to_judge (rule_by Film slack numbering) seen answers ends) may_end finding old new
-    → finding.verdict ≡ yes
+    → finding.verdict ≡ Yes
     → wrong_weight (captured disc place) fields finding.first < enough
     → wrong_weight (captured disc place) fields finding.last < enough → finding.first + 2 * reach ≤ finding.last
     → (p q some : ℕ) × IsNear finding.first p × IsNear finding.last q × AreLost place p q some × (some ≤ 4)
@@ -333,17 +333,16 @@ plain_of_film disc place fields answers slack numbering may_end seen ends findin
 
 pub blank_not_yes : (judged : Judged) (may_end : Bool) (finding : Finding) (old new : List Gap)
     → IsFinding judged may_end finding old new → (i : ℕ)
-    → IsBlank judged.rule judged.numbers i → finding.verdict ≢ yes
+    → IsBlank judged.rule judged.numbers i → finding.verdict ≢ Yes
 blank_not_yes judged may_end finding old new is i blank whole = go is.reasons
   where
-    none : finding.reasons ≡ 0
+    none : AreNone finding.reasons
     none = yes_none finding.reasons (sym is.verdict ∙ whole)
 
     go : AreReasons judged may_end finding is.swapped is.drifts → ⊥
-    go (inl (never, e, first, last)) = absurd (omega (arith, none, e))
+    go (inl (never, e, first, last)) = absurd (let h = none.numbers in cc)
     go (inr (m, n, are, e)) =
-        let zero = none_there finding.blank (unheld 16384 (nat_lt 0 finding.blank) (omega arith)
-        (omega (arith, e, none))) in
+        let zero = none_there finding.blank (ap (λ (r : Reasons). r.is_blank) (sym e) ∙ none.blank) in
         subst (IsBlankTold judged.rule judged.numbers) zero is.blank i blank
 
 -- ---- no
@@ -373,10 +372,10 @@ whole_lost judged may_end disc place finding old new runs rises is right some = 
 
 pub none_known : (judged : Judged) (may_end : Bool) (finding : Finding)
     (old new : List Gap) → IsFinding judged may_end finding old new → HasNone judged.numbers
-    → finding.verdict ≡ cannot_tell
+    → finding.verdict ≡ CannotTell
 none_known judged may_end finding old new is never = go is.reasons
   where
     go : AreReasons judged may_end finding is.swapped is.drifts
-        → finding.verdict ≡ cannot_tell
+        → finding.verdict ≡ CannotTell
     go (inl (always, e, first, last)) = is.verdict ∙ ap verdict_of e
     go (inr (m, n, are, e)) = absurd (never finding.first m are.begins)

@@ -1,14 +1,14 @@
 -- Pictures that are all read: what is answered of them, and that they are whole.
-use Rattle.std.proofs.Common.{◌≡◌, ℕ, zero, suc, ◌+◌, ◌*◌, ◌<◌, ◌≤◌, Bool, true, false}
-use Rattle.std.proofs.Common.{List, [], refl, sym, ap, subst, arith, inl, inr, ◌∙◌}
+use Rattle.std.proofs.Common.{◌≡◌, ℕ, zero, suc, ◌+◌, ◌*◌, ◌<◌, ◌≤◌, Bool, true, false, List, [], refl, sym, ap, subst}
+use Rattle.std.proofs.Common.{arith, inl, inr, ◌∙◌}
 use Rattle.std.specs.Prelude.{Some, slice_get, ◌⊎◌, nat_le, ◌&&◌}
-use Rattle.std.proofs.lemmas.Bool.{leb-true}
+use Rattle.std.proofs.lemmas.Bool.{leb-true, and_parts}
 use Rattle.std.proofs.lemmas.Bool.Decides.{eqb_tells, leb_tells}
 use Rattle.vbi_side.specs.declared.number.Number.{Number}
 use Rattle.vbi_whole.specs.declared.gap.Numbering.{Numbering}
 use Rattle.vbi_side.specs.declared.pace.Pace.TheVariants.{Video}
 use Rattle.vbi_side.specs.Sightings.{Shows}
-use Rattle.vbi_side.specs.Paces.{nearly}
+use Rattle.vbi_side.specs.Paces.{nearly, spot}
 use Rattle.vbi_side.specs.declared.clock.Clock.{Clock}
 use Rattle.vbi_side.specs.Clocks.{kept}
 use Rattle.vbi_side.specs.Beliefs.{enough, weight_below, support_of, Believed}
@@ -16,20 +16,16 @@ use Rattle.vbi_side.specs.Truth.{wrong_weight, video_disc}
 use Rattle.vbi_side.specs.Numbers.{believed, nothing, IsMarked, AreAnswers}
 use Rattle.vbi_side.specs.DueNumbers.{IsLeft}
 use Rattle.vbi_side.specs.Side.{AreEnds}
-use Rattle.vbi_whole.specs.Gaps.{AreNeighbours, AreGaps}
+use Rattle.vbi_whole.specs.Gaps.{AreNeighbours, AreGaps, of_video, rule_by}
 use Rattle.vbi_whole.specs.Swaps.{IsSwap, is_stray}
 use Rattle.vbi_whole.specs.Drifts.{IsDrift}
 use Rattle.vbi_side.specs.Worked.{field_of, blank}
 use Rattle.vbi_whole.specs.WorkedSides.{pictures_from, answers_from, worked_side, worked_answers}
-use Rattle.std.proofs.lemmas.Bool.{and_parts}
-use Rattle.vbi_side.proofs.Truth.{complete}
+use Rattle.vbi_side.proofs.Truth.{complete, near_same}
 use Rattle.vbi_side.proofs.Worked.{none_shown}
 use Rattle.vbi_side.proofs.Discs.{video_runs, video_has}
 use Rattle.vbi_side.proofs.Whole.{none_misread}
-use Rattle.vbi_side.proofs.Truth.{near_same}
 use Rattle.vbi_whole.proofs.Telling.{some_is}
-use Rattle.vbi_side.specs.Paces.{spot}
-use Rattle.vbi_whole.specs.Gaps.{of_video, rule_by}
 
 -- ---- what the fields show
 

@@ -8,8 +8,7 @@ use Rattle.vbi_side.specs.declared.pace.Pace.{Pace}
 use Rattle.vbi_side.specs.declared.pace.Pace.TheVariants.{Video, Film}
 use Rattle.vbi_side.specs.Clocks.{kept}
 use Rattle.vbi_whole.specs.declared.gap.Rule.{Rule}
-use Rattle.vbi_whole.specs.Gaps.{lost, held, back, still, open_gap, inserted, replaced, goes_on, from_of}
-use Rattle.vbi_whole.specs.Gaps.{to_of}
+use Rattle.vbi_whole.specs.Gaps.{lost, held, back, still, open_gap, inserted, replaced, goes_on, from_of, to_of}
 
 -- a gap of this kind may be one of a detour
 abbrev pub may_turn : ℕ → Bool

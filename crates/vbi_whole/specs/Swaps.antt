@@ -8,11 +8,10 @@ use Rattle.vbi_side.specs.declared.pace.Pace.TheVariants.{Video}
 use Rattle.vbi_side.specs.declared.place.Place.{Place}
 use Rattle.vbi_side.specs.declared.sighting.Sighting.{Sighting}
 use Rattle.vbi_side.specs.declared.sighting.Sightings.{Sightings}
-use Rattle.vbi_side.specs.Clocks.{clock_fits}
+use Rattle.vbi_side.specs.Clocks.{clock_fits, by_clock}
 use Rattle.vbi_side.specs.Paces.{spot}
 use Rattle.vbi_whole.specs.declared.gap.Rule.{Rule}
 use Rattle.vbi_whole.specs.declared.swaps.Search.{Search}
-use Rattle.vbi_side.specs.Clocks.{by_clock}
 use Rattle.vbi_whole.specs.Gaps.{AreNeighbours}
 
 -- place b stands one field before or after the place that place a leaves for its number

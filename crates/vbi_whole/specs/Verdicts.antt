@@ -1,11 +1,14 @@
 -- Whether a capture of a side is whole: yes, no, or it can't be told, with the reasons.
-use Rattle.std.specs.Prelude.{◌≡◌, ℕ, ◌+◌, ◌*◌, ◌-◌, ◌/◌, ◌%◌, ◌==◌, nat_lt, nat_le, not, ◌&&◌, ◌||◌, ◌⊎◌, Bool}
+use Rattle.std.specs.Prelude.{◌≡◌, ℕ, ◌+◌, ◌*◌, ◌-◌, ◌==◌, nat_lt, nat_le, not, ◌&&◌, ◌||◌, ◌⊎◌, Bool, false, true}
 use Rattle.std.specs.Prelude.{if◌then◌else◌, List, [], length, count_by, drop}
 use Rattle.vbi_side.specs.declared.number.Number.{Number}
 use Rattle.vbi_whole.specs.declared.gap.Gap.{Gap}
 use Rattle.vbi_whole.specs.declared.tally.Tally.{Tally}
 use Rattle.vbi_whole.specs.declared.verdict.Finding.{Finding}
 use Rattle.vbi_whole.specs.declared.verdict.Found.{Found}
+use Rattle.vbi_whole.specs.declared.verdict.Reasons.{Reasons}
+use Rattle.vbi_whole.specs.declared.verdict.Verdict.{Verdict}
+use Rattle.vbi_whole.specs.declared.verdict.Verdict.TheVariants.{Yes, No, CannotTell}
 use Rattle.vbi_side.specs.declared.pace.Pace.{Pace}
 use Rattle.vbi_side.specs.declared.pace.Pace.TheVariants.{Video, Film}
 use Rattle.vbi_side.specs.declared.place.Place.{Place}
@@ -22,38 +25,46 @@ use Rattle.vbi_whole.specs.Swaps.{IsSwapTold}
 use Rattle.vbi_whole.specs.Drifts.{IsDriftTold}
 use Rattle.vbi_whole.specs.declared.gap.Rule.{Rule}
 
--- the verdicts
-abbrev pub cannot_tell : ℕ
-cannot_tell = 0
+-- nothing speaks against a capture
+abbrev pub no_reason : Reasons
+no_reason = record {
+  is_lost = false;
+  is_held = false;
+  goes_back = false;
+  is_joined = false;
+  begins_late = false;
+  is_swapped = false;
+  is_off = false;
+  no_numbers = false;
+  end_unseen = false;
+  begin_unseen = false;
+  many_doubtful = false;
+  is_open = false;
+  is_inserted = false;
+  is_padded = false;
+  is_blank = false;
+}
 
-abbrev pub yes : ℕ
-yes = 1
+-- one of these reasons is seen on the capture itself
+abbrev pub are_seen : Reasons → Bool
+are_seen reasons =
+    reasons.is_lost || reasons.is_held || reasons.goes_back || reasons.is_joined || reasons.begins_late
+    || reasons.is_swapped || reasons.is_inserted || reasons.is_padded
 
-abbrev pub no : ℕ
-no = 2
+-- one of these reasons leaves it open whether the capture is whole
+abbrev pub leave_open : Reasons → Bool
+leave_open reasons =
+    reasons.is_off || reasons.no_numbers || reasons.end_unseen || reasons.begin_unseen || reasons.many_doubtful
+    || reasons.is_open || reasons.is_blank
 
--- one of the first six is among these reasons, or one of 4096 and 8192: those that are seen on the capture
-abbrev pub is_seen : ℕ → Bool
-is_seen reasons = nat_lt 0 (reasons % 64) || nat_lt 0 ((reasons / 4096) % 4)
-
--- the verdict that reasons leave: yes if there is none, no if one is seen on the capture, else it can't be told
-abbrev pub verdict_of : ℕ → ℕ
-verdict_of reasons = if reasons == 0 then yes else (if is_seen reasons then no else cannot_tell)
-
--- a reason, if it holds
-abbrev pub reason : ℕ → Bool → ℕ
-reason bit holds = if holds then bit else 0
+-- the verdict that reasons leave: no if one is seen on the capture, yes if there is none, else it can't be told
+abbrev pub verdict_of : Reasons → Verdict
+verdict_of reasons = if are_seen reasons then No else (if leave_open reasons then CannotTell else Yes)
 
 -- this many fields are fewer than the numbers before number m take, if 1 is the first; of film by more than a field
 abbrev pub too_few : Pace → ℕ → ℕ → Bool
 too_few Video fields m = nat_lt fields (2 * (m - 1))
 too_few Film fields m = nat_lt (2 * fields + 2) (5 * (m - 1))
-
--- fields are lost; too many are there; the numbers go back; another side begins; the capture begins late
-abbrev pub seen_reasons : Pace → List ℕ → Tally → Place → ℕ
-seen_reasons pace ends tally first =
-    reason 1 (nat_lt 0 tally.lost) + reason 2 (nat_lt 0 tally.held) + reason 4 (nat_lt 0 tally.back)
-    + reason 8 (nat_lt 0 tally.joined) + reason 16 (too_few pace (since_end ends first.field) first.number)
 
 -- no gap is open, and the first and the last number don't count to each other, less the fields for which the player
 -- stood still, and those that detours insert
@@ -89,18 +100,28 @@ padded_in ends = count_by (λ e. e == padding) ends
 
 -- all reasons against a capture of which this is found; how far its first and its last number are from each other and
 -- from the disc's beginning is counted by the clock
-abbrev pub reasons_of : Judged → Bool → Found → ℕ
+abbrev pub reasons_of : Judged → Bool → Found → Reasons
 reasons_of judged may_end found =
-    let rule = judged.rule in
-    let first = by_clock rule.numbering.clock found.first in
-    let last = by_clock rule.numbering.clock found.last in
-    seen_reasons rule.pace judged.ends found.tally first + reason 32 found.swap.is_seen
-    + reason 64 (found.drifts || is_off rule found.tally first last)
-    + reason 256 (is_end_unseen may_end judged.ends found.last.field)
-    + reason 512 (is_begin_unseen judged.ends found.first)
-    + reason 1024 (are_doubtful judged.numbers) + reason 2048 (nat_lt 0 found.tally.open_gaps)
-    + reason 4096 (nat_lt 0 found.tally.inserted) + reason 8192 (nat_lt 0 (padded_in judged.ends))
-    + reason 16384 (nat_lt 0 found.blank)
+    let tally = found.tally in
+    let first = by_clock judged.rule.numbering.clock found.first in
+    let last = by_clock judged.rule.numbering.clock found.last in
+    record {
+      is_lost = nat_lt 0 tally.lost;
+      is_held = nat_lt 0 tally.held;
+      goes_back = nat_lt 0 tally.back;
+      is_joined = nat_lt 0 tally.joined;
+      begins_late = too_few judged.rule.pace (since_end judged.ends first.field) first.number;
+      is_swapped = found.swap.is_seen;
+      is_off = found.drifts || is_off judged.rule tally first last;
+      no_numbers = false;
+      end_unseen = is_end_unseen may_end judged.ends found.last.field;
+      begin_unseen = is_begin_unseen judged.ends found.first;
+      many_doubtful = are_doubtful judged.numbers;
+      is_open = nat_lt 0 tally.open_gaps;
+      is_inserted = nat_lt 0 tally.inserted;
+      is_padded = nat_lt 0 (padded_in judged.ends);
+      is_blank = nat_lt 0 found.blank;
+    }
 
 -- no number is believed
 abbrev pub HasNone : List Number → Type 0
@@ -109,7 +130,8 @@ HasNone answers = (i k : ℕ) → IsMarked answers i k → ⊥
 -- no number is believed, and nothing else is said of the capture
 abbrev pub IsUntold : List Number → Finding → Type 0
 IsUntold answers finding =
-    HasNone answers × (finding.reasons ≡ 128) × (finding.first ≡ 0) × (finding.last ≡ 0)
+    HasNone answers × (finding.reasons ≡ record no_reason { no_numbers = true }) × (finding.first ≡ 0)
+    × (finding.last ≡ 0)
 
 -- what is found of a capture with these first and last numbers, if it is swapped or drifts as this says
 abbrev pub found_by : Finding → Bool → Bool → ℕ → ℕ → Found
@@ -150,6 +172,6 @@ found_whole first last = record {
   swap = 0;
   padded = 0;
   blank = 0;
-  verdict = yes;
-  reasons = 0;
+  verdict = Yes;
+  reasons = no_reason;
 }

@@ -14,9 +14,8 @@ use Rattle.vbi_whole.specs.declared.gap.Amid.{Amid}
 use Rattle.vbi_whole.specs.declared.gap.Rule.{Rule}
 use Rattle.vbi_side.specs.Worked.{field_of, blank}
 use Rattle.vbi_whole.specs.Told.{tally_of}
-use Rattle.vbi_whole.specs.Gaps.{lost, still, gap_made}
+use Rattle.vbi_whole.specs.Gaps.{lost, still, gap_made, to_judge, Judged, rule_by, amid}
 use Rattle.vbi_side.specs.Paces.{spot}
-use Rattle.vbi_whole.specs.Gaps.{to_judge, Judged, rule_by, amid}
 use Rattle.vbi_whole.specs.declared.verdict.Found.{Found}
 
 -- pictures, and times that keep to a clock or don't

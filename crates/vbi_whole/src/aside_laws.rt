@@ -4,8 +4,7 @@
 //! answers are as they were, so what is left of the believed ones was believed (`aside_is`). No run that is to be set
 //! aside is left out (`aside_all`). The function `worked_aside` has rows written down by hand.
 
-ghost use Rattle.std.specs.Prelude.{◌≡◌, ℕ, ◌≤◌, true, false, List, [], ◌∷◌, Some, None};
-ghost use Rattle.std.specs.Prelude.{length, slice_get, map};
+ghost use Rattle.std.specs.Prelude.{◌≡◌, ℕ, ◌≤◌, true, false, List, [], ◌∷◌, Some, None, length, slice_get, map};
 ghost use Rattle.vbi_side.specs.declared.number.Number.{Number};
 ghost use Rattle.vbi_side.specs.declared.pace.Pace.TheVariants.{Video, Film};
 ghost use Rattle.vbi_side.specs.Numbers.{doubtful, IsMarked};

@@ -15,19 +15,18 @@ ghost use Rattle.vbi_side.specs.declared.pace.Pace.{Pace};
 ghost use Rattle.vbi_side.specs.declared.pace.Pace.TheVariants.{Video, Film};
 ghost use Rattle.vbi_side.specs.declared.sighting.Sightings.{Sightings};
 ghost use Rattle.vbi_whole.specs.declared.verdict.Finding.{Finding};
+ghost use Rattle.vbi_whole.specs.declared.verdict.Verdict.TheVariants.{No};
 ghost use Rattle.vbi_side.specs.Clocks.{kept, DiscCountsBy};
 ghost use Rattle.vbi_whole.specs.Detours.{detour_of, fields_by, turned, detoured, skips, repeats, IsToldAs, IsLeft};
 ghost use Rattle.vbi_whole.specs.Gaps.{lost, held, back, still, joined, open_gap, inserted, replaced, gap_made};
-ghost use Rattle.vbi_whole.specs.Gaps.{since_end, IsGap};
+ghost use Rattle.vbi_whole.specs.Gaps.{since_end, IsGap, Judged, rule_by, of_video};
 ghost use Rattle.vbi_side.specs.Numbers.{IsMarked};
 ghost use Rattle.vbi_side.specs.Side.{Rises, captured, IsOneRun};
 ghost use Rattle.vbi_whole.specs.Told.{tally_of};
-ghost use Rattle.vbi_whole.specs.Verdicts.{no, too_few, padded_in, HasNone, IsFinding};
+ghost use Rattle.vbi_whole.specs.Verdicts.{too_few, padded_in, HasNone, IsFinding};
 ghost use Rattle.vbi_side.specs.Paces.{spot};
-ghost use Rattle.vbi_whole.specs.Gaps.{Judged, rule_by, of_video};
 ghost use Rattle.vbi_whole.specs.declared.gap.Rule.{Rule};
-ghost use Rattle.vbi_whole.specs.WorkedSides.{cav};
-ghost use Rattle.vbi_whole.specs.WorkedSides.{by_pictures, by_film};
+ghost use Rattle.vbi_whole.specs.WorkedSides.{cav, by_pictures, by_film};
 
 /// As many gaps are told as there are, each in its place: as it is, or as one of a detour of two neighbours. One that
 /// is told to be of another kind than these is told as it is. Detours are taken from the first gap on, and no gap is of
@@ -87,7 +86,7 @@ pub fn inserted_is()
         → (Rises place → ⊥) }
     ensures verdict { (judged : Judged) (may_end : Bool) (finding : Finding) (old new : List Gap)
         → IsFinding judged may_end finding old new → (HasNone judged.numbers → ⊥)
-        → 0 < finding.tally.inserted → finding.verdict ≡ no }
+        → 0 < finding.tally.inserted → finding.verdict ≡ No }
 {}
 
 /// If all gaps of a capture are told to be of replaced numbers, no field and no number is lost by them, none is
@@ -106,7 +105,7 @@ pub fn replaced_costs_nothing()
         → gap.kind ≡ replaced) → is.swapped ≡ false → padded_in judged.ends ≡ 0
         → ((m : ℕ) → IsMarked judged.numbers finding.first m
         → too_few judged.rule.pace (since_end judged.ends finding.first) (kept judged.rule.numbering.clock m) ≡ false)
-        → finding.verdict ≢ no }
+        → finding.verdict ≢ No }
 {}
 
 /// Detours, worked by hand: over pictures 41 to 43 in place of 3 to 5; where the player left picture 3, and came back;

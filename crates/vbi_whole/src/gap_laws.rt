@@ -1,7 +1,7 @@
 //! Laws of the gaps and of the verdict. A function here does nothing: its contract is a law.
 //!
 //! First the gaps: all are told, in order, and what one says is so on the disc (`all_told` to `cut_found`). Then the
-//! verdict: what `yes` means of video, of numbers on both fields and of film (`whole_yes`, `nearly_whole`), and that
+//! verdict: what `Yes` means of video, of numbers on both fields and of film (`whole_yes`, `nearly_whole`), and that
 //! lost fields are lost (`lost_sound`). They speak of a disc that counts by a clock, with the case of none beside it.
 //! Where the clock leaves numbers out within 12 of an end, as many pictures as the 24 fields of the reach last, they
 //! say less: a believed number may fit others there that are one off.
@@ -27,23 +27,21 @@ ghost use Rattle.vbi_side.specs.declared.clock.Clock.TheVariants.{Plain, DropFra
 ghost use Rattle.vbi_side.specs.Clocks.{DiscCountsBy, DiscNearlyBy, IsClear, IsClearAt, out_near};
 ghost use Rattle.vbi_whole.specs.declared.gap.Numbering.{Numbering};
 ghost use Rattle.vbi_whole.specs.Gaps.{lost, held, back, still, joined, open_gap, gap_of, gap_made, since_end};
+ghost use Rattle.vbi_whole.specs.Gaps.{ended_between, shown_between, IsGap, AreGaps, CountTo, HasRightEnds};
+ghost use Rattle.vbi_whole.specs.Gaps.{LostAtLeast, HeldAtLeast, to_judge, Judged, rule_by, amid, of_video};
 ghost use Rattle.vbi_whole.specs.Detours.{detoured};
-ghost use Rattle.vbi_whole.specs.Gaps.{ended_between};
-ghost use Rattle.vbi_whole.specs.Gaps.{shown_between};
 ghost use Rattle.vbi_whole.specs.Told.{lost_of, undecided_of, stills_of, last_still};
 ghost use Rattle.vbi_whole.specs.Swaps.{stands_off, is_stray};
 ghost use Rattle.vbi_whole.specs.NumbersOnBoth.{is_on_both};
 ghost use Rattle.vbi_side.specs.Ends.{end_by};
-ghost use Rattle.vbi_whole.specs.Verdicts.{is_end_unseen};
+ghost use Rattle.vbi_whole.specs.Verdicts.{is_end_unseen, too_few, HasNone, IsFinding, found_whole};
+ghost use Rattle.vbi_whole.specs.declared.verdict.Verdict.TheVariants.{Yes, CannotTell};
 ghost use Rattle.vbi_whole.specs.Drifts.{leads, IsDriftTold};
 ghost use Rattle.vbi_side.specs.Worked.{field_of};
 ghost use Rattle.vbi_whole.specs.WorkedSides.{cav, cav_pal, clv, clv_pal, two_stills, two_pictures, two_answers};
-ghost use Rattle.vbi_whole.specs.WorkedSides.{worked_side, worked_answers, worked_ends};
-ghost use Rattle.vbi_whole.specs.Gaps.{IsGap, AreGaps, CountTo, HasRightEnds, LostAtLeast, HeldAtLeast};
-ghost use Rattle.vbi_whole.specs.Verdicts.{yes, no, cannot_tell, verdict_of, too_few, HasNone, IsFinding, found_whole};
+ghost use Rattle.vbi_whole.specs.WorkedSides.{worked_side, worked_answers, worked_ends, by_pictures, by_times, by_film};
+ghost use Rattle.vbi_whole.specs.WorkedSides.{unseen};
 ghost use Rattle.vbi_side.specs.Paces.{spot};
-ghost use Rattle.vbi_whole.specs.Gaps.{to_judge, Judged, rule_by, amid, of_video};
-ghost use Rattle.vbi_whole.specs.WorkedSides.{by_pictures, by_times, by_film, unseen};
 
 /// What is told are gaps, each one is told, and in order: an earlier one ends where a later one begins, or before.
 pub fn all_told()
@@ -118,7 +116,7 @@ pub fn whole_yes()
         (old new : List Gap) → DiscCountsBy numbering.clock Video disc
         → Rises place → AreAnswers Video fields answers
         → IsFinding (of_video numbering seen answers ends) may_end finding old new → finding.verdict
-        ≡ yes
+        ≡ Yes
         → wrong_weight (captured disc place) fields finding.first < enough
         → wrong_weight (captured disc place) fields finding.last < enough
         → IsClearAt numbering.clock answers finding.first → IsClearAt numbering.clock answers finding.last
@@ -129,7 +127,7 @@ pub fn whole_yes()
         (old new : List Gap) → numbering.clock ≡ Plain → DiscRuns Video disc
         → Rises place → AreAnswers Video fields answers
         → IsFinding (of_video numbering seen answers ends) may_end finding old new → finding.verdict
-        ≡ yes
+        ≡ Yes
         → wrong_weight (captured disc place) fields finding.first < enough
         → wrong_weight (captured disc place) fields finding.last < enough
         → finding.first + 2 * reach ≤ finding.last
@@ -145,7 +143,7 @@ pub fn nearly_whole()
         (old new : List Gap) → slack ≤ 1
         → DiscNearlyBy numbering.clock slack disc → Rises place → AreAnswers Video fields answers
         → IsFinding (to_judge (rule_by Video slack numbering) seen answers ends) may_end finding old new
-        → finding.verdict ≡ yes
+        → finding.verdict ≡ Yes
         → wrong_weight (captured disc place) fields finding.first < enough
         → wrong_weight (captured disc place) fields finding.last < enough
         → IsClearAt numbering.clock answers finding.first → IsClearAt numbering.clock answers finding.last
@@ -157,7 +155,7 @@ pub fn nearly_whole()
         (old new : List Gap) → DiscCountsBy numbering.clock Film disc
         → Rises place → AreAnswers Film fields answers
         → IsFinding (to_judge (rule_by Film slack numbering) seen answers ends) may_end finding old new
-        → finding.verdict ≡ yes
+        → finding.verdict ≡ Yes
         → wrong_weight (captured disc place) fields finding.first < enough
         → wrong_weight (captured disc place) fields finding.last < enough
         → IsClearAt numbering.clock answers finding.first → IsClearAt numbering.clock answers finding.last
@@ -168,7 +166,7 @@ pub fn nearly_whole()
         (old new : List Gap) → DiscCountsBy numbering.clock Video disc → Rises place
         → AreAnswers Video fields answers
         → IsFinding (of_video numbering seen answers ends) may_end finding old new → finding.verdict
-        ≡ yes
+        ≡ Yes
         → wrong_weight (captured disc place) fields finding.first < enough
         → wrong_weight (captured disc place) fields finding.last < enough → finding.first + 2 * reach ≤ finding.last
         → (m n p q some : ℕ) × IsMarked answers finding.first m × IsMarked answers finding.last n
@@ -179,7 +177,7 @@ pub fn nearly_whole()
         (finding : Finding) (old new : List Gap) → slack ≤ 1 → numbering.clock ≡ Plain
         → DiscCounts slack disc → Rises place → AreAnswers Video fields answers
         → IsFinding (to_judge (rule_by Video slack numbering) seen answers ends) may_end finding old new
-        → finding.verdict ≡ yes
+        → finding.verdict ≡ Yes
         → wrong_weight (captured disc place) fields finding.first < enough
         → wrong_weight (captured disc place) fields finding.last < enough
         → finding.first + 2 * reach ≤ finding.last
@@ -190,7 +188,7 @@ pub fn nearly_whole()
         (old new : List Gap) → numbering.clock ≡ Plain → DiscRuns Film disc
         → Rises place → AreAnswers Film fields answers
         → IsFinding (to_judge (rule_by Film slack numbering) seen answers ends) may_end finding old new
-        → finding.verdict ≡ yes
+        → finding.verdict ≡ Yes
         → wrong_weight (captured disc place) fields finding.first < enough
         → wrong_weight (captured disc place) fields finding.last < enough
         → finding.first + 2 * reach ≤ finding.last
@@ -214,7 +212,7 @@ pub fn none_known()
     ensures { (judged : Judged) (may_end : Bool) (finding : Finding)
         (old new : List Gap) → IsFinding judged may_end finding old new
         → HasNone judged.numbers
-        → finding.verdict ≡ cannot_tell }
+        → finding.verdict ≡ CannotTell }
 {}
 
 /// Gaps, worked by hand: of video between picture 5 in field 10 and others, of times, and of film.
@@ -289,7 +287,7 @@ pub fn worked_gaps()
         ≡ Some (gap_made (spot 10 5) (spot 14 5) still 4 0) }
 {}
 
-/// Swapped fields, numbers on both fields, and verdicts, worked by hand.
+/// Swapped fields, numbers on both fields, and what verdicts go by, worked by hand.
 #[tactic(auto, unfolding(vbi_side::specs::Clocks::kept))]
 pub fn worked_verdicts()
     ensures off { map (λ k. stands_off (spot 10 5) (spot k 6)) (10 ∷ 11 ∷ 12 ∷ 13 ∷ 14 ∷ []) ≡ false ∷ true ∷ false
@@ -320,10 +318,6 @@ pub fn worked_verdicts()
         ∷ believed 6 ∷ []) ∷ []) ≡ true ∷ false ∷ [] }
     ensures frozen { map is_on_both ((believed 1 ∷ believed 1 ∷ believed 1 ∷ nothing ∷ believed 2 ∷ [])
         ∷ (believed 1 ∷ believed 1 ∷ believed 1 ∷ believed 2 ∷ []) ∷ []) ≡ false ∷ true ∷ [] }
-    ensures verdicts { map verdict_of (0 ∷ 1 ∷ 32 ∷ 64 ∷ 128 ∷ 256 ∷ 257 ∷ 1024 ∷ 2048 ∷ 4032 ∷ 4096 ∷ 6144 ∷ 8192
-        ∷ 10240 ∷ 16384 ∷ 18432 ∷ 20480 ∷ 24576 ∷ [])
-        ≡ yes ∷ no ∷ no ∷ cannot_tell ∷ cannot_tell ∷ cannot_tell ∷ no ∷ cannot_tell ∷ cannot_tell ∷ cannot_tell ∷ no
-        ∷ no ∷ no ∷ no ∷ cannot_tell ∷ cannot_tell ∷ no ∷ no ∷ [] }
     ensures late { map (λ fields. too_few Video fields 5) (7 ∷ 8 ∷ []) ≡ true ∷ false ∷ [] }
     ensures film_late { map (λ fields. too_few Film fields 5) (8 ∷ 9 ∷ []) ≡ true ∷ false ∷ [] }
     ensures first { map (λ m. too_few Video 0 m) (0 ∷ 1 ∷ 2 ∷ []) ≡ false ∷ false ∷ true ∷ [] }

@@ -16,12 +16,10 @@ ghost use Rattle.vbi_side.specs.declared.clock.Clock.{Clock};
 ghost use Rattle.vbi_side.specs.declared.number.Number.{Number};
 ghost use Rattle.vbi_side.specs.declared.sighting.Sightings.{Sightings};
 ghost use Rattle.vbi_side.specs.Numbers.{IsMarked};
-ghost use Rattle.vbi_whole.specs.Told.{IsTold, IsTelling, waiting};
-ghost use Rattle.vbi_whole.specs.Gaps.{gap_of, skipped, ended_between, shown_between};
+ghost use Rattle.vbi_whole.specs.Told.{IsTold, IsTelling, waiting, stage_of};
+ghost use Rattle.vbi_whole.specs.Gaps.{gap_of, skipped, ended_between, shown_between, AreNeighbours, IsFree, IsLast};
+ghost use Rattle.vbi_whole.specs.Gaps.{is_end, since_end, judged_in};
 ghost use Rattle.vbi_side.specs.Sightings.{shows_between};
-ghost use Rattle.vbi_whole.specs.Gaps.{AreNeighbours, IsFree, IsLast, is_end, since_end};
-ghost use Rattle.vbi_whole.specs.Gaps.{judged_in};
-ghost use Rattle.vbi_whole.specs.Told.{stage_of};
 
 use crate::detour::Waiting;
 use crate::gap::{Amid, Gap, Neighbours, between, skipped};

@@ -37,8 +37,4 @@ pub use gaps::find_gaps;
 pub use numbers_on_both::is_on_both;
 pub use side::Side;
 pub use tally::Tally;
-pub use verdict::{
-    BEGIN_UNSEEN, BEGINS_LATE, CANNOT_TELL, END_UNSEEN, Finding, GOES_BACK, IS_BLANK, IS_HELD,
-    IS_INSERTED, IS_JOINED, IS_LOST, IS_OFF, IS_OPEN, IS_PADDED, IS_SWAPPED, MANY_DOUBTFUL, NO,
-    NO_NUMBERS, YES, judge_whole,
-};
+pub use verdict::{Finding, Reasons, Verdict, judge_whole};

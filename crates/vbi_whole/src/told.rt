@@ -8,8 +8,7 @@ ghost use Rattle.vbi_side.specs.declared.clock.Clock.{Clock};
 ghost use Rattle.vbi_whole.specs.declared.gap.Gap.{Gap};
 ghost use Rattle.vbi_side.specs.declared.pace.Pace.{Pace};
 ghost use Rattle.vbi_whole.specs.Detours.{detoured};
-ghost use Rattle.vbi_whole.specs.Told.{AreTold, AreTelling, waiting};
-ghost use Rattle.vbi_whole.specs.Told.{listed, stage_of};
+ghost use Rattle.vbi_whole.specs.Told.{AreTold, AreTelling, waiting, listed, stage_of};
 ghost use Rattle.vbi_whole.specs.declared.gap.Rule.{Rule};
 
 use crate::detour::{Waiting, detour, fields_by};

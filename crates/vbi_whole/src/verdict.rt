@@ -2,24 +2,18 @@
 //!
 //! `judge_whole` asks four passes over the answers: the gaps (gaps.rt), the swapped fields (swaps.rt), the numbers that
 //! drift (drift.rt) and the fields without any (blank_fields.rt). What they find is `Found`, with the first and the
-//! last number. Each thing that speaks against the capture is a reason, and reasons are bits, so that their sum says
-//! which hold. Bits below 64, `IS_INSERTED` and `IS_PADDED` are seen on the capture itself: with one of these the
-//! verdict is `NO`. The others leave it open, so with these alone it is `CANNOT_TELL`. A capture without a number has
-//! the reason `NO_NUMBERS` alone.
+//! last number. Each thing that speaks against the capture is one of its `Reasons`. Some are seen on the capture
+//! itself: with one of these the verdict is `No`. The others leave it open, so with these alone it is `CannotTell`. A
+//! capture without a number has the reason `no_numbers` alone.
 //!
-//! A reason more, or another bound, changes `specs/Verdicts.antt`, the worked reasons of `reason_laws`,
-//! include/ldvbi.h, `Reason` of python/ldvbi/sides.py and docs/SIDES.md.
+//! A reason more, or another bound, changes `specs/Verdicts.antt`, the worked reasons of `reason_laws`, the numbers of
+//! `vbi_c` (whole_side.rt), include/ldvbi.h, `Reason` of python/ldvbi/sides.py and docs/SIDES.md.
 
-ghost use Rattle.std.specs.Prelude.{◌≡◌, ℕ, List, ◌+◌, ◌*◌, ◌<◌, ◌≤◌, ◌^◌, length, Bool};
-ghost use Rattle.vbi_side.specs.Paces.{nearly};
-ghost use Rattle.vbi_side.specs.Clocks.{kept};
-ghost use Rattle.vbi_whole.specs.Gaps.{since_end, ended_between};
-ghost use Rattle.vbi_whole.specs.Verdicts.{verdict_of, reason, too_few, seen_reasons, is_off, is_begin_unseen};
-ghost use Rattle.vbi_whole.specs.Verdicts.{lead_out_follows, is_end_unseen, count_of, are_doubtful, reasons_of};
-ghost use Rattle.vbi_whole.specs.Verdicts.{padded_in, IsFinding};
+ghost use Rattle.std.specs.Prelude.{◌≡◌, ◌<◌, ◌≤◌, ◌^◌, length, true};
+ghost use Rattle.vbi_whole.specs.Gaps.{judged_in, since_end};
+ghost use Rattle.vbi_whole.specs.Verdicts.{are_seen, leave_open, no_reason, verdict_of, too_few, is_off, padded_in};
+ghost use Rattle.vbi_whole.specs.Verdicts.{lead_out_follows, count_of, are_doubtful, reasons_of, IsFinding};
 ghost use Rattle.vbi_whole.specs.Swaps.{IsSwapTold};
-ghost use Rattle.vbi_side.specs.Paces.{spot};
-ghost use Rattle.vbi_whole.specs.Gaps.{judged_in};
 
 use crate::blank_fields::first_blank;
 use crate::drift::has_drift;
@@ -28,55 +22,127 @@ use crate::gaps::{find_gaps, since_at};
 use crate::side::Side;
 use crate::swaps::first_swap;
 use crate::tally::Tally;
-use std::mem::size_of;
 use vbi_side::{
     BELIEVED, DOUBTFUL, LEAD_OUT, Number, PADDING, Pace, Place, Sightings, by_clock,
     first_believed, last_believed, nearly,
 };
 
-/// Whether the capture is whole can't be told.
-pub const CANNOT_TELL: u32 = 0;
-/// The capture has each field of the disc from its first number to its last one, as far as its numbers tell.
-pub const YES: u32 = 1;
-/// The capture lacks fields of the disc, or isn't one run of it.
-pub const NO: u32 = 2;
+/// Whether a capture of a side is whole.
+#[derive(Clone, Copy)]
+pub enum Verdict {
+    /// The capture has each field of the disc from its first number to its last one, as far as its numbers tell.
+    Yes,
+    /// The capture lacks fields of the disc, or isn't one run of it.
+    No,
+    /// It can't be told.
+    CannotTell,
+}
 
-/// Fields are lost.
-pub const IS_LOST: u32 = 1;
-/// More fields are there than the numbers count to.
-pub const IS_HELD: u32 = 2;
-/// The numbers go back.
-pub const GOES_BACK: u32 = 4;
-/// Another side begins.
-pub const IS_JOINED: u32 = 8;
-/// The capture begins late: fewer fields stand before the first number than the numbers before it take.
-pub const BEGINS_LATE: u32 = 16;
-/// Two fields are swapped: between two numbers that go on a field shows one that stands a field off.
-pub const IS_SWAPPED: u32 = 32;
-/// Numbers that go on one by one, each to within a field, don't count to each other; or the first and the last one
-/// don't, less the fields for which the player stood still or was away, and no gap is open. Of film, or of numbers on
-/// both fields, a field may be lost there, or the disc cut.
-pub const IS_OFF: u32 = 64;
-/// No number is believed.
-pub const NO_NUMBERS: u32 = 128;
-/// No lead-out is seen after the last number.
-pub const END_UNSEEN: u32 = 256;
-/// Numbers before the first one may be there, unread.
-pub const BEGIN_UNSEEN: u32 = 512;
-/// A tenth or more of the numbers that were read is in doubt.
-pub const MANY_DOUBTFUL: u32 = 1024;
-/// Between two numbers the disc itself may have skipped, or fields are lost; or numbers are replaced.
-pub const IS_OPEN: u32 = 2048;
-/// Fields are inserted: the player left those around and came back.
-pub const IS_INSERTED: u32 = 4096;
-/// Fields are padding: the capture lacks those for which they stand.
-pub const IS_PADDED: u32 = 8192;
-/// Between two numbers that go on, over a hundred fields in a row have none: as many may be lost there as are too many.
-pub const IS_BLANK: u32 = 16384;
+/// What speaks against a capture: why it isn't whole, or why that can't be told.
+#[derive(Clone, Copy)]
+pub struct Reasons {
+    /// Fields are lost.
+    pub is_lost: bool,
+    /// More fields are there than the numbers count to.
+    pub is_held: bool,
+    /// The numbers go back.
+    pub goes_back: bool,
+    /// Another side begins.
+    pub is_joined: bool,
+    /// The capture begins late: fewer fields stand before the first number than the numbers before it take.
+    pub begins_late: bool,
+    /// Two fields are swapped: between two numbers that go on a field shows one that stands a field off.
+    pub is_swapped: bool,
+    /// Numbers that go on one by one, each to within a field, don't count to each other; or the first and the last one
+    /// don't, less the fields for which the player stood still or was away, and no gap is open. Of film, or of numbers
+    /// on both fields, a field may be lost there, or the disc cut.
+    pub is_off: bool,
+    /// No number is believed.
+    pub no_numbers: bool,
+    /// No lead-out is seen after the last number.
+    pub end_unseen: bool,
+    /// Numbers before the first one may be there, unread.
+    pub begin_unseen: bool,
+    /// A tenth or more of the numbers that were read is in doubt.
+    pub many_doubtful: bool,
+    /// Between two numbers the disc itself may have skipped, or fields are lost; or numbers are replaced.
+    pub is_open: bool,
+    /// Fields are inserted: the player left those around and came back.
+    pub is_inserted: bool,
+    /// Fields are padding: the capture lacks those for which they stand.
+    pub is_padded: bool,
+    /// Between two numbers that go on, over a hundred fields in a row have none: as many may be lost there as are too
+    /// many.
+    pub is_blank: bool,
+}
+
+impl Reasons {
+    /// Those of a capture without a number.
+    fn without_numbers() -> Reasons
+        ensures { result ≡ record no_reason { no_numbers = true } }
+    {
+        Reasons {
+            is_lost: false,
+            is_held: false,
+            goes_back: false,
+            is_joined: false,
+            begins_late: false,
+            is_swapped: false,
+            is_off: false,
+            no_numbers: true,
+            end_unseen: false,
+            begin_unseen: false,
+            many_doubtful: false,
+            is_open: false,
+            is_inserted: false,
+            is_padded: false,
+            is_blank: false,
+        }
+    }
+
+    /// Whether one of them is seen on the capture itself.
+    fn are_seen(self) -> bool
+        ensures { result ≡ are_seen self }
+    {
+        self.is_lost
+            || self.is_held
+            || self.goes_back
+            || self.is_joined
+            || self.begins_late
+            || self.is_swapped
+            || self.is_inserted
+            || self.is_padded
+    }
+
+    /// Whether one of them leaves it open whether the capture is whole.
+    fn leave_open(self) -> bool
+        ensures { result ≡ leave_open self }
+    {
+        self.is_off
+            || self.no_numbers
+            || self.end_unseen
+            || self.begin_unseen
+            || self.many_doubtful
+            || self.is_open
+            || self.is_blank
+    }
+
+    /// The verdict that they leave.
+    fn verdict(self) -> Verdict
+        ensures { result ≡ verdict_of self }
+    {
+        if self.are_seen() {
+            Verdict::No
+        } else if self.leave_open() {
+            Verdict::CannotTell
+        } else {
+            Verdict::Yes
+        }
+    }
+}
 
 /// What is said of a capture.
 #[derive(Clone, Copy)]
-#[repr(C)]
 pub struct Finding {
     /// What its gaps come to.
     pub tally: Tally,
@@ -90,34 +156,10 @@ pub struct Finding {
     pub padded: usize,
     /// The first of over a hundred fields without a number between two that go on, counted from 0; 0 if there are none.
     pub blank: usize,
-    /// `YES`, `NO` or `CANNOT_TELL`.
-    pub verdict: u32,
-    /// Why not: the sum of the reasons; 0 just if the verdict is `YES`.
-    pub reasons: u32,
-}
-
-// As include/ldvbi.h has it.
-const _: () = prove!(size_of::<Finding>() == 152);
-
-/// The verdict that reasons leave.
-fn verdict(reasons: u32) -> u32
-    ensures { result ≡ verdict_of reasons }
-{
-    if reasons == 0 {
-        YES
-    } else if reasons % IS_OFF > 0 || reasons / IS_INSERTED % 4 > 0 {
-        NO
-    } else {
-        CANNOT_TELL
-    }
-}
-
-/// A reason, if it holds.
-fn reason(bit: u32, holds: bool) -> u32
-    ensures value { result ≡ reason bit holds }
-    ensures range { result ≤ bit }
-{
-    if holds { bit } else { 0 }
+    /// Whether it is whole.
+    pub verdict: Verdict,
+    /// Why not: none just if the verdict is `Yes`.
+    pub reasons: Reasons,
 }
 
 /// How many fields stand before this one and after the last end of a side.
@@ -197,20 +239,6 @@ fn padded_in(ends: &[u32]) -> usize
     ends.iter().filter(|end| **end == PADDING).count()
 }
 
-/// The reasons that are seen between the numbers, and before the first one.
-fn seen_reasons(pace: Pace, since: usize, tally: &Tally, number: u32) -> u32
-    requires { since < 2 ^ 60 }
-    ensures value { (ends : List ℕ) (first : ℕ) → since ≡ since_end ends first
-        → result ≡ seen_reasons pace ends tally.now (spot first number) }
-    ensures range { result ≤ 31 }
-{
-    reason(IS_LOST, tally.lost > 0)
-        + reason(IS_HELD, tally.held > 0)
-        + reason(GOES_BACK, tally.back > 0)
-        + reason(IS_JOINED, tally.joined > 0)
-        + reason(BEGINS_LATE, too_few(pace, since, number))
-}
-
 /// A field that was swapped, or 0, and whether there is one.
 #[derive(Clone, Copy)]
 struct Swap {
@@ -238,7 +266,7 @@ struct Found {
 }
 
 /// All reasons against a capture.
-fn reasons(side: &Side, may_end: bool, found: &Found) -> u32
+fn reasons_against(side: &Side, may_end: bool, found: &Found) -> Reasons
     requires first { found.now.first.field < length side.now.numbers.now }
     requires last { found.now.last.field < length side.now.numbers.now }
     requires padded { found.now.padded ≡ padded_in side.now.ends.now }
@@ -250,18 +278,24 @@ fn reasons(side: &Side, may_end: bool, found: &Found) -> u32
     let is_ended = lead_out_follows(side.ends, found.last.field);
     let begin = by_clock(rule.numbering.clock, found.first);
     let end = by_clock(rule.numbering.clock, found.last);
-    let is_off = found.drifts || is_off(rule, tally, begin, end);
-    seen_reasons(rule.pace, before, tally, begin.number)
-        + reason(IS_SWAPPED, found.swap.is_seen)
-        + reason(IS_OFF, is_off)
-        + reason(END_UNSEEN, !may_end && !is_ended)
+    Reasons {
+        is_lost: tally.lost > 0,
+        is_held: tally.held > 0,
+        goes_back: tally.back > 0,
+        is_joined: tally.joined > 0,
+        begins_late: too_few(rule.pace, before, begin.number),
+        is_swapped: found.swap.is_seen,
+        is_off: found.drifts || is_off(rule, tally, begin, end),
+        no_numbers: false,
+        end_unseen: !may_end && !is_ended,
         // Some two seconds show no number: those before the first one may be there, unread.
-        + reason(BEGIN_UNSEEN, found.first.number > 1 && before > 100)
-        + reason(MANY_DOUBTFUL, are_doubtful(side.numbers))
-        + reason(IS_OPEN, tally.open_gaps > 0)
-        + reason(IS_INSERTED, tally.inserted > 0)
-        + reason(IS_PADDED, found.padded > 0)
-        + reason(IS_BLANK, found.blank > 0)
+        begin_unseen: found.first.number > 1 && before > 100,
+        many_doubtful: are_doubtful(side.numbers),
+        is_open: tally.open_gaps > 0,
+        is_inserted: tally.inserted > 0,
+        is_padded: found.padded > 0,
+        is_blank: found.blank > 0,
+    }
 }
 
 /// The first field that was swapped, of a disc on which that can be seen: one of video with a number on one field of
@@ -301,6 +335,7 @@ pub fn judge_whole(side: &Side, may_end: bool, out: &mut [Gap]) -> Finding
     let padded = padded_in(side.ends);
     let blank = first_blank(side.numbers, side.rule);
     let Some(first) = first_believed(side.numbers) else {
+        let reasons = Reasons::without_numbers();
         return Finding {
             tally,
             first: 0,
@@ -308,8 +343,8 @@ pub fn judge_whole(side: &Side, may_end: bool, out: &mut [Gap]) -> Finding
             swap: swap.field,
             padded,
             blank,
-            verdict: verdict(NO_NUMBERS),
-            reasons: NO_NUMBERS,
+            verdict: reasons.verdict(),
+            reasons,
         };
     };
     let last = last_believed(side.numbers).unwrap_or(first);
@@ -322,7 +357,7 @@ pub fn judge_whole(side: &Side, may_end: bool, out: &mut [Gap]) -> Finding
         first,
         last,
     };
-    let reasons = reasons(side, may_end, &found);
+    let reasons = reasons_against(side, may_end, &found);
     Finding {
         tally,
         first: first.field,
@@ -330,7 +365,7 @@ pub fn judge_whole(side: &Side, may_end: bool, out: &mut [Gap]) -> Finding
         swap: swap.field,
         padded,
         blank,
-        verdict: verdict(reasons),
+        verdict: reasons.verdict(),
         reasons,
     }
 }

@@ -4,18 +4,15 @@
 //! it says, or to one value. It may be null only if the length is 0.
 #![allow(clippy::missing_safety_doc)]
 use crate::c::{self, LdvbiClock, LdvbiCode, LdvbiErased, LdvbiFieldReadings, LdvbiNear, LdvbiReading, LdvbiRecord};
-use crate::c::{LdvbiChecked, LdvbiPlace, LdvbiSideRule, LdvbiSought};
+use crate::c::{LdvbiChecked, LdvbiPlace, LdvbiSide, LdvbiSideRule, LdvbiSought};
 use crate::plan::{Capture, Stretch};
 use crate::side::{Number, Sightings};
-use crate::whole_side::{Finding, Gap};
+use crate::whole_side::Gap;
 use std::mem::size_of;
 use std::slice::{from_raw_parts, from_raw_parts_mut};
 
 /// The most bytes that a slice may have. No length from this one on is ever right.
 const MOST: usize = isize::MAX as usize;
-
-// LdvbiSide, as include/ldvbi.h has it. Of the other structs the source says so.
-const _: () = assert!(size_of::<Finding>() == 152);
 
 unsafe fn values<'a, T>(start: *const T, count: usize) -> &'a [T] {
     if count == 0 {
@@ -113,7 +110,7 @@ exports! {
     fn ldvbi_find_both(numbers: &[Number]) -> u32;
     fn ldvbi_find_clock(rule: &LdvbiSideRule, numbers: &[Number], clock: &mut LdvbiClock) -> u32;
     fn ldvbi_judge_side(rule: &LdvbiSideRule, may_end: u32, seen: &[Sightings], numbers: &[Number], ends: &[u32],
-        gaps: &mut [Gap], side: &mut Finding) -> u32;
+        gaps: &mut [Gap], side: &mut LdvbiSide) -> u32;
     fn ldvbi_set_aside(rule: &LdvbiSideRule, gaps: &[Gap], numbers: &[Number], left: &mut [Number],
         count: &mut usize) -> u32;
     fn ldvbi_check_plan(spacing: u32, begin: usize, end: u32, clock: &LdvbiClock, numbers: &[Number],

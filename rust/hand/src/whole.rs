@@ -4,7 +4,7 @@ use crate::lines::Error;
 use crate::numbers::{ends_of, Numbers};
 use crate::side::{self, Counted, Pace, PADDING};
 use crate::sides::{Number, Side};
-use crate::whole_side::{self, is_on_both, judge_whole, set_aside, Finding, Numbering, Rule, Tally};
+use crate::whole_side::{self, is_on_both, judge_whole, set_aside, Finding, Numbering, Reasons, Rule, Tally};
 
 /// How a whole side is judged.
 #[derive(Clone, Copy, Debug, PartialEq, Eq)]
@@ -106,24 +106,29 @@ pub enum Reason {
     IsBlank,
 }
 
-/// Each reason with its bit, in order.
-const REASONS: [(u32, Reason); 15] = [
-    (whole_side::IS_LOST, Reason::IsLost),
-    (whole_side::IS_HELD, Reason::IsHeld),
-    (whole_side::GOES_BACK, Reason::GoesBack),
-    (whole_side::IS_JOINED, Reason::IsJoined),
-    (whole_side::BEGINS_LATE, Reason::BeginsLate),
-    (whole_side::IS_SWAPPED, Reason::IsSwapped),
-    (whole_side::IS_OFF, Reason::IsOff),
-    (whole_side::NO_NUMBERS, Reason::NoNumbers),
-    (whole_side::END_UNSEEN, Reason::EndUnseen),
-    (whole_side::BEGIN_UNSEEN, Reason::BeginUnseen),
-    (whole_side::MANY_DOUBTFUL, Reason::ManyDoubtful),
-    (whole_side::IS_OPEN, Reason::IsOpen),
-    (whole_side::IS_INSERTED, Reason::IsInserted),
-    (whole_side::IS_PADDED, Reason::IsPadded),
-    (whole_side::IS_BLANK, Reason::IsBlank),
-];
+impl Reason {
+    /// Those that hold, in order.
+    fn all(found: &Reasons) -> Vec<Reason> {
+        let each = [
+            (found.is_lost, Reason::IsLost),
+            (found.is_held, Reason::IsHeld),
+            (found.goes_back, Reason::GoesBack),
+            (found.is_joined, Reason::IsJoined),
+            (found.begins_late, Reason::BeginsLate),
+            (found.is_swapped, Reason::IsSwapped),
+            (found.is_off, Reason::IsOff),
+            (found.no_numbers, Reason::NoNumbers),
+            (found.end_unseen, Reason::EndUnseen),
+            (found.begin_unseen, Reason::BeginUnseen),
+            (found.many_doubtful, Reason::ManyDoubtful),
+            (found.is_open, Reason::IsOpen),
+            (found.is_inserted, Reason::IsInserted),
+            (found.is_padded, Reason::IsPadded),
+            (found.is_blank, Reason::IsBlank),
+        ];
+        each.iter().filter(|(holds, _)| *holds).map(|(_, reason)| *reason).collect()
+    }
+}
 
 /// The answer for the capture of a side.
 #[derive(Clone, Debug, PartialEq, Eq)]
@@ -147,18 +152,18 @@ pub struct Whole {
 
 impl Whole {
     fn of(found: &Finding) -> Whole {
-        let has = |bit| found.reasons & bit != 0;
         let verdict = match found.verdict {
-            whole_side::YES => Verdict::Yes,
-            whole_side::NO => Verdict::No,
-            _ => Verdict::CannotTell,
+            whole_side::Verdict::Yes => Verdict::Yes,
+            whole_side::Verdict::No => Verdict::No,
+            whole_side::Verdict::CannotTell => Verdict::CannotTell,
         };
+        let reasons = &found.reasons;
         Whole {
             verdict,
-            reasons: REASONS.iter().filter(|(bit, _)| has(*bit)).map(|(_, reason)| *reason).collect(),
-            ends: (!has(whole_side::NO_NUMBERS)).then_some((found.first, found.last)),
-            swap: has(whole_side::IS_SWAPPED).then_some(found.swap),
-            blank: has(whole_side::IS_BLANK).then_some(found.blank),
+            reasons: Reason::all(reasons),
+            ends: (!reasons.no_numbers).then_some((found.first, found.last)),
+            swap: reasons.is_swapped.then_some(found.swap),
+            blank: reasons.is_blank.then_some(found.blank),
             padded: found.padded,
             tally: found.tally,
         }

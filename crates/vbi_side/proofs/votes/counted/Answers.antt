@@ -1,8 +1,7 @@
 use Rattle.std.proofs.Common.{sym, arith}
 use Rattle.vbi_side.specs.Votes.{votes}
 use Rattle.vbi_side.specs.VoteCounts.{election_of, votes_by}
-use Rattle.vbi_side.proofs.Voting.{first_next, votes_by_near, none_later}
-use Rattle.vbi_side.proofs.Voting.{leads_alike}
+use Rattle.vbi_side.proofs.Voting.{first_next, votes_by_near, none_later, leads_alike}
 use Rattle.vbi_side.proofs.votes.counted.Goals as goal
 
 pub loop-other-preserved : goal.loop-other-preserved

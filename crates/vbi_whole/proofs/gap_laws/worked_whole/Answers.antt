@@ -9,10 +9,9 @@ use Rattle.vbi_side.specs.Clocks.{kept}
 use Rattle.std.proofs.lemmas.Bool.Decides.{eqb_tells}
 use Rattle.vbi_side.specs.declared.pace.Pace.TheVariants.{Video}
 use Rattle.vbi_side.specs.declared.clock.Clock.TheVariants.{Plain}
-use Rattle.vbi_side.specs.Paces.{nearly}
+use Rattle.vbi_side.specs.Paces.{nearly, spot}
 use Rattle.vbi_whole.specs.Drifts.{IsDrift}
 use Rattle.vbi_whole.specs.Swaps.{IsSwap, is_stray}
-use Rattle.vbi_side.specs.Paces.{spot}
 use Rattle.vbi_whole.specs.WorkedSides.{cav, two_pictures, two_answers}
 use Rattle.vbi_whole.specs.Detours.{detoured_from}
 use Rattle.vbi_whole.proofs.BlankFields.{short_side}

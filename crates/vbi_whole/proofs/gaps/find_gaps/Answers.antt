@@ -1,8 +1,7 @@
 use Rattle.std.proofs.Common.{◌≡◌, [], refl, arith, subst, length}
-use Rattle.vbi_whole.specs.Gaps.{since_end, AreGaps}
+use Rattle.vbi_whole.specs.Gaps.{since_end, AreGaps, judged_in}
 use Rattle.vbi_whole.proofs.Telling.{told_few}
 use Rattle.vbi_whole.proofs.gaps.find_gaps.Goals as goal
-use Rattle.vbi_whole.specs.Gaps.{judged_in}
 use Rattle.vbi_whole.specs.Told.{stage_of}
 
 pub loop-field-init : goal.loop-field-init

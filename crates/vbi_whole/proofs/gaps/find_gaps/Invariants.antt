@@ -1,9 +1,7 @@
 use Rattle.std.proofs.Common.{◌≡◌, ◌≤◌}
-use Rattle.vbi_whole.specs.Gaps.{since_end, IsLast}
-use Rattle.vbi_whole.specs.Told.{IsTelling}
+use Rattle.vbi_whole.specs.Gaps.{since_end, IsLast, judged_in}
+use Rattle.vbi_whole.specs.Told.{IsTelling, stage_of}
 use Rattle.vbi_whole.proofs.gaps.find_gaps.Given as goal
-use Rattle.vbi_whole.specs.Gaps.{judged_in}
-use Rattle.vbi_whole.specs.Told.{stage_of}
 
 abbrev pub invariant-loop-field : goal.invariant-loop-field
 invariant-loop-field l = record {

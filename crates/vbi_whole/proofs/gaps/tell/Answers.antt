@@ -1,12 +1,9 @@
 use Rattle.std.proofs.Common.{◌≡◌, ℕ, suc, ◌+◌, sym, ap, subst, arith}
 use Rattle.std.specs.Prelude.{Some, nat_lt}
-use Rattle.vbi_whole.specs.Gaps.{gap_of, ended_between}
-use Rattle.vbi_whole.specs.Told.{AreTelling, IsTelling}
-use Rattle.vbi_whole.proofs.Telling.{told_on, told_gap}
+use Rattle.vbi_whole.specs.Gaps.{gap_of, ended_between, judged_in, amid}
+use Rattle.vbi_whole.specs.Told.{AreTelling, IsTelling, listed, stage_of}
+use Rattle.vbi_whole.proofs.Telling.{told_on, told_gap, go_on}
 use Rattle.vbi_whole.proofs.gaps.tell.Goals as goal
-use Rattle.vbi_whole.specs.Gaps.{judged_in, amid}
-use Rattle.vbi_whole.specs.Told.{listed, stage_of}
-use Rattle.vbi_whole.proofs.Telling.{go_on}
 
 pub returns-in-None : goal.returns-in-None
 returns-in-None c = λ old neighbours since told.

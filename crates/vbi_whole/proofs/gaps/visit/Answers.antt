@@ -1,9 +1,8 @@
 use Rattle.std.proofs.Common.{◌≡◌, suc, ◌+◌, refl, subst, arith}
-use Rattle.vbi_whole.specs.Told.{IsTelling}
+use Rattle.vbi_whole.specs.Told.{IsTelling, stage_of}
 use Rattle.vbi_whole.proofs.Telling.{told_free}
 use Rattle.vbi_whole.proofs.gaps.visit.Goals as goal
 use Rattle.vbi_whole.specs.Gaps.{judged_in}
-use Rattle.vbi_whole.specs.Told.{stage_of}
 
 pub returns-in_default : goal.returns-in_default
 returns-in_default c = λ old since told.

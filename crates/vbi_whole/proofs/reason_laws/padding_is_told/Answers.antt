@@ -1,7 +1,7 @@
 use Rattle.std.proofs.Common.{◌≡◌, ◌<◌, ℕ, ◌+◌, Bool, true, false, List, refl, arith, sym, ◌∙◌, inl, inr}
 use Rattle.std.specs.Prelude.{Some, slice_get, nat_le, nat_lt, ◌==◌, if◌then◌else◌}
 use Rattle.vbi_side.specs.Ends.{no_end, lead_out, doubtful_end, lead_in, padding, out_weight, in_weight}
-use Rattle.vbi_whole.specs.Verdicts.{yes, no, cannot_tell, padded_in, AreReasons}
+use Rattle.vbi_whole.specs.Verdicts.{padded_in, AreReasons}
 use Rattle.vbi_whole.proofs.Costless.{inserted_is_no}
 use Rattle.vbi_whole.proofs.NoReason.{one_counted}
 use Rattle.vbi_whole.proofs.WholeSides.{none_known}
@@ -16,13 +16,10 @@ returns-clause-never c judged may_end finding old new is i at whole = go is.reas
   where
     go : AreReasons judged may_end finding is.swapped is.drifts → ⊥
     go (inl (never, e, first, last)) =
-        let h : cannot_tell ≡ yes
-        = sym (none_known judged may_end finding old new is never) ∙ whole in
-        absurd (omega (arith, h))
+        absurd (let h = sym (none_known judged may_end finding old new is never) ∙ whole in cc)
     go (inr (m, n, are, e)) =
-        let h : no ≡ yes = sym (inserted_is_no judged may_end finding old new is
-        (λ never. never finding.first m are.begins) (inr (some_padded judged.ends i at))) ∙ whole in
-        absurd (omega (arith, h))
+        absurd (let h = sym (inserted_is_no judged may_end finding old new is
+        (λ never. never finding.first m are.begins) (inr (some_padded judged.ends i at))) ∙ whole in cc)
 
 pub returns-clause-verdict : goal.returns-clause-verdict
 returns-clause-verdict c judged may_end finding old new is some i at =

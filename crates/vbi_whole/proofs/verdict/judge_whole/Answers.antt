@@ -29,7 +29,7 @@ returns-in_default c = record {
   padded = c.padded_in-padded.ensures;
   blank = c.first_blank-blank.ensures;
   verdict = c.verdict.ensures;
-  reasons = inl (c.in_default.ensures.none refl, refl, refl, refl);
+  reasons = inl (c.in_default.ensures.none refl, c.without_numbers-reasons.ensures, refl, refl);
 }
 
 pub returns : goal.returns
@@ -55,6 +55,6 @@ returns c =
           none_before = c.in-Some.ensures.some.2;
           none_after = last.1;
         },
-        c.reasons-reasons.ensures,
+        c.reasons_against-reasons.ensures,
       );
     }

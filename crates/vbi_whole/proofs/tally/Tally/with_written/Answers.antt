@@ -1,9 +1,8 @@
 use Rattle.std.proofs.Common.{◌++◌, ◌∷◌, [], sym, subst}
 use Rattle.vbi_whole.specs.declared.tally.Tally.{Tally}
-use Rattle.vbi_whole.specs.Told.{AreTold}
+use Rattle.vbi_whole.specs.Told.{AreTold, listed}
 use Rattle.vbi_whole.proofs.Telling.{told_one}
 use Rattle.vbi_whole.proofs.tally.Tally.with_written.Goals as goal
-use Rattle.vbi_whole.specs.Told.{listed}
 
 pub returns-clause-told : goal.returns-clause-told
 returns-clause-told c = λ gaps unread old told.

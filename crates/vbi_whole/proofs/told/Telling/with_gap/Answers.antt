@@ -3,10 +3,9 @@ use Rattle.std.specs.Prelude.{Option}
 use Rattle.vbi_whole.specs.declared.detour.Waiting.{Waiting}
 use Rattle.vbi_whole.specs.declared.gap.Gap.{Gap}
 use Rattle.vbi_whole.specs.Detours.{turned, fields_by}
-use Rattle.vbi_whole.specs.Told.{AreTold, AreTelling, waiting}
+use Rattle.vbi_whole.specs.Told.{AreTold, AreTelling, waiting, listed, stage}
 use Rattle.vbi_whole.proofs.Detouring.{one_waits, one_told, two_told}
 use Rattle.vbi_whole.proofs.told.Telling.with_gap.Goals as goal
-use Rattle.vbi_whole.specs.Told.{listed, stage}
 
 pub returns-in_default : goal.returns-in_default
 returns-in_default c = λ gaps unread old telling.
