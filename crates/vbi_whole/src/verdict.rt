@@ -28,7 +28,7 @@ use vbi_side::{
 };
 
 /// Whether a capture of a side is whole.
-#[derive(Clone, Copy)]
+#[derive(Clone, Copy, Debug, PartialEq, Eq)]
 pub enum Verdict {
     /// The capture has each field of the disc from its first number to its last one, as far as its numbers tell.
     Yes,

@@ -137,8 +137,8 @@ pub use crate::opened::OpenError;
 pub use crate::plans::{check_plan, Layout, PlanFault, Rule, Spacing, Stretch};
 pub use crate::side::Counted;
 pub use crate::sides::{Beside, Field, Neighbour, Number, Place, Side};
-pub use crate::whole::{Clock, Gap, GapKind, Reason, SideOptions, Verdict, Whole};
-pub use crate::whole_side::Tally;
+pub use crate::whole::{Clock, Gap, GapKind, Reason, SideOptions, Whole};
+pub use crate::whole_side::{Tally, Verdict};
 pub use crate::words::{
     classify, draw_line, format_of, Code, Format, Levels, LevelsFault, Outcome, Reading, System, Word24, WordFault,
 };

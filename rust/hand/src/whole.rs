@@ -4,7 +4,7 @@ use crate::lines::Error;
 use crate::numbers::{ends_of, Numbers};
 use crate::side::{self, Counted, Pace, PADDING};
 use crate::sides::{Number, Side};
-use crate::whole_side::{self, is_on_both, judge_whole, set_aside, Finding, Numbering, Reasons, Rule, Tally};
+use crate::whole_side::{self, is_on_both, judge_whole, set_aside, Finding, Numbering, Reasons, Rule, Tally, Verdict};
 
 /// How a whole side is judged.
 #[derive(Clone, Copy, Debug, PartialEq, Eq)]
@@ -55,17 +55,6 @@ impl Clock {
             side::Clock::OneIn { period, phase } => Clock::OneIn { period, phase },
         }
     }
-}
-
-/// Whether the capture of a side is whole.
-#[derive(Clone, Copy, Debug, PartialEq, Eq)]
-pub enum Verdict {
-    /// No reason speaks against it.
-    Yes,
-    /// The capture shows a reason why it isn't: one of the first six, [`Reason::IsInserted`] or [`Reason::IsPadded`].
-    No,
-    /// There are only other reasons.
-    CannotTell,
 }
 
 /// A reason why a capture isn't whole, or why it can't be told.
@@ -152,14 +141,9 @@ pub struct Whole {
 
 impl Whole {
     fn of(found: &Finding) -> Whole {
-        let verdict = match found.verdict {
-            whole_side::Verdict::Yes => Verdict::Yes,
-            whole_side::Verdict::No => Verdict::No,
-            whole_side::Verdict::CannotTell => Verdict::CannotTell,
-        };
         let reasons = &found.reasons;
         Whole {
-            verdict,
+            verdict: found.verdict,
             reasons: Reason::all(reasons),
             ends: (!reasons.no_numbers).then_some((found.first, found.last)),
             swap: reasons.is_swapped.then_some(found.swap),
