@@ -18,17 +18,19 @@ use Rattle.vbi_seek.specs.ChapterLeads.{TellsChapter, chapter_spots, IsFirstOf}
 use Rattle.vbi_seek.specs.Spots.{Leads}
 use Rattle.vbi_c.specs.ChapterRuns.{AreChaptersRead, IsFirstPicture}
 use Rattle.vbi_seek.specs.ChapterSearch.{chapters_at, chapters_from, said_below, TellChapter}
-use Rattle.vbi_seek.proofs.ChapterPlaces.{at, said_below-more}
+use Rattle.vbi_seek.specs.NumberSpots.{sum_below}
+use Rattle.vbi_seek.proofs.Running.{sum_below_more}
+use Rattle.vbi_seek.proofs.Shown.{at}
 use Rattle.vbi_seek.proofs.Tellers.{first_chapter, chapter_other}
 
 -- ---- weights
 
 said_grows : (seen : List Sightings) (n j d : ℕ) → said_below seen n j ≤ said_below seen n (j + d)
-unfolding said_below
+unfolding sum_below
 said_grows seen n j zero = omega (arith, ap (said_below seen n) (let e : j + 0 ≡ j = omega arith in e))
 said_grows seen n j (suc d) =
     let e : j + suc d ≡ j + d + 1 = omega arith in
-    omega (arith, said_grows seen n j d, ap (said_below seen n) e, said_below-more seen n (j + d))
+    omega (arith, said_grows seen n j d, ap (said_below seen n) e, sum_below_more (λ k m. m == n) seen (j + d))
 
 -- two fields that say a chapter on both lines
 two_say : (seen : List Sightings) (n i j k : ℕ) → i < j → j < k
@@ -39,10 +41,10 @@ two_say seen n i j k less inside one two =
     let after : j + 1 + (k - (j + 1)) ≡ k = omega (arith, inside) in
     omega (
       arith,
-      said_below-more seen n i,
+      sum_below_more (λ k m. m == n) seen i,
       said_grows seen n (i + 1) (j - (i + 1)),
       ap (said_below seen n) before,
-      said_below-more seen n j,
+      sum_below_more (λ k m. m == n) seen j,
       said_grows seen n (j + 1) (k - (j + 1)),
       ap (said_below seen n) after,
       one,

@@ -1,12 +1,11 @@
 -- What is judged of a part of a side, read field by field, is what is judged of the whole side.
-use Rattle.std.proofs.Common.{◌≡◌, ℕ, ◌+◌, ◌*◌, ◌-◌, ◌<◌, ◌≤◌, List, length, map, take, drop, ap, sym, subst, ◌∙◌}
+use Rattle.std.proofs.Common.{◌≡◌, ℕ, ◌+◌, ◌*◌, ◌-◌, ◌<◌, ◌≤◌, List, length, take, drop, ap, sym, subst, ◌∙◌}
 use Rattle.std.proofs.Common.{arith, inl, inr, zero-add, refl}
 use Rattle.std.specs.Prelude.{◌⊎◌, Some, None, get_or, slice_get}
-use Rattle.std.specs.List.{range_with_len}
 use Rattle.std.proofs.lemmas.Bool.Decides.{leb_tells}
 use Rattle.std.proofs.lemmas.List.{get_or-take, get_or-drop, length-take, length-drop}
-use Rattle.std.proofs.lemmas.List.FromFn.{get_or-map-range_with_len, length-map-range_with_len}
-use Rattle.std.proofs.lemmas.Option.{slice_get_past, slice_get_within, slice_get-get_or, get_or_from_slice_get}
+use Rattle.std.proofs.lemmas.List.FromFn.{length-map-range_with_len}
+use Rattle.std.proofs.lemmas.Option.{slice_get_within, slice_get-get_or, get_or_from_slice_get}
 use Rattle.vbi_side.specs.declared.number.Number.{Number}
 use Rattle.vbi_side.specs.declared.pace.Pace as paces
 use Rattle.vbi_side.specs.declared.sighting.Sightings.{Sightings}
@@ -15,27 +14,14 @@ use Rattle.vbi_side.specs.Numbers.{IsAnswer, IsFirst, IsKnown}
 use Rattle.vbi_side.specs.Parts.{IsPart}
 use Rattle.vbi_side.proofs.Filling.{one_answer}
 use Rattle.vbi_side.proofs.Parts.{same_in_part}
-use Rattle.vbi_seek.specs.declared.search.Search.{Search}
 use Rattle.vbi_seek.specs.declared.number_search.Around.{Around}
+use Rattle.vbi_seek.specs.declared.number_search.NumberSearch.{NumberSearch}
 use Rattle.vbi_seek.specs.NumberLeads.{IsFirstKnown}
-use Rattle.vbi_seek.specs.Searches.{numbers_of, shows, shown_from, among, IsWindow, IsJudgedAround}
-use Rattle.vbi_seek.specs.NumberSearch.{shown_of, HasOther, IsJudgedIn}
+use Rattle.vbi_seek.specs.NumbersAround.{numbers_of, among, IsWindow, IsJudgedAround}
+use Rattle.vbi_seek.proofs.Shown.{at, past}
+use Rattle.vbi_seek.specs.NumberSearch.{shown_at, shown_from, shown_of, HasOther, IsJudgedIn}
 
 -- ---- lists
-
--- an element of a list that is made of so many numbers, from one on
-at : {A : Type 0} (f : ℕ → A) (first count i j : ℕ) → i < count → first + i ≡ j
-    → slice_get (map f (range_with_len first count)) i ≡ Some (f j)
-at f first count i j inside is =
-    slice_get-get_or (map f (range_with_len first count)) i (f j)
-    (omega (arith, length-map-range_with_len f first count, inside))
-    ∙ ap Some (get_or-map-range_with_len f first count i j (f j) inside is)
-
-past : {A : Type 0} (f : ℕ → A) (first count i : ℕ) → count ≤ i
-    → slice_get (map f (range_with_len first count)) i ≡ None
-past f first count i outside =
-    slice_get_past (map f (range_with_len first count)) i
-    (omega (arith, length-map-range_with_len f first count, outside))
 
 -- an element of a piece of a list
 of_piece : {A : Type 0} (list : List A) (from count i : ℕ) (x : A) → from + count ≤ length list
@@ -53,32 +39,34 @@ of_piece list from count i x inside is = (
 -- ---- a side
 
 -- what all its fields show
-abbrev pub all_shown : Search → List Sightings
+abbrev pub all_shown : NumberSearch → List Sightings
 all_shown search = shown_of (numbers_of search)
 
 -- the fields that are judged are a part of the side from which those can be judged in which the number is looked for
-part_of : (search : Search) (a : Around) (i : ℕ) → IsWindow search.count a → a.from ≤ a.first + i → a.first + i < a.to
-    → IsPart Sightings (all_shown search) (shown_from search a.first (a.end - a.first)) a.first i
+part_of : (search : NumberSearch) (a : Around) (i : ℕ) → IsWindow search.side.count a → a.from ≤ a.first + i
+    → a.first + i < a.to
+    → IsPart Sightings (all_shown search) (shown_from (numbers_of search) a.first (a.end - a.first)) a.first i
 part_of search a i window after before = record {
   before = elim window.before [ inl none ↦ inl none | inr far ↦ inr (omega (arith, far, after)) ];
   same = same;
 }
   where
     same : (j : ℕ) → j ≤ i + 2 * reach
-        → slice_get (shown_from search a.first (a.end - a.first)) j ≡ slice_get (all_shown search) (a.first + j)
+        → slice_get (shown_from (numbers_of search) a.first (a.end - a.first)) j
+        ≡ slice_get (all_shown search) (a.first + j)
     same j within = elim (leb_tells (a.end - a.first) j) [
-      | inr (t, less) ↦ at (shows search) a.first (a.end - a.first) j (a.first + j) less refl
-          ∙ sym (at (shows search) 0 search.count (a.first + j) (a.first + j)
+      | inr (t, less) ↦ at (shown_at (numbers_of search)) a.first (a.end - a.first) j (a.first + j) less refl
+          ∙ sym (at (shown_at (numbers_of search)) 0 search.side.count (a.first + j) (a.first + j)
           (omega (arith, window.order, less)) (zero-add (a.first + j)))
-      | inl (t, more) ↦ past (shows search) a.first (a.end - a.first) j more
-          ∙ sym (past (shows search) 0 search.count (a.first + j) (elim window.after [
+      | inl (t, more) ↦ past (shown_at (numbers_of search)) a.first (a.end - a.first) j more
+          ∙ sym (past (shown_at (numbers_of search)) 0 search.side.count (a.first + j) (elim window.after [
             | inl all ↦ omega (arith, all, more)
             | inr far ↦ absurd (omega (arith, far, within, more, before))
           ]))
     ]
 
 -- what is answered of field i of those in which the number is looked for is answered of it in the whole side
-pub judged_among : (search : Search) (a : Around) (pace : paces.Pace) (numbers : List Number) (i : ℕ) (n : Number)
+pub judged_among : (search : NumberSearch) (a : Around) (pace : paces.Pace) (numbers : List Number) (i : ℕ) (n : Number)
     → IsJudgedAround search a pace numbers → slice_get (among a numbers) i ≡ Some n
     → (a.from + i < a.to) × (slice_get numbers (a.from - a.first + i) ≡ Some n)
     × IsAnswer pace (all_shown search) (a.from + i) n
@@ -86,7 +74,7 @@ judged_among search a pace numbers i n judged is = (
   omega (arith, piece.0),
   piece.1,
   subst (λ f. IsAnswer pace (all_shown search) f n) (omega (arith, judged.window.order))
-      ((same_in_part pace (all_shown search) (shown_from search a.first (a.end - a.first)) a.first
+      ((same_in_part pace (all_shown search) (shown_from (numbers_of search) a.first (a.end - a.first)) a.first
       (a.from - a.first + i) n
       (part_of search a (a.from - a.first + i) judged.window (omega arith)
       (omega (arith, piece.0, judged.window.order)))).0
@@ -94,27 +82,27 @@ judged_among search a pace numbers i n judged is = (
 )
   where
     long : length numbers ≡ a.end - a.first
-    long = judged.answers.count ∙ length-map-range_with_len (shows search) a.first (a.end - a.first)
+    long = judged.answers.count ∙ length-map-range_with_len (shown_at (numbers_of search)) a.first (a.end - a.first)
 
     piece : (i < a.to - a.first - (a.from - a.first)) × (slice_get numbers (a.from - a.first + i) ≡ Some n)
     piece = of_piece numbers (a.from - a.first) (a.to - a.first - (a.from - a.first)) i n
         (omega (arith, long, judged.window.order)) is
 
 -- each of those is answered
-pub one_among : (search : Search) (a : Around) (pace : paces.Pace) (numbers : List Number) (i : ℕ) (none : Number)
+pub one_among : (search : NumberSearch) (a : Around) (pace : paces.Pace) (numbers : List Number) (i : ℕ) (none : Number)
     → IsJudgedAround search a pace numbers → a.from + i < a.to
     → slice_get (among a numbers) i ≡ Some (get_or (among a numbers) i none)
 one_among search a pace numbers i none judged inside = slice_get-get_or (among a numbers) i none (omega (
   arith,
   length-take (a.to - a.first - (a.from - a.first)) (drop (a.from - a.first) numbers),
   length-drop (a.from - a.first) numbers,
-  judged.answers.count ∙ length-map-range_with_len (shows search) a.first (a.end - a.first),
+  judged.answers.count ∙ length-map-range_with_len (shown_at (numbers_of search)) a.first (a.end - a.first),
   judged.window.order,
   inside,
 ))
 
 -- each of those is judged with all on which its answer depends
-pub judged_in : (search : Search) (a : Around) (pace : paces.Pace) (numbers : List Number) (t : ℕ)
+pub judged_in : (search : NumberSearch) (a : Around) (pace : paces.Pace) (numbers : List Number) (t : ℕ)
     → IsJudgedAround search a pace numbers → a.from ≤ t → t < a.to
     → IsJudgedIn (numbers_of search) t a.first (a.end - a.first) pace
 judged_in search a pace numbers t judged from to = record {
@@ -130,8 +118,8 @@ judged_in search a pace numbers t judged from to = record {
 -- ---- a number
 
 -- what is known of the field at which a number is found
-pub record IsAt (search : Search) (a : Around) (pace : paces.Pace) (field : ℕ) (found : Number) : Type 0 where
-  pub inside : field < search.count
+pub record IsAt (search : NumberSearch) (a : Around) (pace : paces.Pace) (field : ℕ) (found : Number) : Type 0 where
+  pub inside : field < search.side.count
   pub judged : IsJudgedIn (numbers_of search) field a.first (a.end - a.first) pace
   pub known : IsKnown found search.number
   pub answer : IsAnswer pace (all_shown search) field found
@@ -140,7 +128,8 @@ pub record IsAt (search : Search) (a : Around) (pace : paces.Pace) (field : ℕ)
 
 -- the first of them that has the number has it in the whole side, if it isn't the very first of them, or is the first
 -- of the side
-pub found_at : (search : Search) (a : Around) (pace : paces.Pace) (numbers : List Number) (place : ℕ) (none : Number)
+pub found_at : (search : NumberSearch) (a : Around) (pace : paces.Pace) (numbers : List Number) (place : ℕ)
+    (none : Number)
     → IsJudgedAround search a pace numbers → IsFirst (among a numbers) search.number (Some place)
     → (0 < place) ⊎ (a.from ≡ 0) → IsAt search a pace (a.from + place) (get_or numbers (a.from - a.first + place) none)
 found_at search a pace numbers place none judged ((answer, shown, known), others) begun = record {
@@ -178,11 +167,11 @@ found_at search a pace numbers place none judged ((answer, shown, known), others
 -- ---- the first field with a number
 
 -- if the first field of the side with a number is among these, the number is found there
-pub record IsFoundAt (search : Search) (a : Around) (t : ℕ) (numbers : List Number) : Type 0 where
+pub record IsFoundAt (search : NumberSearch) (a : Around) (t : ℕ) (numbers : List Number) : Type 0 where
   pub there : IsFirst (among a numbers) search.number None → ⊥
   pub at : (place : ℕ) → IsFirst (among a numbers) search.number (Some place) → a.from + place ≡ t
 
-first_found : (search : Search) (a : Around) (t : ℕ) (pace : paces.Pace) (numbers : List Number) (none : Number)
+first_found : (search : NumberSearch) (a : Around) (t : ℕ) (pace : paces.Pace) (numbers : List Number) (none : Number)
     → IsJudgedAround search a pace numbers
     → IsFirstKnown (numbers_of search) search.number t pace → a.from ≤ t → t < a.to
     → IsFoundAt search a t numbers
@@ -223,7 +212,7 @@ first_found search a t pace numbers none judged known from to =
     ]
 
 -- so it is, if the fields lead to it, whatever pace was found
-pub first_sought : (search : Search) (a : Around) (t : ℕ) (pace here : paces.Pace) (numbers : List Number)
+pub first_sought : (search : NumberSearch) (a : Around) (t : ℕ) (pace here : paces.Pace) (numbers : List Number)
     → IsJudgedAround search a here numbers
     → IsFirstKnown (numbers_of search) search.number t pace → (a.from ≤ t) × (t < a.to)
     → IsFoundAt search a t numbers

@@ -11,20 +11,20 @@ use Rattle.vbi_side.specs.declared.sighting.Sightings.{Sightings}
 use Rattle.vbi_side.specs.Numbers.{nothing, believed, IsAnswer, IsFirst, IsMarked}
 use Rattle.vbi_side.proofs.Filling.{one_answer, shown_within, answer_believed}
 use Rattle.vbi_seek.specs.declared.neighbours.Neighbour.{Neighbour}
-use Rattle.vbi_seek.specs.declared.search.Search.{Search}
+use Rattle.vbi_seek.specs.declared.number_search.NumberSearch.{NumberSearch}
 use Rattle.vbi_seek.specs.declared.number_search.Around.{Around}
 use Rattle.vbi_seek.specs.declared.number_search.Sought.{Sought}
 use Rattle.vbi_seek.specs.Neighbours.{IsLastLower, IsLastLowerAt, IsFirstHigher, IsFirstHigherAt, IsBelieved, IsLower}
 use Rattle.vbi_seek.specs.Neighbours.{IsHigher, HaveNoLower, HaveNoHigher, IsNone, IsBefore, IsAfter, AreRising, IsGap}
 use Rattle.vbi_seek.specs.Neighbours.{Span, span_of, all_of, AreNeighbours, AreAround, IsLookedFor, AreLedTo}
-use Rattle.vbi_seek.specs.Searches.{among, IsJudgedAround}
+use Rattle.vbi_seek.specs.NumbersAround.{among, IsJudgedAround}
 use Rattle.vbi_seek.specs.NumberSearch.{Numbers, shown_at, shown_of}
 use Rattle.vbi_seek.proofs.Answered.{all_shown, judged_among, one_among}
 
 -- ---- the fields in which the number is looked for
 
 -- one of them that is believed to have a number is answered so
-marked_at : (search : Search) (a : Around) (pace : paces.Pace) (numbers : List Number) (i n : ℕ)
+marked_at : (search : NumberSearch) (a : Around) (pace : paces.Pace) (numbers : List Number) (i n : ℕ)
     → IsJudgedAround search a pace numbers → a.from ≤ i → i < a.to → IsBelieved pace (all_shown search) i n
     → (i - a.from < length (among a numbers)) × IsMarked (among a numbers) (i - a.from) n
 marked_at search a pace numbers i n judged from to told =
@@ -42,7 +42,7 @@ marked_at search a pace numbers i n judged from to told =
         (judged_among search a pace numbers (i - a.from) x judged there).2)
         told)
 
-lower_among : (search : Search) (a : Around) (pace : paces.Pace) (numbers : List Number) (at m : ℕ)
+lower_among : (search : NumberSearch) (a : Around) (pace : paces.Pace) (numbers : List Number) (at m : ℕ)
     → IsJudgedAround search a pace numbers
     → IsLastLowerAt (among a numbers) (length (among a numbers)) search.number at m
     → IsLower (all_shown search) (span_of pace a) search.number (a.from + at) m
@@ -66,7 +66,7 @@ lower_among search a pace numbers at m judged is = record {
           | inr (same, earlier) ↦ inr (same, omega (arith, earlier, from))
         ]
 
-higher_among : (search : Search) (a : Around) (pace : paces.Pace) (numbers : List Number) (at m : ℕ)
+higher_among : (search : NumberSearch) (a : Around) (pace : paces.Pace) (numbers : List Number) (at m : ℕ)
     → IsJudgedAround search a pace numbers
     → IsFirstHigherAt (among a numbers) (length (among a numbers)) search.number at m
     → IsHigher (all_shown search) (span_of pace a) search.number (a.from + at) m
@@ -99,12 +99,12 @@ some_same : (x y : Number) → Some x ≡ Some y → x ≡ y
 some_same x y e = cc
 
 -- the last field with the nearest lower number among them is so in the side
-pub before_among : (search : Search) (a : Around) (pace : paces.Pace) (numbers : List Number) (at : Option ℕ)
+pub before_among : (search : NumberSearch) (a : Around) (pace : paces.Pace) (numbers : List Number) (at : Option ℕ)
     (before : Neighbour)
     → IsJudgedAround search a pace numbers
     → IsLastLower (among a numbers) (length (among a numbers)) search.number at
-    → (at ≡ None → IsNone search.count before) → IfSome at (StandsAt a numbers before)
-    → IsBefore (all_shown search) search.count (span_of pace a) search.number before
+    → (at ≡ None → IsNone search.side.count before) → IfSome at (StandsAt a numbers before)
+    → IsBefore (all_shown search) search.side.count (span_of pace a) search.number before
 before_among search a pace numbers None before judged is none some = inr (
   none refl,
   λ i n from to told less.
@@ -118,12 +118,12 @@ before_among search a pace numbers (Some at) before judged (m, is) none (field, 
 )
 
 -- so is the first field with the nearest higher number
-pub after_among : (search : Search) (a : Around) (pace : paces.Pace) (numbers : List Number) (at : Option ℕ)
+pub after_among : (search : NumberSearch) (a : Around) (pace : paces.Pace) (numbers : List Number) (at : Option ℕ)
     (after : Neighbour)
     → IsJudgedAround search a pace numbers
     → IsFirstHigher (among a numbers) (length (among a numbers)) search.number at
-    → (at ≡ None → IsNone search.count after) → IfSome at (StandsAt a numbers after)
-    → IsAfter (all_shown search) search.count (span_of pace a) search.number after
+    → (at ≡ None → IsNone search.side.count after) → IfSome at (StandsAt a numbers after)
+    → IsAfter (all_shown search) search.side.count (span_of pace a) search.number after
 after_among search a pace numbers None after judged is none some = inr (
   none refl,
   λ i n from to told more.
@@ -270,7 +270,7 @@ gap_whole shown count span number t sought inside long around gap (before, after
 -- ---- where the number was looked for
 
 -- the first of them with the number is one of them
-pub first_inside : (search : Search) (a : Around) (pace : paces.Pace) (numbers : List Number) (at : ℕ)
+pub first_inside : (search : NumberSearch) (a : Around) (pace : paces.Pace) (numbers : List Number) (at : ℕ)
     → IsJudgedAround search a pace numbers → IsFirst (among a numbers) search.number (Some at)
     → (a.from ≤ a.from + at) × (a.from + at < a.to)
 first_inside search a pace numbers at judged ((answer, shown, known), others) =

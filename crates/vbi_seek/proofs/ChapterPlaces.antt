@@ -1,14 +1,13 @@
 -- The field in which a chapter begins, by the answers of the fields around it.
-use Rattle.std.proofs.Common.{◌≡◌, ℕ, ◌+◌, ◌-◌, ◌<◌, ◌≤◌, List, map, ap, sym, subst, ◌∙◌, arith, inl, inr}
-use Rattle.std.proofs.Common.{add-one, refl, zero-add}
-use Rattle.std.specs.Prelude.{◌==◌, ◌⊎◌, ◌↔◌, Some, None, get_or, slice_get, min}
-use Rattle.std.specs.List.{range_with_len}
+use Rattle.std.proofs.Common.{◌≡◌, ℕ, ◌+◌, ◌-◌, ◌<◌, ◌≤◌, List, ap, sym, subst, ◌∙◌, arith, inl, inr}
+use Rattle.std.proofs.Common.{refl, zero-add}
+use Rattle.std.specs.Prelude.{◌⊎◌, ◌↔◌, Some, get_or, slice_get, min}
 use Rattle.std.proofs.lemmas.Bool.Decides.{leb_tells}
-use Rattle.std.proofs.lemmas.List.FromFn.{get_or-map-range_with_len, length-map-range_with_len}
-use Rattle.std.proofs.lemmas.Option.{slice_get_past, slice_get-get_or}
+use Rattle.std.proofs.lemmas.List.FromFn.{length-map-range_with_len}
+use Rattle.std.proofs.lemmas.Option.{slice_get-get_or}
 use Rattle.vbi_side.specs.declared.number.Number.{Number}
 use Rattle.vbi_side.specs.declared.sighting.Sightings.{Sightings}
-use Rattle.vbi_side.specs.Beliefs.{reach, field_weight}
+use Rattle.vbi_side.specs.Beliefs.{reach}
 use Rattle.vbi_side.specs.Chapters.{AreChapters, BelievedChapter}
 use Rattle.vbi_side.specs.Numbers.{believed, IsMarked}
 use Rattle.vbi_side.specs.Truth.{IsNear}
@@ -17,21 +16,11 @@ use Rattle.vbi_side.proofs.ChapterParts.{chapter_in_part}
 use Rattle.vbi_side.proofs.Filling.{shown_within}
 use Rattle.vbi_seek.specs.declared.chapter_search.Window.{Window}
 use Rattle.vbi_seek.specs.declared.side_bytes.SideBytes.{SideBytes}
-use Rattle.vbi_seek.specs.ChapterSearch.{chapters_at, side_from, said_below, HasChapter, Begins, BeginsAmong}
+use Rattle.vbi_seek.specs.ChapterSearch.{chapters_at, side_from, HasChapter, Begins, BeginsAmong}
 use Rattle.vbi_seek.specs.ChapterSearch.{AreSeenBefore, IsWindowOf, before_most}
 use Rattle.vbi_seek.specs.ChapterLeads.{IsFirstOf, IsReached}
 use Rattle.vbi_seek.specs.FieldLines.{side_of}
-
--- ---- weights
-
-pub said_below-zero : (seen : List Sightings) (n : ℕ) → said_below seen n 0 ≡ 0
-unfolding said_below
-said_below-zero seen n = refl
-
-pub said_below-more : (seen : List Sightings) (n k : ℕ)
-    → said_below seen n (k + 1) ≡ said_below seen n k + field_weight (λ m. m == n) (slice_get seen k)
-unfolding said_below
-said_below-more seen n k = rw add-one refl
+use Rattle.vbi_seek.proofs.Shown.{at, past}
 
 -- ---- answers
 
@@ -45,19 +34,6 @@ pub record IsClear (answers : List Number) (first from i clear n : ℕ) : Type 0
   pub passed : (j : ℕ) → from ≤ j → j < i → AreSeenBefore first from j → BeginsAmong answers from j n → ⊥
 
 -- ---- a window
-
-pub at : {A : Type 0} (f : ℕ → A) (first count i j : ℕ) → i < count → first + i ≡ j
-    → slice_get (map f (range_with_len first count)) i ≡ Some (f j)
-at f first count i j inside is =
-    slice_get-get_or (map f (range_with_len first count)) i (f j)
-    (omega (arith, length-map-range_with_len f first count, inside))
-    ∙ ap Some (get_or-map-range_with_len f first count i j (f j) inside is)
-
-past : {A : Type 0} (f : ℕ → A) (first count i : ℕ) → count ≤ i
-    → slice_get (map f (range_with_len first count)) i ≡ None
-past f first count i outside =
-    slice_get_past (map f (range_with_len first count)) i
-    (omega (arith, length-map-range_with_len f first count, outside))
 
 -- what the fields of a window show is what those of the side show, as far as an answer depends on it
 same_shown : (side : SideBytes) (w : Window) (i j : ℕ) → IsWindowOf side.count w → w.from ≤ i → i < w.to → IsNear i j

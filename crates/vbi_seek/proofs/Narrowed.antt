@@ -1,5 +1,5 @@
 -- By what a number is sought between other fields than before, if both ends have told a number and the middle none.
-use Rattle.std.proofs.Common.{◌≡◌, ◌∙◌, ℕ, ◌+◌, ◌-◌, ◌/◌, ◌≤◌, List, sym, subst, ap, ap₂, inl, inr}
+use Rattle.std.proofs.Common.{◌≡◌, ◌∙◌, ℕ, ◌+◌, ◌-◌, ◌*◌, ◌/◌, ◌≤◌, List, sym, subst, ap, ap₂, inl, inr}
 use Rattle.std.specs.Prelude.{◌⊎◌, Option, Some}
 use Rattle.vbi_side.specs.declared.sighting.Sightings.{Sightings}
 use Rattle.vbi_seek.specs.declared.narrowing.Between.{Between}
@@ -9,6 +9,7 @@ use Rattle.vbi_seek.specs.declared.search.Search.{Search}
 use Rattle.vbi_seek.specs.Searches.{IsNarrowedAt, IsNarrowedByOne, IsNarrowedNear, IsNarrowedBetween, IsGuessed}
 use Rattle.vbi_seek.specs.Searches.{IsSilent, AreSeenFrom}
 use Rattle.vbi_seek.specs.Searches.{IsMoreLikelyAfter, middle_in, later_in, earlier_in}
+use Rattle.vbi_seek.specs.Kinds.{most_of}
 use Rattle.vbi_seek.specs.NumberSearch.{probe_most, probe_longest}
 use Rattle.vbi_seek.specs.NumberSpots.{IsShownBetween}
 
@@ -32,30 +33,31 @@ module _ (search : Search) (told : Told) (spare : ℕ) (seen : List Sightings) (
         → IsNarrowedBetween search told spare seen old new
     by_earlier new is = record { shown = λ i n shown. absurd (none i n shown); by = inr (inr (inl is)) }
 
-    module _ (later : probe_most ≤ spare → IsSilent search (later_in old).field)
-        (earlier : probe_longest + probe_most ≤ spare → IsSilent search (earlier_in old).field)
+    module _ (later : most_of search.kind ≤ spare → IsSilent search (later_in old).field)
+        (earlier : (probe_longest - probe_most) + 2 * most_of search.kind ≤ spare
+        → IsSilent search (earlier_in old).field)
         (kept : Between) (same : kept ≡ old) where
       guess : (new : Between) → IsGuessed search told spare old new → IsNarrowedBetween search told spare seen old new
       guess new is = record { shown = λ i n shown. absurd (none i n shown); by = inr (inr (inr is)) }
 
-      pub guessed_after : IsMoreLikelyAfter search.number (middle_in old) told kept
+      pub guessed_after : IsMoreLikelyAfter search.sought (middle_in old) told kept
           → IsNarrowedBetween search told spare seen old (record kept { low = middle_in old })
       guessed_after likely = guess (record kept { low = middle_in old }) (record {
         later = later;
         earlier = earlier;
         half = inl (
-          subst (λ (b : Between). IsMoreLikelyAfter search.number (middle_in old) told b) same likely,
+          subst (λ (b : Between). IsMoreLikelyAfter search.sought (middle_in old) told b) same likely,
           ap (λ (b : Between). record b { low = middle_in old }) same,
         );
       })
 
-      pub guessed_before : (IsMoreLikelyAfter search.number (middle_in old) told kept → ⊥)
+      pub guessed_before : (IsMoreLikelyAfter search.sought (middle_in old) told kept → ⊥)
           → IsNarrowedBetween search told spare seen old (record kept { high = middle_in old })
       guessed_before unlikely = guess (record kept { high = middle_in old }) (record {
         later = later;
         earlier = earlier;
         half = inr (
-          subst (λ (b : Between). IsMoreLikelyAfter search.number (middle_in old) told b → ⊥) same unlikely,
+          subst (λ (b : Between). IsMoreLikelyAfter search.sought (middle_in old) told b → ⊥) same unlikely,
           ap (λ (b : Between). record b { high = middle_in old }) same,
         );
       })

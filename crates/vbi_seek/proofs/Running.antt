@@ -1,17 +1,15 @@
--- The weight of what fields show that runs on at the pace of video.
-use Rattle.std.proofs.Common.{◌≡◌, ℕ, ◌+◌, List, add-one, ap, refl}
+-- The weight of what fields show that passes a test.
+use Rattle.std.proofs.Common.{◌≡◌, ℕ, Bool, ◌+◌, List, add-one, ap, refl}
 use Rattle.std.specs.Prelude.{slice_get}
-use Rattle.vbi_side.specs.declared.pace.Pace.TheVariants.{Video}
 use Rattle.vbi_side.specs.declared.sighting.Sightings.{Sightings}
 use Rattle.vbi_side.specs.Beliefs.{field_weight}
-use Rattle.vbi_side.specs.Paces.{fits}
-use Rattle.vbi_seek.specs.NumberSpots.{run_below}
+use Rattle.vbi_seek.specs.NumberSpots.{sum_below}
 
-pub run_below-zero : (seen : List Sightings) (i n : ℕ) → run_below seen i n 0 ≡ 0
-unfolding run_below
-run_below-zero seen i n = refl
+pub sum_below_zero : (test : ℕ → ℕ → Bool) (seen : List Sightings) → sum_below test seen 0 ≡ 0
+unfolding sum_below
+sum_below_zero test seen = refl
 
-pub run_below-more : (seen : List Sightings) (i n k : ℕ)
-    → run_below seen i n (k + 1) ≡ run_below seen i n k + field_weight (fits Video i n k) (slice_get seen k)
-unfolding run_below
-run_below-more seen i n k = ap (run_below seen i n) (add-one k)
+pub sum_below_more : (test : ℕ → ℕ → Bool) (seen : List Sightings) (k : ℕ)
+    → sum_below test seen (k + 1) ≡ sum_below test seen k + field_weight (test k) (slice_get seen k)
+unfolding sum_below
+sum_below_more test seen k = ap (sum_below test seen) (add-one k)

@@ -40,14 +40,14 @@ set_other xs i j x other = elim (leb_tells (length xs) j) [
 
 -- one field more is put into its place
 pub seen_more : (search : Search) (field i : ℕ) (seen : List Sightings) (here : Sightings) → i < length seen
-    → field + i < search.count → here ≡ shows search (field + i) → AreSeenFrom search field seen
+    → field + i < search.side.count → here ≡ shows search (field + i) → AreSeenFrom search field seen
     → AreSeenFrom search field (slice_set seen i here)
 seen_more search field i seen here inside counted is before =
     record { each = λ k n shown. go k n shown (eqb_tells k i) }
   where
     go : (k n : ℕ) → Shows (slice_get (slice_set seen i here) k) n
         → ((eqb k i ≡ true) × (k ≡ i)) ⊎ ((eqb k i ≡ false) × (k ≢ i))
-        → (field + k < search.count) × Shows (Some (shows search (field + k))) n
+        → (field + k < search.side.count) × Shows (Some (shows search (field + k))) n
     go k n shown (inl (t, same)) =
         let at : slice_get (slice_set seen i here) k ≡ Some (shows search (field + k))
         = ap (λ (j : ℕ). slice_get (slice_set seen i here) j) same ∙ set_same seen i here inside

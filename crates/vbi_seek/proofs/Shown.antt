@@ -1,8 +1,10 @@
 -- What is known of the first fields from one on, and of one field more.
-use Rattle.std.proofs.Common.{◌≡◌, ℕ, ◌+◌, ◌<◌, ◌∷◌, [], ◌++◌, List, length, map, take, slice_set, refl, ap, sym, ◌∙◌}
-use Rattle.std.proofs.Common.{add_assoc}
+use Rattle.std.proofs.Common.{◌≡◌, ℕ, ◌+◌, ◌<◌, ◌≤◌, ◌∷◌, [], ◌++◌, List, length, map, take, slice_set, refl, ap}
+use Rattle.std.proofs.Common.{add_assoc, arith, sym, ◌∙◌}
+use Rattle.std.specs.Prelude.{Some, None, slice_get}
 use Rattle.std.proofs.lemmas.List.{take_more_set}
-use Rattle.std.proofs.lemmas.List.FromFn.{map-range_with_len_more}
+use Rattle.std.proofs.lemmas.List.FromFn.{get_or-map-range_with_len, length-map-range_with_len, map-range_with_len_more}
+use Rattle.std.proofs.lemmas.Option.{slice_get_past, slice_get-get_or}
 use Rattle.std.specs.List.{range_with_len}
 use Rattle.vbi_side.specs.declared.sighting.Sightings.{Sightings}
 use Rattle.vbi_seek.specs.declared.search.Looked.{Looked}
@@ -24,3 +26,17 @@ counted_more old looked new i before more =
     more
     ∙ ap (λ (l : Looked). record l { fields = l.fields + 1 }) before
     ∙ ap (λ (n : ℕ). record old { fields = n }) (add_assoc old.fields i 1)
+
+-- an element of a list that is made of so many numbers, from one on
+pub at : {A : Type 0} (f : ℕ → A) (first count i j : ℕ) → i < count → first + i ≡ j
+    → slice_get (map f (range_with_len first count)) i ≡ Some (f j)
+at f first count i j inside is =
+    slice_get-get_or (map f (range_with_len first count)) i (f j)
+    (omega (arith, length-map-range_with_len f first count, inside))
+    ∙ ap Some (get_or-map-range_with_len f first count i j (f j) inside is)
+
+pub past : {A : Type 0} (f : ℕ → A) (first count i : ℕ) → count ≤ i
+    → slice_get (map f (range_with_len first count)) i ≡ None
+past f first count i outside =
+    slice_get_past (map f (range_with_len first count)) i
+    (omega (arith, length-map-range_with_len f first count, outside))

@@ -14,7 +14,7 @@ use Rattle.vbi_side.specs.Sightings.{Shows, Has}
 use Rattle.vbi_side.proofs.Filling.{shown_within}
 use Rattle.vbi_side.proofs.Weights.{field_passes, field_weight-most, spread, weight_at-passes}
 use Rattle.vbi_seek.specs.ChapterSearch.{said_below, TellChapter}
-use Rattle.vbi_seek.specs.NumberSpots.{together, run_below, run_weight, IsTold, TellsIn}
+use Rattle.vbi_seek.specs.NumberSpots.{together, sum_below, run_weight, IsTold, TellsIn}
 
 -- ---- one field tells nothing
 
@@ -33,37 +33,38 @@ window_other test seen i more = elim (spread test seen i reach (2 * reach + 1)) 
 ]
 
 -- the sum is at most what field c weighs, or another field weighs something
-abbrev RunSpread : List Sightings → ℕ → ℕ → ℕ → ℕ → Type 0
-RunSpread seen i n c k =
-    ((run_below seen i n k ≤ 4) × (k ≤ c → run_below seen i n k ≡ 0))
-    ⊎ ((j : ℕ) × (j ≢ c) × (0 < field_weight (fits Video i n j) (slice_get seen j)))
+abbrev SumSpread : (ℕ → ℕ → Bool) → List Sightings → ℕ → ℕ → Type 0
+SumSpread test seen c k =
+    ((sum_below test seen k ≤ 4) × (k ≤ c → sum_below test seen k ≡ 0))
+    ⊎ ((j : ℕ) × (j ≢ c) × (0 < field_weight (test j) (slice_get seen j)))
 
-run_spread : (seen : List Sightings) (i n c k : ℕ) → RunSpread seen i n c k
-unfolding run_below
-run_spread seen i n c zero = inl (omega arith, λ h. refl)
-run_spread seen i n c (suc k) = go (run_spread seen i n c k)
-    (leb_tells 1 (field_weight (fits Video i n k) (slice_get seen k))) (eqb_tells k c)
+sum_spread : (test : ℕ → ℕ → Bool) (seen : List Sightings) (c k : ℕ) → SumSpread test seen c k
+unfolding sum_below
+sum_spread test seen c zero = inl (omega arith, λ h. refl)
+sum_spread test seen c (suc k) = go (sum_spread test seen c k)
+    (leb_tells 1 (field_weight (test k) (slice_get seen k))) (eqb_tells k c)
   where
-    go : RunSpread seen i n c k
-        → ((nat_le 1 (field_weight (fits Video i n k) (slice_get seen k)) ≡ true)
-        × (1 ≤ field_weight (fits Video i n k) (slice_get seen k)))
-        ⊎ ((nat_le 1 (field_weight (fits Video i n k) (slice_get seen k)) ≡ false)
-        × (field_weight (fits Video i n k) (slice_get seen k) < 1))
-        → ((eqb k c ≡ true) × (k ≡ c)) ⊎ ((eqb k c ≡ false) × (k ≢ c)) → RunSpread seen i n c (suc k)
+    go : SumSpread test seen c k
+        → ((nat_le 1 (field_weight (test k) (slice_get seen k)) ≡ true)
+        × (1 ≤ field_weight (test k) (slice_get seen k)))
+        ⊎ ((nat_le 1 (field_weight (test k) (slice_get seen k)) ≡ false)
+        × (field_weight (test k) (slice_get seen k) < 1))
+        → ((eqb k c ≡ true) × (k ≡ c)) ⊎ ((eqb k c ≡ false) × (k ≢ c)) → SumSpread test seen c (suc k)
     go (inr found) weighs at = inr found
     go (inl (most, none)) (inr (f, lt)) at =
         inl (omega (arith, most, lt), λ h. omega (arith, none (omega (arith, h)), lt))
     go (inl (most, none)) (inl (t, le)) (inr (f, apart)) = inr (k, apart, omega (arith, le))
     go (inl (most, none)) (inl (t, le)) (inl (s, e)) = inl (
-      omega (arith, none (omega (arith, e)), field_weight-most (fits Video i n k) (slice_get seen k)),
+      omega (arith, none (omega (arith, e)), field_weight-most (test k) (slice_get seen k)),
       λ h. absurd (omega (arith, h, e)),
     )
 
-run_other : (seen : List Sightings) (i n : ℕ) → together ≤ run_weight seen i n → OtherShows seen i
-run_other seen i n more = elim (run_spread seen i n i (length seen)) [
+sum_other : (test : ℕ → ℕ → Bool) (seen : List Sightings) (i : ℕ) → together ≤ sum_below test seen (length seen)
+    → OtherShows seen i
+sum_other test seen i more = elim (sum_spread test seen i (length seen)) [
   | inl (most, none) ↦ absurd (omega (arith, most, more))
   | inr (j, apart, weighs) ↦
-      let p = field_passes (fits Video i n j) (slice_get seen j) weighs in (j, p.0, apart, p.1)
+      let p = field_passes (test j) (slice_get seen j) weighs in (j, p.0, apart, p.1)
 ]
 
 support_other : (pace : Pace) (seen : List Sightings) (i n : ℕ) → together ≤ support_of pace seen i n
@@ -76,7 +77,7 @@ support_other pace seen i n more = elim (leb_tells 5 (window_weight (fits pace i
 pub told_other : (seen : List Sightings) (i n : ℕ) → IsTold seen i n → OtherShows seen i
 told_other seen i n (inl video) = support_other Video seen i n video
 told_other seen i n (inr (inl film)) = support_other Film seen i n film
-told_other seen i n (inr (inr run)) = run_other seen i n run
+told_other seen i n (inr (inr run)) = sum_other (fits Video i n) seen i run
 
 -- ---- whether fields tell a number
 
@@ -196,37 +197,6 @@ pub first_chapter : (part : ℕ → List Sightings) (k n : ℕ) → TellChapter 
     → (j m : ℕ) × (j ≤ k) × TellChapter (part j) m × ((h l : ℕ) → h < j → TellChapter (part h) l → ⊥)
 first_chapter = first_by (λ seen i n. together ≤ said_below seen n (length seen)) chapter_or_not
 
--- the sum is at most what field c weighs, or another field weighs something
-abbrev SaidSpread : List Sightings → ℕ → ℕ → ℕ → Type 0
-SaidSpread seen n c k =
-    ((said_below seen n k ≤ 4) × (k ≤ c → said_below seen n k ≡ 0))
-    ⊎ ((j : ℕ) × (j ≢ c) × (0 < field_weight (λ m. m == n) (slice_get seen j)))
-
-said_spread : (seen : List Sightings) (n c k : ℕ) → SaidSpread seen n c k
-unfolding said_below
-said_spread seen n c zero = inl (omega arith, λ h. refl)
-said_spread seen n c (suc k) = go (said_spread seen n c k)
-    (leb_tells 1 (field_weight (λ m. m == n) (slice_get seen k))) (eqb_tells k c)
-  where
-    go : SaidSpread seen n c k
-        → ((nat_le 1 (field_weight (λ m. m == n) (slice_get seen k)) ≡ true)
-        × (1 ≤ field_weight (λ m. m == n) (slice_get seen k)))
-        ⊎ ((nat_le 1 (field_weight (λ m. m == n) (slice_get seen k)) ≡ false)
-        × (field_weight (λ m. m == n) (slice_get seen k) < 1))
-        → ((eqb k c ≡ true) × (k ≡ c)) ⊎ ((eqb k c ≡ false) × (k ≢ c)) → SaidSpread seen n c (suc k)
-    go (inr found) weighs at = inr found
-    go (inl (most, none)) (inr (f, lt)) at =
-        inl (omega (arith, most, lt), λ h. omega (arith, none (omega (arith, h)), lt))
-    go (inl (most, none)) (inl (t, le)) (inr (f, apart)) = inr (k, apart, omega (arith, le))
-    go (inl (most, none)) (inl (t, le)) (inl (s, e)) = inl (
-      omega (arith, none (omega (arith, e)), field_weight-most (λ m. m == n) (slice_get seen k)),
-      λ h. absurd (omega (arith, h, e)),
-    )
-
 -- it takes two fields to tell a chapter
 pub chapter_other : (seen : List Sightings) (i n : ℕ) → together ≤ said_below seen n (length seen) → OtherShows seen i
-chapter_other seen i n more = elim (said_spread seen n i (length seen)) [
-  | inl (most, none) ↦ absurd (omega (arith, most, more))
-  | inr (j, apart, weighs) ↦
-      let p = field_passes (λ m. m == n) (slice_get seen j) weighs in (j, p.0, apart, p.1)
-]
+chapter_other seen i n more = sum_other (λ j m. m == n) seen i more

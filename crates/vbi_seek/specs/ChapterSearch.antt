@@ -1,20 +1,19 @@
 -- Seeking a chapter in the bytes of a side: the field in which it begins. A last field that is cut is left out.
-use Rattle.std.specs.Prelude.{◌≡◌, ◌==◌, ◌<◌, ◌≤◌, ◌+◌, ◌⊎◌, ℕ, zero, suc, List, length, map, min, slice_get}
+use Rattle.std.specs.Prelude.{◌≡◌, ◌==◌, ◌<◌, ◌≤◌, ◌+◌, ◌⊎◌, ℕ, List, length, map, min, slice_get}
 use Rattle.std.specs.List.{range_with_len}
 use Rattle.vbi_side.specs.declared.number.Number.{Number}
-use Rattle.vbi_side.specs.declared.sighting.Sighting.{Sighting}
 use Rattle.vbi_side.specs.declared.sighting.Sightings.{Sightings}
-use Rattle.vbi_side.specs.Beliefs.{reach, field_weight}
+use Rattle.vbi_side.specs.Beliefs.{reach}
 use Rattle.vbi_side.specs.Chapters.{BelievedChapter, chapters_of}
 use Rattle.vbi_side.specs.Numbers.{IsMarked}
-use Rattle.vbi_side.specs.Sightings.{IsSeen, Shows}
+use Rattle.vbi_side.specs.Sightings.{Shows}
 use Rattle.vbi_seek.specs.declared.chapter_search.Window.{Window}
 use Rattle.vbi_seek.specs.declared.narrowing.Between.{Between}
 use Rattle.vbi_seek.specs.declared.side_bytes.SideBytes.{SideBytes}
 use Rattle.vbi_seek.specs.declared.side_bytes.FoundField.{FoundField}
 use Rattle.vbi_seek.specs.FieldLines.{Side, side_of, lines_at}
 use Rattle.vbi_seek.specs.NumberSearch.{looked_most}
-use Rattle.vbi_seek.specs.NumberSpots.{together}
+use Rattle.vbi_seek.specs.NumberSpots.{together, sum_below}
 
 -- ---- what is sought
 
@@ -59,17 +58,12 @@ pub record IsChapterSought (side : Side) (chapter : ℕ) (place : FoundField) : 
 -- ---- which chapter some fields tell together
 
 -- the weight of what the first k of these fields show that is chapter n
-unfoldable pub said_below : List Sightings → ℕ → ℕ → ℕ
-said_below seen n zero = 0
-said_below seen n (suc k) = said_below seen n k + field_weight (λ m. m == n) (slice_get seen k)
+abbrev pub said_below : List Sightings → ℕ → ℕ → ℕ
+said_below seen n k = sum_below (λ j m. m == n) seen k
 
 -- no more fields than these are read at one spot
 abbrev pub spot_most : ℕ
 spot_most = 24
-
--- a line shows a chapter that these fields tell together
-abbrev pub IsToldBy : List Sightings → Sighting → Type 0
-IsToldBy seen sighting = IsSeen sighting × (together ≤ said_below seen sighting.number (length seen))
 
 -- one of these fields shows chapter n, and what all of them show of it weighs so much that no field alone does
 abbrev pub TellChapter : List Sightings → ℕ → Type 0

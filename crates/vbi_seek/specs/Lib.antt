@@ -1,7 +1,9 @@
 pub mod Asked
 pub mod FieldLines
 pub mod NumberSearch
+pub mod Kinds
 pub mod Searches
+pub mod NumbersAround
 pub mod NumberSpots
 pub mod Spots
 pub mod NumberLeads

@@ -1,43 +1,24 @@
 -- When a number that is sought has to be found: what the fields of a side tell leads to its first field.
-use Rattle.std.specs.Prelude.{◌≡◌, ◌<◌, ◌≤◌, ◌+◌, ◌-◌, ◌*◌, ◌/◌, ℕ, zero, suc, List}
+use Rattle.std.specs.Prelude.{◌≡◌, ◌<◌, ◌≤◌, ℕ, List}
 use Rattle.vbi_side.specs.declared.number.Number.{Number}
 use Rattle.vbi_side.specs.declared.pace.Pace as paces
 use Rattle.vbi_side.specs.Numbers.{IsAnswer, IsKnown}
-use Rattle.vbi_seek.specs.declared.narrowing.Between.{Between}
 use Rattle.vbi_seek.specs.declared.search.Seek.{Seek}
 use Rattle.vbi_seek.specs.declared.number_search.Sought.{Sought}
-use Rattle.vbi_seek.specs.NumberSearch.{Numbers, numbers_by, shown_of, probe_most, probe_longest, around_most}
+use Rattle.vbi_seek.specs.declared.search.Kind.TheVariants as kinds
+use Rattle.vbi_seek.specs.Kinds.{TellFirst}
+use Rattle.vbi_seek.specs.NumberSearch.{Numbers, numbers_by, shown_of, around_most}
 use Rattle.vbi_seek.specs.NumberSearch.{HasOther, IsJudgedIn}
-use Rattle.vbi_seek.specs.Spots.{Spots, Leads, IsWithin, IsToldAt}
-use Rattle.vbi_seek.specs.NumberSpots.{TellsFrom}
+use Rattle.vbi_seek.specs.Spots.{Spots, Leads, spots_in}
 
 -- this many fields of a side from this one on tell a number together, and fewer tell none; they are no more than are
 -- read at one place
-pub record Tells (numbers : Numbers) (field k n : ℕ) : Type 0 where
-  pub few : k ≤ probe_longest
-  pub inside : field + k ≤ numbers.side.count
-  pub tells : TellsFrom numbers field k n
-  pub first : (j m : ℕ) → j < k → TellsFrom numbers field j m → ⊥
+abbrev pub Tells : Numbers → ℕ → ℕ → ℕ → Type 0
+Tells numbers field k n = TellFirst (kinds.Number numbers.judging) numbers.side field k n
 
 -- the spots of numbers
 abbrev pub number_spots : Numbers → Spots
-number_spots numbers = record {
-  count = numbers.side.count;
-  most = probe_most;
-  tells = Tells numbers;
-  past = λ f k. f + k;
-}
-
--- so few fields are left of these after this many steps, each of which leaves three quarters at most
-unfoldable pub left_after : ℕ → ℕ → ℕ
-left_after count zero = count
-left_after count (suc k) = 3 * left_after count k / 4
-
--- the fields have field t among them as before, and are fewer: three quarters at most
-pub record IsNarrower (t a b : ℕ) (old new : Between) : Type 0 where
-  pub within : IsWithin probe_most t a b new
-  pub told : IsToldAt new
-  pub narrower : 4 * (new.high - new.low) ≤ 3 * (old.high - old.low)
+number_spots numbers = spots_in (kinds.Number numbers.judging) numbers.side
 
 -- the first field of the side of which this number is known is t, at this pace, which is the one that is asked for
 -- whichever fields are judged for field t

@@ -48,9 +48,13 @@ numbers_by seek bytes = record { side = side_in seek.setup bytes; judging = seek
 abbrev pub shown_at : Numbers → ℕ → Sightings
 shown_at numbers i = numbers_in numbers.judging.system numbers.judging.counted (lines_at numbers.side i)
 
+-- what this many fields from this one on show
+abbrev pub shown_from : Numbers → ℕ → ℕ → List Sightings
+shown_from numbers first many = map (shown_at numbers) (range_with_len first many)
+
 -- what each field of the side shows
 abbrev pub shown_of : Numbers → List Sightings
-shown_of numbers = map (shown_at numbers) (range_with_len 0 numbers.side.count)
+shown_of numbers = shown_from numbers 0 numbers.side.count
 
 -- this field is answered another number than this one, or none
 abbrev pub HasOther : paces.Pace → List Sightings → ℕ → ℕ → Type 0
@@ -62,7 +66,7 @@ pub record IsJudgedIn (numbers : Numbers) (field first many : ℕ) (pace : paces
   pub inside : first + many ≤ numbers.side.count
   pub before : (first ≡ 0) ⊎ (first + 2 * reach ≤ field)
   pub after : (first + many ≡ numbers.side.count) ⊎ (field + 2 * reach < first + many)
-  pub asked : IsAskedPace numbers.judging (map (shown_at numbers) (range_with_len first many)) pace
+  pub asked : IsAskedPace numbers.judging (shown_from numbers first many) pace
 
 -- the number is found: it is what is answered of its field, by what all fields of the side show at this pace, which is
 -- the one that is found by the fields that were read around it, if none is given; and the field before it is

@@ -1,6 +1,11 @@
 -- What the fields of a side tell at its spots, of numbers or of chapters, and when that leads a search to a field.
-use Rattle.std.specs.Prelude.{◌≡◌, ◌<◌, ◌≤◌, ◌+◌, ◌-◌, ◌*◌, ◌⊎◌, ℕ, Some}
+use Rattle.std.specs.Prelude.{◌≡◌, ◌<◌, ◌≤◌, ◌+◌, ◌-◌, ◌*◌, ◌/◌, ◌⊎◌, ℕ, zero, suc, Some, None}
 use Rattle.vbi_seek.specs.declared.narrowing.Between.{Between}
+use Rattle.vbi_seek.specs.declared.search.Kind.{Kind}
+use Rattle.vbi_seek.specs.declared.search.Kind.TheVariants.{Number, Chapter}
+use Rattle.vbi_seek.specs.ChapterSearch.{spot_most}
+use Rattle.vbi_seek.specs.FieldLines.{Side}
+use Rattle.vbi_seek.specs.Kinds.{TellFirst, most_of}
 use Rattle.vbi_seek.specs.NumberSearch.{left_most}
 
 -- the spots of a side: how many fields it has, so many of which tell something at a spot if none is worn; which first
@@ -10,6 +15,20 @@ pub record Spots : Type 1 where
   pub most : ℕ
   pub tells : ℕ → ℕ → ℕ → Type 0
   pub past : ℕ → ℕ → ℕ
+
+-- those of numbers or of chapters. What tells a number begins in one of the fields that tell it, and what tells a
+-- chapter in one of the 24 from the first of these on
+abbrev pub past_of : Kind → ℕ → ℕ → ℕ
+past_of (Number judging) f k = f + k
+past_of Chapter f k = f + spot_most
+
+abbrev pub spots_in : Kind → Side → Spots
+spots_in kind side = record {
+  count = side.count;
+  most = most_of kind;
+  tells = TellFirst kind side;
+  past = past_of kind;
+}
 
 -- no more fields than are read of each spot tell anything from this one on
 abbrev pub IsSilentSpot : Spots → ℕ → Type 0
@@ -44,3 +63,23 @@ pub record IsPlaced (most t : ℕ) (place : Between) : Type 0 where
   pub from : place.low ≤ t
   pub to : t < place.high + most
   pub near : place.high ≤ place.low + left_most
+
+-- before anything is told
+abbrev pub whole : ℕ → Between
+whole count = record { low = 0; high = count; lower = None; higher = None }
+
+-- so few fields are left of these by a step: of a number three quarters, of a chapter half
+abbrev pub three_quarters : ℕ → ℕ
+three_quarters many = 3 * many / 4
+
+abbrev pub half : ℕ → ℕ
+half many = (many + 1) / 2
+
+abbrev pub left_by : Kind → ℕ → ℕ
+left_by (Number judging) = three_quarters
+left_by Chapter = half
+
+-- so few are left after this many steps
+unfoldable pub left_after : (ℕ → ℕ) → ℕ → ℕ → ℕ
+left_after step count zero = count
+left_after step count (suc k) = step (left_after step count k)

@@ -1,34 +1,30 @@
 //! Seeking a chapter in the bytes of a side, of which few fields are read.
 //!
-//! Chapters rise along a side, so the place of one is found by halving (`place_of`): some fields in the middle are
-//! read, until enough of their codes say one chapter, which tells the half. Before the first chapter of a side and
-//! after its last one no field tells any: that tells the half, too, as long as only one end has told a chapter. What is
-//! found so is no more than a place to look at. The fields around it are judged (`look_around`), and the chapter is
-//! answered only of a field that has it by the judge of the whole side, if none of the 72 fields before it has.
+//! `place_of` finds by halving no more than a place to look at: there no spare fields are read for worn lines, and
+//! silence in the middle of two ends that have told a chapter is met by asking other spots (`ask_beside`). The fields
+//! around it are judged (`look_around`), and the chapter is answered only of a field that has it by the judge of the
+//! whole side, if none of the 72 fields before it has.
 //!
 //! 176 fields are judged at most: 24 + 72 before the place, which is 32 fields wide at most, 24 that may tell what is
 //! told there, and 24 after them. So 824 are left of the 1,000 of include/ldvbi.h for spots of 24 fields at most: 16
-//! until the first chapter is told, and 15 for halving a million fields, which makes 744. Most spots
-//! tell a chapter by three or four fields. What is left over is for a middle that is silent between two ends that have
-//! told one (`ask_beside`): on a worn side. specs/ChapterSearch.antt has these numbers for proofs.
+//! until the first chapter is told, and 15 for halving a million fields, which makes 744. Most spots tell a chapter by
+//! three or four fields. What is left over is for a silent middle, on a worn side. specs/ChapterSearch.antt has these
+//! numbers for proofs.
 
-ghost use Rattle.std.specs.Prelude.{◌≡◌, ◌↔◌, ℕ, ◌+◌, ◌*◌, ◌/◌, ◌<◌, ◌≤◌, false, true, length, None, IfSome};
+ghost use Rattle.std.specs.Prelude.{◌≡◌, ◌↔◌, ℕ, ◌+◌, ◌*◌, ◌<◌, ◌≤◌, true, length, None, IfSome};
 ghost use Rattle.vbi_side.specs.Chapters.{AreChapters};
 ghost use Rattle.vbi_side.specs.Numbers.{believed};
-ghost use Rattle.vbi_seek.specs.ChapterLeads.{IsChapterComplete, IsFirstOf, IsHalvedTo, IsNarrowedFrom};
-ghost use Rattle.vbi_seek.specs.ChapterLeads.{IsReached, IsSilentAt, LeadsThere};
+ghost use Rattle.vbi_seek.specs.ChapterLeads.{IsChapterComplete, IsFirstOf, IsReached, chapter_spots};
 ghost use Rattle.vbi_seek.specs.ChapterSearch.{AreSeenBefore, BeginsAmong, IsBetween, IsChapterSought, IsWindowOf};
 ghost use Rattle.vbi_seek.specs.ChapterSearch.{around_most, before_most, placed_most, side_from, spot_most};
 ghost use Rattle.vbi_seek.specs.FieldLines.{side_of, side_in};
-ghost use Rattle.vbi_seek.specs.NumberSearch.{left_most};
-ghost use Rattle.vbi_seek.specs.Spots.{IsPlaced};
-ghost use Rattle.vbi_seek.specs.NumberSpots.{middle_of};
+ghost use Rattle.vbi_seek.specs.Spots.{IsPlaced, Leads};
 
-use crate::chapter_spots::{SPOT, probe_chapter, see_chapters};
-use crate::halving::{LEFT, middle_of};
-use crate::narrowing::Between;
-use crate::number_spots::NOTHING_SEEN;
+use crate::halving::{LEFT, halve, sweep};
+use crate::narrowing::{Between, may_read};
+use crate::search::{Kind, Looked, Search};
 use crate::side_bytes::{FoundField, Setup, SideBytes};
+use crate::spots::{NOTHING_SEEN, SPOT, see_from};
 use vbi_side::{BELIEVED, Number, REACH, judge_chapters};
 
 /// None of this many fields before a field has the chapter that begins in it.
@@ -36,12 +32,6 @@ const BEFORE: usize = 72;
 
 /// The fields that are judged, at most.
 const AROUND: usize = 2 * REACH + BEFORE + LEFT + SPOT;
-
-/// This many fields at most are read while the place is sought: 1,000 without those that are judged around it.
-const PLACED: usize = 824;
-
-/// This many spots are asked if the middle is silent between two ends that have told a chapter.
-const BESIDE: usize = 6;
 
 /// This many spots are asked until one tells a chapter, the middles of as many equal parts of the side.
 const PARTS: usize = 16;
@@ -55,135 +45,32 @@ const NO_CHAPTER: Number = Number {
     state: 0,
 };
 
-/// Narrows the fields between which the chapter is sought, by the one that the fields at this spot tell, if they do.
-/// Answers whether they do.
-fn narrow(
-    side: &SideBytes,
-    chapter: u32,
-    spot: usize,
-    between: &mut Between,
-    looked: &mut usize,
-) -> bool
-    requires part { IsBetween side.now.count between.old }
-    requires inside { (between.old.low ≤ spot) × (spot ≤ between.old.high) }
-    requires room { looked.old ≤ placed_most }
-    ensures part { IsBetween side.now.count between.new }
-    ensures few { looked.new ≤ looked.old + spot_most }
-    ensures kept { result ≡ false → between.new ≡ between.old }
-    ensures silent { result ≡ false → IsSilentAt side.now spot }
-    ensures narrowed { result ≡ true → IsNarrowedFrom side.now chapter spot between.old between.new }
-{
-    let (told, _) = probe_chapter(side, spot, looked);
-    let Some(told) = told else {
-        return false;
-    };
-    if told < chapter {
-        between.low = spot;
-        between.lower = Some(told);
-    } else {
-        between.high = spot;
-        between.higher = Some(told);
-    }
-    true
-}
-
-/// Narrows the fields of a side between which the chapter is sought, by the first of the middles of its equal parts
-/// that tells one. Answers whether one does.
-fn begin(side: &SideBytes, chapter: u32, between: &mut Between, looked: &mut usize) -> bool
-    requires part { between.old.low ≡ 0 }
-    requires whole { between.old.high ≡ side.now.count }
-    requires room { looked.old ≡ 0 }
-    ensures part { IsBetween side.now.count between.new }
-    ensures few { looked.new ≤ 16 * spot_most }
-    ensures silent { result ≡ false → (part : ℕ) → part < 16
-        → IsSilentAt side.now (middle_of side.now.count 16 part) }
-    ensures narrowed { result ≡ true → (spot : ℕ) × (spot ≤ side.now.count)
-        × IsNarrowedFrom side.now chapter spot between.old between.new }
-{
-    for part in 0..PARTS {
-        let middle = middle_of(side.count, PARTS, part);
-        if narrow(side, chapter, middle, between, looked) {
-            return true;
-        }
-    }
-    false
-}
-
-/// This many eighths of the fields lie before the spot that is asked in this step, if the middle is silent.
-fn eighths_at(step: usize) -> usize
-    ensures { result ≤ 8 }
-{
-    match step {
-        0 => 6,
-        1 => 2,
-        2 => 7,
-        3 => 5,
-        4 => 3,
-        _ => 1,
-    }
-}
-
-/// Narrows the fields between which the chapter is sought if both ends have told one and the middle none: by what is
-/// told at the first of their quarters and eighths that tells any, as far as fields may be read. If none does, the
-/// chapter is sought in the last half: what tells it at the end begins there, or little before.
-fn ask_beside(side: &SideBytes, chapter: u32, between: &mut Between, looked: &mut usize)
-    requires part { IsBetween side.now.count between.old }
-    requires room { looked.old ≤ placed_most }
-    ensures part { IsBetween side.now.count between.new }
-    ensures few { looked.new ≤ placed_most }
-{
-    let (low, width) = (between.low, between.high - between.low);
-    for step in 0..BESIDE {
-        let spot = low + eighths_at(step) * width / 8;
-        if *looked + SPOT <= PLACED && narrow(side, chapter, spot, between, looked) {
-            return;
-        }
-    }
-    between.low = low + width / 2;
-}
-
-/// Narrows the fields between which the chapter is sought, by what is told in the middle. Silence there says that the
-/// chapter begins on the side of the end that has told one, if only one has. If both have, other spots are asked.
-fn halve(side: &SideBytes, chapter: u32, between: &mut Between, looked: &mut usize)
-    requires part { IsBetween side.now.count between.old }
-    requires wide { between.old.low + left_most < between.old.high }
-    requires room { looked.old + 3 * spot_most ≤ placed_most }
-    ensures part { IsBetween side.now.count between.new }
-    ensures few { looked.new ≤ placed_most }
-    ensures halved { IsHalvedTo side.now chapter between.old looked.old between.new looked.new }
-{
-    let middle = between.low + (between.high - between.low) / 2;
-    if narrow(side, chapter, middle, between, looked) {
-        return;
-    }
-    match between.lower {
-        None => between.low = middle,
-        Some(lower) => match between.higher {
-            None => between.high = middle,
-            Some(higher) => ask_beside(side, chapter, between, looked),
-        },
-    }
-}
-
 /// A place that is near the field in which the chapter begins, if chapters rise along the side, and how many fields
 /// were read until it was found.
-fn place_of(side: &SideBytes, chapter: u32) -> (Between, usize)
+fn place_of(side: &SideBytes, chapter: u32) -> (Between, Looked)
     ensures part { IsBetween side.now.count result.0 }
-    ensures few { result.1 ≤ placed_most }
-    ensures leads { (t a b : ℕ) → side.now.count ≤ 1000000 → LeadsThere side.now chapter t a b
-        → IsPlaced spot_most t result.0 }
+    ensures few { result.1.fields ≤ placed_most }
+    ensures leads { (t a b : ℕ) → side.now.count ≤ 1000000
+        → Leads (chapter_spots (side_of side.now)) chapter t a b → IsPlaced spot_most t result.0 }
 {
-    let mut between = Between {
-        low: 0,
-        high: side.count,
-        lower: None,
-        higher: None,
+    let search = Search {
+        side: SideBytes {
+            setup: side.setup,
+            bytes: side.bytes,
+            count: side.count,
+        },
+        kind: Kind::Chapter,
+        sought: chapter,
     };
-    let mut looked = 0;
-    if begin(side, chapter, &mut between, &mut looked) {
+    let mut between = Between::whole(side.count);
+    let mut looked = Looked {
+        fields: 0,
+        spare: 0,
+    };
+    if sweep(&search, PARTS, &mut between, &mut looked) {
         for step in 0..STEPS {
-            if between.high - between.low > LEFT && looked + 3 * SPOT <= PLACED {
-                halve(side, chapter, &mut between, &mut looked);
+            if between.high - between.low > LEFT && may_read(&looked, 3 * SPOT) {
+                halve(&search, &mut between, &mut looked);
             }
         }
     }
@@ -226,17 +113,17 @@ fn window_of(count: usize, place: &Between) -> Window
 }
 
 /// Puts the chapter of each field that is judged into its place.
-fn judge_window(side: &SideBytes, window: &Window, chapters: &mut [Number], looked: &mut usize)
+fn judge_window(side: &SideBytes, window: &Window, chapters: &mut [Number], looked: &mut Looked)
     requires places { length chapters.old ≡ window.now.many }
     requires inside { window.now.first + window.now.many ≤ side.now.count }
     requires few { window.now.many ≤ around_most }
-    requires room { looked.old ≤ placed_most }
+    requires room { looked.old.fields ≤ placed_most }
     ensures judged { AreChapters (side_from side.now window.now.first window.now.many) chapters.new }
-    ensures counted { looked.new ≡ looked.old + window.now.many }
+    ensures counted { looked.new.fields ≡ looked.old.fields + window.now.many }
 {
     let mut all_seen = [NOTHING_SEEN; AROUND];
     let seen = &mut all_seen[..window.many];
-    see_chapters(side, window.first, seen, looked);
+    see_from(side, Kind::Chapter, window.first, seen, looked);
     judge_chapters(seen, chapters);
 }
 
@@ -290,9 +177,9 @@ fn first_begin(chapters: &[Number], window: &Window, chapter: u32) -> Option<usi
 }
 
 /// Looks for the field in which the chapter begins around its place.
-fn look_around(side: &SideBytes, chapter: u32, place: &Between, mut looked: usize) -> FoundField
+fn look_around(side: &SideBytes, chapter: u32, place: &Between, mut looked: Looked) -> FoundField
     requires part { IsBetween side.now.count place.now }
-    requires few { looked ≤ placed_most }
+    requires few { looked.fields ≤ placed_most }
     ensures sought { IsChapterSought (side_of side.now) chapter result }
     ensures complete { (t : ℕ) → IsFirstOf (side_of side.now) chapter t
         → IsPlaced spot_most t place.now → result.field ≡ t }
@@ -304,11 +191,11 @@ fn look_around(side: &SideBytes, chapter: u32, place: &Between, mut looked: usiz
     match first_begin(chapters, &window, chapter) {
         Some(at) => FoundField {
             field: window.first + at,
-            looked,
+            looked: looked.fields as usize,
         },
         None => FoundField {
             field: side.count,
-            looked,
+            looked: looked.fields as usize,
         },
     }
 }

@@ -5,25 +5,23 @@
 //! the nearest words of worn lines (`vbi_near`). A number or a chapter is found for sure if the fields lead to it: what
 //! that means is the same of both (specs/Spots.antt).
 //!
-//! `field_lines.rt` reads one field. What some fields in a row tell together is in `number_spots.rt` and
-//! `chapter_spots.rt`. For a number `narrowing.rt` and `halving.rt` find the place at which to look, and
-//! `number_search.rt` judges the fields around it and answers, with the numbers beside it (`neighbours.rt`).
-//! `chapter_search.rt` has all of that for chapters, which last long: no spare fields are read for worn lines, and
-//! silence between two ends that have told a chapter is met otherwise. `stop_search.rt` reads field after field.
+//! `field_lines.rt` reads one field. What some fields in a row tell together is in `spots.rt`. By that `narrowing.rt`
+//! and `halving.rt` find the place at which to look for either (`Kind` of `search.rt`). `number_search.rt` judges the
+//! fields around that place and answers, with the numbers beside it (`neighbours.rt`), and `chapter_search.rt` does it
+//! for chapters, which last long. `stop_search.rt` reads field after field.
 #![tactic(auto)]
 
 mod asked;
 mod chapter_search;
-mod chapter_spots;
 mod field_lines;
 mod halving;
 pub mod laws;
 mod narrowing;
 mod neighbours;
 mod number_search;
-mod number_spots;
 mod search;
 mod side_bytes;
+mod spots;
 mod stop_search;
 
 pub use asked::{Asked, Judging, pace_for};

@@ -1,36 +1,60 @@
-//! Narrowing the fields between which a number is sought, by what is told or shown at a spot among them.
+//! Narrowing the fields between which a number or a chapter is sought, by what is told or shown at a spot among them.
 //!
-//! `narrow` is the one step: the fields from a spot on are read until they tell a number, which becomes the first or
-//! the last of the fields between which the number is sought. `narrow_by_spare` does it if fields may be read besides,
-//! and `narrow_either` at two spots. On these rests that a number is found if the fields lead to it (`Leads`).
-//! `narrow_between` is for a silent middle between two ends that have told numbers. A side whose fields lead to the
-//! number never comes there, so whatever leaves fewer fields will do: even a single line is believed that shows a
-//! number between the two (`narrow_by_one`), and at last where the number stands between them (`is_after`).
+//! `narrow` is the one step: the fields from a spot on are read until they tell a number, or a chapter, and one of them
+//! becomes the first or the last of the fields between which it is sought. `narrow_by_spare` does it if fields may be
+//! read besides, and `narrow_either` at two spots. On these rests that what is sought is found if the fields lead to it
+//! (`Leads`). `narrow_between` is for a silent middle between two ends that have told numbers, `ask_beside` for one
+//! between two that have told chapters. A side whose fields lead to what is sought never comes there, so whatever
+//! leaves fewer fields will do: even a single line is believed that shows a number between the two (`narrow_by_one`),
+//! and at last where the number stands between them (`is_after`).
 //!
-//! A spot is read for 12 fields, which each step of halving has, and for more out of a spare that all steps share, so
-//! that `Looked` never passes 1,000. An eighth of the fields at most is read beyond the 12 in the middle, and a
-//! sixteenth elsewhere, so that what is told leaves three quarters at most. halving.rt chooses most spots: both change
-//! together.
+//! For a number a spot is read for 12 fields, which each step of halving has, and for more out of a spare that all
+//! steps share, so that `Looked` never passes 1,000. An eighth of the fields at most is read beyond the 12 in the
+//! middle, and a sixteenth elsewhere, so that what is told leaves three quarters at most. halving.rt chooses most
+//! spots: both change together.
 
 ghost use Rattle.std.specs.Prelude.{◌≡◌, ◌↔◌, ◌⊎◌, ℕ, ◌+◌, ◌-◌, ◌*◌, ◌<◌, ◌≤◌, false, true, None, IfSome};
 ghost use Rattle.vbi_seek.specs.Searches.{IsNarrowedAt, IsNarrowedByOne, IsNarrowedNear, IsNarrowedBetween, IsPart};
 ghost use Rattle.vbi_seek.specs.Searches.{IsSilent, IsSilentFor, IsSpotIn, IsMoreLikelyAfter, AreSeenFrom, middle_in};
-ghost use Rattle.vbi_seek.specs.Searches.{read_most};
+ghost use Rattle.vbi_seek.specs.ChapterSearch.{placed_most};
+ghost use Rattle.vbi_seek.specs.Kinds.{most_of, read_most};
 ghost use Rattle.vbi_seek.specs.NumberSearch.{probe_most, probe_longest, looked_most};
 ghost use Rattle.vbi_seek.specs.NumberSpots.{IsShownBetween};
+ghost use Rattle.vbi_seek.specs.Spots.{whole};
 
-use crate::number_spots::{LONGEST, NOTHING_SEEN, PROBE, probe};
 use crate::search::{Looked, Search};
+use crate::spots::{LONGEST, NOTHING_SEEN, longest_of, most_of, probe};
 use vbi_side::Sightings;
 
-/// The fields between which a number is sought.
+/// This many fields at most are read while the place of a chapter is sought: 1,000 without those that are judged around
+/// it.
+const PLACED: u32 = 824;
+
+/// This many spots are asked if the middle is silent between two ends that have told a chapter.
+const BESIDE: usize = 6;
+
+/// The fields between which a number or a chapter is sought.
 #[derive(Clone, Copy)]
 pub(crate) struct Between {
     pub(crate) low: usize,
     pub(crate) high: usize,
-    /// The lower number that was told at `low`, and the higher one, or the number itself, that was at `high`.
+    /// The lower one that was told at `low`, and the higher one, or the one that is sought, that was at `high`.
     pub(crate) lower: Option<u32>,
     pub(crate) higher: Option<u32>,
+}
+
+impl Between {
+    /// All fields of a side of so many, at whose ends nothing was told yet.
+    pub(crate) fn whole(count: usize) -> Between
+        ensures { result ≡ whole count }
+    {
+        Between {
+            low: 0,
+            high: count,
+            lower: None,
+            higher: None,
+        }
+    }
 }
 
 /// The numbers that were told at both ends.
@@ -40,17 +64,17 @@ pub(crate) struct Told {
     pub(crate) higher: u32,
 }
 
-/// A spot of a side at which fields are read until they tell a number.
+/// A spot of a side at which fields are read until they tell something.
 #[derive(Clone, Copy)]
 pub(crate) struct Spot {
     /// The first of them.
     pub(crate) field: usize,
-    /// How many more than `PROBE` are read at most.
+    /// How many more than usual are read at most.
     pub(crate) more: usize,
 }
 
-/// Narrows the fields between which the number is sought, by the number that the fields at this spot tell, if they
-/// do. Answers whether they do. What they show stands in `seen`.
+/// Narrows the fields between which something is sought, by what the fields at this spot tell, if they do. Answers
+/// whether they do. What they show stands in `seen`.
 pub(crate) fn narrow(
     search: &Search,
     spot: Spot,
@@ -58,24 +82,27 @@ pub(crate) fn narrow(
     seen: &mut [Sightings; LONGEST],
     looked: &mut Looked,
 ) -> bool
-    requires inside { spot.field ≤ search.now.count }
-    requires room { looked.old.fields + looked.old.spare + probe_most ≤ looked_most }
-    ensures few { looked.new.fields + looked.new.spare ≤ looked.old.fields + looked.old.spare + probe_most }
+    requires inside { spot.field ≤ search.now.side.count }
+    requires room { looked.old.fields + looked.old.spare + most_of search.now.kind ≤ looked_most }
+    ensures few { looked.new.fields + looked.new.spare
+        ≤ looked.old.fields + looked.old.spare + most_of search.now.kind }
     ensures kept { result ≡ false → between.new ≡ between.old }
     ensures spared { looked.old.spare ≤ looked.new.spare + (probe_longest - probe_most) }
     ensures seen { AreSeenFrom search.now spot.field seen.old → AreSeenFrom search.now spot.field seen.new }
     ensures silent { result ≡ false
-        → IsSilentFor search.now spot.field (read_most spot.more looked.old.spare) }
+        → IsSilentFor search.now spot.field (read_most search.now.kind spot.more looked.old.spare) }
     ensures narrowed { result ≡ true → IsNarrowedAt search.now spot between.old between.new }
 {
-    let longest = PROBE + spot.more.min(LONGEST - PROBE).min(looked.spare as usize);
+    let most = most_of(search.kind);
+    let more = spot.more.min(longest_of(search.kind) - most);
+    let longest = most + more.min(looked.spare as usize);
     let (told, read) = probe(search, spot.field, longest, seen, looked);
-    let after = read.saturating_sub(PROBE as u32);
+    let after = read.saturating_sub(most as u32);
     looked.spare -= after;
     let Some(told) = told else {
         return false;
     };
-    if told < search.number {
+    if told < search.sought {
         between.low = spot.field + after as usize;
         between.lower = Some(told);
     } else {
@@ -118,7 +145,7 @@ fn is_after(number: u32, field: usize, between: &Between, told: Told) -> bool
     part as u128 * u128::from(number_whole) < whole as u128 * u128::from(number_part)
 }
 
-/// As `narrow`, if `PROBE` fields may be read besides.
+/// As `narrow`, if the fields of a spot may be read besides.
 fn narrow_by_spare(
     search: &Search,
     spot: Spot,
@@ -126,20 +153,23 @@ fn narrow_by_spare(
     seen: &mut [Sightings; LONGEST],
     looked: &mut Looked,
 ) -> bool
-    requires inside { spot.field ≤ search.now.count }
+    requires inside { spot.field ≤ search.now.side.count }
     requires room { looked.old.fields + looked.old.spare ≤ looked_most }
     ensures few { looked.new.fields + looked.new.spare ≤ looked.old.fields + looked.old.spare }
     ensures kept { result ≡ false → between.new ≡ between.old }
-    ensures spared { looked.old.spare ≤ looked.new.spare + probe_longest }
+    ensures spared { looked.old.spare
+        ≤ looked.new.spare + (probe_longest - probe_most) + most_of search.now.kind }
     ensures seen { AreSeenFrom search.now spot.field seen.old → AreSeenFrom search.now spot.field seen.new }
-    ensures silent { result ≡ false → probe_most ≤ looked.old.spare
-        → IsSilentFor search.now spot.field (read_most spot.more (looked.old.spare - probe_most)) }
+    ensures silent { result ≡ false → most_of search.now.kind ≤ looked.old.spare
+        → IsSilentFor search.now spot.field
+        (read_most search.now.kind spot.more (looked.old.spare - most_of search.now.kind)) }
     ensures narrowed { result ≡ true → IsNarrowedAt search.now spot between.old between.new }
 {
-    if looked.spare < PROBE as u32 {
+    let most = most_of(search.kind) as u32;
+    if looked.spare < most {
         return false;
     }
-    looked.spare -= PROBE as u32;
+    looked.spare -= most;
     narrow(search, spot, between, seen, looked)
 }
 
@@ -164,7 +194,7 @@ fn narrow_by_one(
         return false;
     };
     let place = (field + at).min(between.high);
-    if shown < search.number {
+    if shown < search.sought {
         between.low = place;
         between.lower = Some(shown);
     } else {
@@ -189,8 +219,10 @@ fn narrow_near(
     ensures few { looked.new.fields + looked.new.spare ≤ looked.old.fields + looked.old.spare }
     ensures kept { result ≡ false → between.new ≡ between.old }
     ensures part { IsPart search.now between.new }
-    ensures spared { looked.old.spare ≤ looked.new.spare + probe_longest }
-    ensures silent { result ≡ false → probe_most ≤ looked.old.spare → IsSilent search.now spot.field }
+    ensures spared { looked.old.spare
+        ≤ looked.new.spare + (probe_longest - probe_most) + most_of search.now.kind }
+    ensures silent { result ≡ false → most_of search.now.kind ≤ looked.old.spare
+        → IsSilent search.now spot.field }
     ensures narrowed { result ≡ true → IsNarrowedNear search.now spot told between.old between.new }
 {
     let mut seen = [NOTHING_SEEN; LONGEST];
@@ -231,7 +263,7 @@ pub(crate) fn narrow_between(
     {
         return;
     }
-    if is_after(search.number, middle, between, told) {
+    if is_after(search.sought, middle, between, told) {
         between.low = middle;
     } else {
         between.high = middle;
@@ -247,7 +279,7 @@ pub(crate) fn narrow_either(
     between: &mut Between,
     looked: &mut Looked,
 ) -> bool
-    requires inside { (first.field ≤ search.now.count) × (second.field ≤ search.now.count) }
+    requires inside { (first.field ≤ search.now.side.count) × (second.field ≤ search.now.side.count) }
     requires room { looked.old.fields + looked.old.spare ≤ looked_most }
     ensures few { looked.new.fields + looked.new.spare ≤ looked.old.fields + looked.old.spare }
     ensures kept { result ≡ false → between.new ≡ between.old }
@@ -257,4 +289,53 @@ pub(crate) fn narrow_either(
     let mut seen = [NOTHING_SEEN; LONGEST];
     narrow_by_spare(search, first, between, &mut seen, looked)
         || narrow_by_spare(search, second, between, &mut seen, looked)
+}
+
+/// Whether so many fields more may be read while the place of a chapter is sought.
+pub(crate) fn may_read(looked: &Looked, more: usize) -> bool
+    requires room { looked.now.fields + looked.now.spare ≤ looked_most }
+    requires few { more ≤ looked_most }
+    ensures few { result ≡ true → looked.now.fields + looked.now.spare + more ≤ placed_most }
+    ensures many { result ≡ false → placed_most < looked.now.fields + looked.now.spare + more }
+{
+    looked.fields + looked.spare + more as u32 <= PLACED
+}
+
+/// This many eighths of the fields lie before the spot that is asked in this step, if the middle is silent.
+fn eighths_at(step: usize) -> usize
+    ensures { result ≤ 8 }
+{
+    match step {
+        0 => 6,
+        1 => 2,
+        2 => 7,
+        3 => 5,
+        4 => 3,
+        _ => 1,
+    }
+}
+
+/// Narrows the fields between which a chapter is sought if both ends have told one and the middle none: by what is told
+/// at the first of their quarters and eighths that tells any, as far as fields may be read. If none does, the chapter
+/// is sought in the last half: what tells it at the end begins there, or little before.
+pub(crate) fn ask_beside(search: &Search, between: &mut Between, looked: &mut Looked)
+    requires part { IsPart search.now between.old }
+    requires room { looked.old.fields + looked.old.spare ≤ placed_most }
+    ensures part { IsPart search.now between.new }
+    ensures few { looked.new.fields + looked.new.spare ≤ placed_most }
+{
+    let (low, width) = (between.low, between.high - between.low);
+    let mut seen = [NOTHING_SEEN; LONGEST];
+    for step in 0..BESIDE {
+        let spot = Spot {
+            field: low + eighths_at(step) * width / 8,
+            more: 0,
+        };
+        if may_read(looked, most_of(search.kind))
+            && narrow(search, spot, between, &mut seen, looked)
+        {
+            return;
+        }
+    }
+    between.low = low + width / 2;
 }

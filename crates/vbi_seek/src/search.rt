@@ -1,7 +1,4 @@
-//! A number that is sought, the side in whose bytes it is, and how many of its fields were read.
-
-ghost use Rattle.std.specs.Prelude.{◌≡◌, ◌*◌, ◌^◌, ◌<◌, ◌≤◌, length};
-ghost use Rattle.vbi_words.specs.Geometry.{field_bytes};
+//! What is sought in the bytes of a side, and how many of its fields were read for it.
 
 use crate::asked::Judging;
 use crate::side_bytes::{Setup, SideBytes};
@@ -15,34 +12,23 @@ pub struct Seek {
     pub judging: Judging,
 }
 
-/// A number, and the side in whose bytes it is sought.
+/// What the fields of a side are read for.
+#[derive(Clone, Copy)]
+pub(crate) enum Kind {
+    /// A number of these.
+    Number(Judging),
+    Chapter,
+}
+
+/// A number or a chapter, and the side in whose bytes it is sought.
 #[derive(Clone, Copy)]
 pub(crate) struct Search<'a> {
-    pub(crate) seek: Seek,
-    pub(crate) bytes: &'a [u8],
-    /// How many whole fields they have.
-    pub(crate) count: usize,
-    pub(crate) number: u32,
-    ghost whole: { count * field_bytes seek.setup.system ≤ length bytes.now },
-    ghost few: { 32 * count < 2 ^ 64 },
+    pub(crate) side: SideBytes<'a>,
+    pub(crate) kind: Kind,
+    pub(crate) sought: u32,
 }
 
-impl<'a> Search<'a> {
-    /// The side in whose bytes it is sought.
-    pub(crate) fn side(&self) -> SideBytes<'a>
-        ensures setup { result.setup ≡ self.now.seek.setup }
-        ensures bytes { result.bytes ≡ self.now.bytes }
-        ensures count { result.count ≡ self.now.count }
-    {
-        SideBytes {
-            setup: self.seek.setup,
-            bytes: self.bytes,
-            count: self.count,
-        }
-    }
-}
-
-/// How many fields were read, and how many more than `PROBE` at a spot may be if few lines show a number.
+/// How many fields were read, and how many more than usual may be at a spot if few lines show a number.
 #[derive(Clone, Copy)]
 pub(crate) struct Looked {
     pub(crate) fields: u32,

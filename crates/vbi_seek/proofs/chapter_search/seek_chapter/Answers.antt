@@ -8,4 +8,4 @@ pub returns-clause-complete : goal.returns-clause-complete
 returns-clause-complete c =
     subst (λ (side : Side). IsChapterComplete side c.args.chapter c.look_around.result) c.new-side.ensures
     (λ t a b few first leads.
-    c.look_around.ensures.complete t first (c.place_of-looked.ensures.leads t a b few leads))
+    c.look_around.ensures.complete t first (c.place_of.ensures.leads t a b few leads))

@@ -1,5 +1,5 @@
 -- proofs/field_lines/recovered_at/Answers.antt
-use Rattle.std.proofs.Common.{ℕ, ◌*◌, ◌≤◌, Bool, List, false, replicate, ap, subst, sym, ◌∙◌, ◌≡◌, take, arith}
+use Rattle.std.proofs.Common.{ℕ, ◌*◌, ◌≤◌, Bool, List, false, replicate, ap, subst, ◌∙◌, ◌≡◌, take, arith}
 use Rattle.std.proofs.lemmas.List.{take-replicate}
 use Rattle.vbi_words.specs.declared.system.System.{System}
 use Rattle.vbi_words.specs.declared.system.System.TheVariants.{Ntsc, Pal}

@@ -1,21 +1,38 @@
-use Rattle.std.proofs.Common.{◌≡◌, ◌∙◌, None, Some, ap, sym, subst, refl, arith, inl}
+use Rattle.std.proofs.Common.{◌∙◌, ap, sym, subst, arith}
 use Rattle.vbi_seek.specs.declared.narrowing.Between.{Between}
 use Rattle.vbi_seek.specs.Searches.{AreSeenFrom, IsSilent, IsHalved, middle_in}
-use Rattle.vbi_seek.proofs.Leading.{told_there, middle_halves, not_both}
+use Rattle.vbi_seek.proofs.Leading.{not_both, spent_by_both, told_in_middle}
 use Rattle.vbi_seek.proofs.Narrowed.{by_both}
 use Rattle.vbi_seek.proofs.Seen.{none_seen}
 use Rattle.vbi_seek.proofs.halving.halve.Goals as goal
 
 pub returns-then-narrow-clause-halved : goal.returns-then-narrow-clause-halved
 returns-then-narrow-clause-halved c =
-    told_there c.args.search.now _ c.args.between.now c.narrow.new.between
-    (middle_halves c.args.between.now _ c.requires.wide refl refl) (c.narrow.ensures.narrowed c.if-narrow.true)
+    told_in_middle c.args.search.now c.args.between.now c.narrow.new.between c.requires.wide
+    (c.narrow.ensures.narrowed c.if-narrow.true)
 
-pub returns-in-Some-lower-clause-halved : goal.returns-in-Some-lower-clause-halved
-returns-in-Some-lower-clause-halved c =
+pub returns-in-Number-clause-halved : goal.returns-in-Number-clause-halved
+returns-in-Number-clause-halved c =
     let kept = c.narrow.ensures.kept c.if-narrow.false in
     not_both c.args.search.now c.in-Some-lower.lower c.in-Some.higher c.args.between.now c.narrow_between.new.between
     c.requires.part (λ k n few. c.narrow.ensures.silent c.if-narrow.false k n (omega (arith, few)))
+    (sym (ap (λ (n : Between). n.lower) kept) ∙ c.in-Some-lower.is)
+    (sym (ap (λ (n : Between). n.higher) kept) ∙ c.in-Some.is)
+
+pub returns-in-Chapter-clause-halved : goal.returns-in-Chapter-clause-halved
+returns-in-Chapter-clause-halved c =
+    let kept = c.narrow.ensures.kept c.if-narrow.false in
+    not_both c.args.search.now c.in-Some-lower.lower c.in-Some.higher c.args.between.now c.ask_beside.new.between
+    c.requires.part (λ k n few. c.narrow.ensures.silent c.if-narrow.false k n (omega (arith, few)))
+    (sym (ap (λ (n : Between). n.lower) kept) ∙ c.in-Some-lower.is)
+    (sym (ap (λ (n : Between). n.higher) kept) ∙ c.in-Some.is)
+
+pub returns-in-Chapter-clause-spent : goal.returns-in-Chapter-clause-spent
+returns-in-Chapter-clause-spent c =
+    let kept = c.narrow.ensures.kept c.if-narrow.false in
+    spent_by_both c.args.search.now c.in-Some-lower.lower c.in-Some.higher c.args.between.now c.args.looked.now
+    c.ask_beside.new.looked c.requires.part
+    (λ k n few. c.narrow.ensures.silent c.if-narrow.false k n (omega (arith, few)))
     (sym (ap (λ (n : Between). n.lower) kept) ∙ c.in-Some-lower.is)
     (sym (ap (λ (n : Between). n.higher) kept) ∙ c.in-Some.is)
 
@@ -45,25 +62,10 @@ narrow_between-requires-clause-seen c =
     (sym (c.narrow.ensures.kept c.if-narrow.false))
     (c.narrow.ensures.seen (none_seen c.args.search.now (middle_in c.args.between.now) 144))
 
-pub returns-then-narrow-clause-by_both : goal.returns-then-narrow-clause-by_both
-returns-then-narrow-clause-by_both c = λ told lower higher. inl (c.narrow.ensures.narrowed c.if-narrow.true)
-
-pub returns-in-Some-lower-clause-by_both : goal.returns-in-Some-lower-clause-by_both
-returns-in-Some-lower-clause-by_both c = λ told lower higher.
+pub returns-in-Number-clause-by_both : goal.returns-in-Number-clause-by_both
+returns-in-Number-clause-by_both c = λ judging is told lower higher.
     by_both c.args.search.now told (record { lower = c.in-Some-lower.lower; higher = c.in-Some.higher })
     c.narrow.new.looked.spare c.narrow.new.seen c.args.between.now c.narrow.new.between
     c.narrow_between.new.between (c.narrow.ensures.kept c.if-narrow.false) c.in-Some-lower.is c.in-Some.is lower higher
     (c.narrow.ensures.seen (none_seen c.args.search.now (middle_in c.args.between.now) 144))
     c.narrow_between.ensures.narrowed
-
-pub returns-in-None-clause-by_both : goal.returns-in-None-clause-by_both
-returns-in-None-clause-by_both c = λ told lower higher.
-    let h : None ≡ Some told.higher = sym c.in-None.is
-    ∙ ap (λ (n : Between). n.higher) (c.narrow.ensures.kept c.if-narrow.false) ∙ higher in
-    absurd cc
-
-pub returns-in-None-lower-clause-by_both : goal.returns-in-None-lower-clause-by_both
-returns-in-None-lower-clause-by_both c = λ told lower higher.
-    let h : None ≡ Some told.lower = sym c.in-None-lower.is
-    ∙ ap (λ (n : Between). n.lower) (c.narrow.ensures.kept c.if-narrow.false) ∙ lower in
-    absurd cc

@@ -57,7 +57,7 @@ returns-in-Some-clause-beside c =
     let numbers = c.judge_around-pace.new.numbers in
     let is = c.judge_around-pace.ensures in
     let beside = c.neighbours_among.ensures in
-    let inside : a.to ≤ search.count = omega (arith, is.judged.window.order) in (
+    let inside : a.to ≤ search.side.count = omega (arith, is.judged.window.order) in (
       span_of pace a,
       record {
         inside = (omega (arith, is.judged.window.order), inside);
@@ -68,7 +68,7 @@ returns-in-Some-clause-beside c =
             let at = first_inside search a pace numbers c.in-Some.at is.judged c.in-Some.ensures.first in
             (at.0, at.1, refl);
         told = (beside.before pace is.judged, beside.after pace is.judged);
-        rising = λ rising has. both_whole (all_shown search) search.count (span_of pace a) search.number
+        rising = λ rising has. both_whole (all_shown search) search.side.count (span_of pace a) search.number
             c.neighbours_among.result.0 c.neighbours_among.result.1 inside rising has
             (beside.before pace is.judged, beside.after pace is.judged);
       },
@@ -83,7 +83,7 @@ returns-in-None-clause-beside c =
     let numbers = c.judge_around-pace.new.numbers in
     let is = c.judge_around-pace.ensures in
     let beside = c.neighbours_among.ensures in
-    let inside : a.to ≤ search.count = omega (arith, is.judged.window.order) in (
+    let inside : a.to ≤ search.side.count = omega (arith, is.judged.window.order) in (
       span_of pace a,
       record {
         inside = (omega (arith, is.judged.window.order), inside);
@@ -92,7 +92,7 @@ returns-in-None-clause-beside c =
             (a.first, a.end - a.first, omega (arith, is.counted), judged_in search a pace numbers i is.judged from to);
         found = λ found. absurd (omega (arith, found));
         told = (beside.before pace is.judged, beside.after pace is.judged);
-        rising = λ rising has. both_whole (all_shown search) search.count (span_of pace a) search.number
+        rising = λ rising has. both_whole (all_shown search) search.side.count (span_of pace a) search.number
             c.neighbours_among.result.0 c.neighbours_among.result.1 inside rising has
             (beside.before pace is.judged, beside.after pace is.judged);
       },
