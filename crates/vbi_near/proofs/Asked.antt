@@ -2,7 +2,7 @@
 -- The functions of line_rule, pair_rule and recovery stand on it.
 use Rattle.std.proofs.Common.{◌≡◌, ℕ, Bool, true, false, List, refl, sym, ap, ◌∙◌, subst}
 use Rattle.std.specs.Prelude.{◌*◌, nat_le, Option, Some, None, is_some, IsTrue, if◌then◌else◌, ◌&&◌}
-use Rattle.vbi_near.proofs.Common.{samples_of, Nears, unit_of, known_but}
+use Rattle.vbi_near.proofs.Common.{Slicing, samples_of, Nears, unit_of, known_but}
 use Rattle.vbi_near.specs.declared.margins.Margins.{Margins}
 use Rattle.vbi_near.specs.declared.margins.MarginSet.{MarginSet}
 use Rattle.vbi_near.specs.declared.word_rule.PairNears.{PairNears}
@@ -10,7 +10,7 @@ use Rattle.vbi_near.specs.declared.word_rule.Stand.TheVariants.{Apart, Together}
 use Rattle.vbi_near.specs.declared.recovery.Recovered.{Recovered}
 use Rattle.vbi_near.specs.WordRule.{said_of, said_if, unless_beyond, said_in, stand_of, may_agree, first_said, is_said}
 use Rattle.vbi_near.specs.LevelledLines.{levelled, is_swing}
-use Rattle.vbi_near.specs.Candidates.{Candidates, Row, Line, Lines, line_of, HasNear, HasNearIf, AreOf, has_swing}
+use Rattle.vbi_near.specs.Candidates.{Candidates, Line, Lines, HasNear, HasNearIf, AreOf, has_swing}
 use Rattle.vbi_near.specs.Candidates.{filled_samples, levelled_samples, are_alike_by}
 use Rattle.vbi_near.specs.Silence.{HasNearUnlessSilent, HasNearIfUnlessSilent}
 use Rattle.vbi_near.specs.Recovery.{said_by, stands_by, stands_of, alone, IsSeen, IsOwn, own_of, is_open, are_open}
@@ -156,13 +156,14 @@ module _ (line : Line) (own : Recovered) (owns : IsOwn line own) where
 
 -- ---- lines 17 and 18
 
--- two lines that are seen, as they are found by their own levels
-module _ (line : Line) (other : Row) (own beside : Recovered) (owns : IsOwn line own)
-    (has : IsOwn (line_of line.system 18 line.slicing other) beside) (second third : Seen) (is : IsSeen line second)
-    (are : IsSeen (line_of line.system 18 line.slicing other) third) where
+-- two lines of one level that are seen, as they are found by their own levels
+module _ (line other : Line) (levels : other.slicing ≡ line.slicing) (own beside : Recovered) (owns : IsOwn line own)
+    (has : IsOwn other beside) (second third : Seen) (is : IsSeen line second) (are : IsSeen other third) where
   -- both are open as they are found so
   both-same : (is_open own.outcome && is_open beside.outcome) ≡ are_open (unit_of line.slicing) second third
-  both-same = λ j. is_open (owns second is j).outcome && is_open (has third are j).outcome
+  both-same =
+      let shown = has third are ∙ ap (λ (s : Slicing). own_of (unit_of s) third) levels in
+      λ j. is_open (owns second is j).outcome && is_open (shown j).outcome
 
   -- if both are open, they stand to each other by their nearest words
   stands-open : (both : Candidates) → (is_open own.outcome && is_open beside.outcome) ≡ true
@@ -185,24 +186,26 @@ module _ (line : Line) (other : Row) (own beside : Recovered) (owns : IsOwn line
   pair-open opened = sym both-same ∙ opened
 
   -- two open lines show what they are found to say together
-  pub pair-shows : (both : Candidates) (said told : Option ℕ) → (is_open own.outcome && is_open beside.outcome) ≡ true
-      → ((near again : Candidates) → AreOf line near → AreOf (line_of line.system 18 line.slicing other) again
+  pub pair-shows : (both : Candidates) (said again_said : Option ℕ)
+      → (is_open own.outcome && is_open beside.outcome) ≡ true
+      → ((near again : Candidates) → AreOf line near → AreOf other again
       → (said ≡ said_by (stands_by (unit_of line.slicing) near again both) (unit_of line.slicing) near both)
-      × (told ≡ said_by (stands_by (unit_of line.slicing) near again both) (unit_of line.slicing) again both))
+      × (again_said ≡ said_by (stands_by (unit_of line.slicing) near again both) (unit_of line.slicing) again both))
       → (recovered_as own said
       ≡ shown_in (stands_of (unit_of line.slicing) second third both) (unit_of line.slicing) second both)
-      × (recovered_as beside told
+      × (recovered_as beside again_said
       ≡ shown_in (stands_of (unit_of line.slicing) second third both) (unit_of line.slicing) third both)
-  pair-shows both said told opened says =
+  pair-shows both said again_said opened says =
       let unit = unit_of line.slicing in
       let stands = stands_of unit second third both in
       let opens = both-hold (is_open own.outcome) (is_open beside.outcome) opened in
-      let near = open-near line own owns second is opens.0 in
-      let again = open-near (line_of line.system 18 line.slicing other) beside has third are opens.1 in
-      let found = says second.near third.near near again in
+      let found = says second.near third.near (open-near line own owns second is opens.0)
+      (open-near other beside has third are opens.1) in
       let so = stands-open both opened in (
         open-shows line own owns stands second both said is opens.0
             (found.0 ∙ ap (λ (s : Stands). said_by s unit second.near both) so),
-        open-shows (line_of line.system 18 line.slicing other) beside has stands third both told are opens.1
+        subst (λ (s : Slicing). again_said ≡ said_by stands (unit_of s) third.near both
+            → recovered_as beside again_said ≡ shown_in stands (unit_of s) third both) levels
+            (open-shows other beside has stands third both again_said are opens.1)
             (found.1 ∙ ap (λ (s : Stands). said_by s unit third.near both) so),
       )

@@ -1,7 +1,6 @@
 -- Lines as the definitions of candidates have them.
 use Rattle.std.specs.Prelude.{ℕ, List}
 use Rattle.vbi_near.specs.declared.lines.Line.{Line}
-use Rattle.vbi_near.specs.declared.lines.Pair.{Pair}
 use Rattle.vbi_near.specs.declared.lines.Rows.{Rows}
 use Rattle.vbi_near.specs.Candidates as candidates
 use Rattle.vbi_near.specs.Candidates.{Row, row_of, line_of}
@@ -14,13 +13,6 @@ row_in line = row_of line.bytes.now line.erased.now
 -- a line with its system, its number and its levels
 abbrev pub line_in : Line → candidates.Line
 line_in line = line_of line.system line.number line.levels (row_in line)
-
--- lines 17 and 18 of a pair
-abbrev pub second_in : Pair → candidates.Line
-second_in pair = line_of pair.system 17 pair.levels (row_of pair.bytes.now pair.erased.now)
-
-abbrev pub third_in : Pair → candidates.Line
-third_in pair = line_of pair.system 18 pair.levels (row_of pair.other_bytes.now pair.other_erased.now)
 
 -- one of lines that lie one after the other, counted from 0
 abbrev pub row_at : Rows → ℕ → Row

@@ -4,21 +4,21 @@
 //! may say one by some margins (silence.rt). A levelled row is searched as any other, on the levels of levelled lines.
 
 ghost use Rattle.std.specs.Prelude.{◌≡◌, ◌∷◌, [], length, replicate, IsTrue};
-ghost use Rattle.vbi_near.specs.Common.{line_bytes, samples_of};
-ghost use Rattle.vbi_near.specs.Lines.{row_in, line_in, second_in, third_in};
-ghost use Rattle.vbi_near.specs.LevelledLines.{levelled};
+ghost use Rattle.vbi_near.specs.Common.{line_bytes, width_of, samples_of};
+ghost use Rattle.vbi_near.specs.Lines.{row_in, line_in};
+ghost use Rattle.vbi_near.specs.LevelledLines.{levelled, levelled_slicing};
 ghost use Rattle.vbi_near.specs.Pile.{IsPileOf};
 ghost use Rattle.vbi_near.specs.Silence.{HasNearUnlessSilent};
 ghost use Rattle.vbi_near.specs.StretchedCells.{IsStretched};
 ghost use Rattle.vbi_near.specs.Candidates.{HasNear, given_line, given_pair, given_samples, filled_samples, swing_in};
-ghost use Rattle.vbi_near.specs.Candidates.{has_swing, are_alike_by};
+ghost use Rattle.vbi_near.specs.Candidates.{has_swing, are_alike_by, row_of, line_of};
 
-use crate::levelled_lines::{Summed, fill, is_swing, level, sum_samples, swing};
+use crate::levelled_lines::{Summed, fill, is_swing, level, levelled_levels, sum_samples, swing};
 use crate::lines::{Line, Pair};
 use crate::margins::{Margins, unit_of};
 use crate::near::{Nears, WIDEST};
 use crate::pile::Pile;
-use vbi_words::Word24;
+use vbi_words::{System, Word24};
 
 /// One line, with room for what its columns cost.
 fn pile_of_one<'a>(
@@ -42,13 +42,13 @@ fn pile_of_two<'a>(
     lights: &'a mut [u32; WIDEST],
 ) -> Pile<'a>
     requires { (darks.old ≡ replicate 1135 0) × (lights.old ≡ replicate 1135 0) }
-    ensures pile { IsPileOf pair.now.system pair.now.levels (given_samples (second_in pair.now).row
-        ∷ given_samples (third_in pair.now).row ∷ []) result }
+    ensures pile { IsPileOf pair.now.second.system pair.now.second.levels
+        (given_samples (row_in pair.now.second) ∷ given_samples (row_in pair.now.third) ∷ []) result }
     ensures two { result.count ≡ 2 }
 {
-    let mut pile = Pile::new(pair.system, pair.levels, darks, lights);
-    pile.add(pair.bytes, pair.erased);
-    pile.add(pair.other_bytes, pair.other_erased);
+    let mut pile = Pile::new(pair.second.system, pair.second.levels, darks, lights);
+    pile.add(pair.second.bytes, pair.second.erased);
+    pile.add(pair.third.bytes, pair.third.erased);
     pile
 }
 
@@ -72,21 +72,21 @@ pub(crate) fn near_unless_silent(line: &Line, margins: &Margins) -> Option<Nears
 
 /// The nearest word and code of lines 17 and 18, if both have one word.
 pub(crate) fn near_of_two(pair: &Pair) -> Nears
-    ensures { HasNear (given_pair (second_in pair.now) (third_in pair.now).row) result }
+    ensures { HasNear (given_pair (line_in pair.now.second) (row_in pair.now.third)) result }
 {
     let mut darks = [0; WIDEST];
     let mut lights = [0; WIDEST];
-    pile_of_two(pair, &mut darks, &mut lights).nears(17)
+    pile_of_two(pair, &mut darks, &mut lights).nears(pair.second.number)
 }
 
 /// The nearest word and code of lines 17 and 18, if both have one word, or none if the two say nothing together by
 /// these margins.
 pub(crate) fn both_unless_silent(pair: &Pair, margins: &Margins) -> Option<Nears>
-    ensures { HasNearUnlessSilent margins.now 2 (given_pair (second_in pair.now) (third_in pair.now).row) result }
+    ensures { HasNearUnlessSilent margins.now 2 (given_pair (line_in pair.now.second) (row_in pair.now.third)) result }
 {
     let mut darks = [0; WIDEST];
     let mut lights = [0; WIDEST];
-    pile_of_two(pair, &mut darks, &mut lights).nears_if(17, margins)
+    pile_of_two(pair, &mut darks, &mut lights).nears_if(pair.second.number, margins)
 }
 
 /// How far a line is from the nearest row of this word on cells that are somewhat longer or shorter.
@@ -121,6 +121,27 @@ pub(crate) fn level_row(line: &Line, out: &mut [u8]) -> u32
         level(&summed, swing, out);
     }
     swing
+}
+
+/// A line of levelled samples, by their bytes and which of its columns are erased.
+pub(crate) fn as_levelled<'a>(
+    system: System,
+    number: u32,
+    bytes: &'a [u8],
+    erased: &'a [bool],
+) -> Line<'a>
+    requires bytes { length bytes.now ≡ line_bytes system }
+    requires erased { length erased.now ≡ width_of system }
+    ensures { line_in result ≡ line_of system number levelled_slicing (row_of bytes.now erased.now) }
+{
+    let levels = levelled_levels();
+    Line {
+        system,
+        number,
+        levels,
+        bytes,
+        erased,
+    }
 }
 
 /// Whether two lines that swing so may be levelled together: neither swings more than twice as much as the other.

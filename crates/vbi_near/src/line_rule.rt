@@ -16,8 +16,10 @@ ghost use Rattle.vbi_near.specs.Candidates.{Candidates, given_samples, given_lin
 ghost use Rattle.vbi_near.specs.Candidates.{HasNear, HasNearIf};
 ghost use Rattle.vbi_near.specs.Recovery.{recovered_alone, other_than, is_stretched, is_confirmed};
 
-use crate::candidates::{level_row, near_of_one, near_unless_silent, stretched_of_one};
-use crate::levelled_lines::{is_swing, levelled_levels};
+use crate::candidates::{
+    as_levelled, level_row, near_of_one, near_unless_silent, stretched_of_one,
+};
+use crate::levelled_lines::is_swing;
 use crate::lines::Line;
 use crate::margins::{GIVEN, LEVELLED, Margins, unit_of};
 use crate::near::{Near, Nears, WIDEST};
@@ -45,13 +47,7 @@ fn said_levelled(line: &Line) -> Option<Word24>
     if !is_swing(unit_of(line.levels), swing) {
         return None;
     }
-    let levelled = Line {
-        system: line.system,
-        number: line.number,
-        levels: levelled_levels(),
-        bytes,
-        erased: line.erased,
-    };
+    let levelled = as_levelled(line.system, line.number, bytes, line.erased);
     said_as(&levelled, &LEVELLED.lone)
 }
 

@@ -22,46 +22,10 @@ pub(crate) struct Line<'a> {
 /// Lines 17 and 18 of a field.
 #[derive(Clone, Copy)]
 pub(crate) struct Pair<'a> {
-    pub(crate) system: System,
-    pub(crate) levels: Levels,
-    pub(crate) bytes: &'a [u8],
-    pub(crate) erased: &'a [bool],
-    pub(crate) other_bytes: &'a [u8],
-    pub(crate) other_erased: &'a [bool],
-    ghost whole: { length bytes.now ≡ line_bytes system },
-    ghost columns: { length erased.now ≡ width_of system },
-    ghost other_whole: { length other_bytes.now ≡ line_bytes system },
-    ghost other_columns: { length other_erased.now ≡ width_of system },
-}
-
-impl<'a> Pair<'a> {
-    ghost use Rattle.vbi_near.specs.Lines.{line_in, second_in, third_in};
-
-    /// Line 17.
-    pub(crate) fn second(&self) -> Line<'a>
-        ensures { line_in result ≡ second_in self.now }
-    {
-        Line {
-            system: self.system,
-            number: 17,
-            levels: self.levels,
-            bytes: self.bytes,
-            erased: self.erased,
-        }
-    }
-
-    /// Line 18.
-    pub(crate) fn third(&self) -> Line<'a>
-        ensures { line_in result ≡ third_in self.now }
-    {
-        Line {
-            system: self.system,
-            number: 18,
-            levels: self.levels,
-            bytes: self.other_bytes,
-            erased: self.other_erased,
-        }
-    }
+    pub(crate) second: Line<'a>,
+    pub(crate) third: Line<'a>,
+    ghost system: { third.system ≡ second.system },
+    ghost levels: { third.levels ≡ second.levels },
 }
 
 /// Lines of one system that lie one after the other, as do the marks of their erased columns.

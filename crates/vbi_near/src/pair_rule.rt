@@ -7,7 +7,7 @@
 
 ghost use Rattle.std.specs.Prelude.{None, IsTrue};
 ghost use Rattle.vbi_near.specs.declared.word_rule.PairNears.{PairNears};
-ghost use Rattle.vbi_near.specs.Lines.{line_in, second_in, third_in};
+ghost use Rattle.vbi_near.specs.Lines.{row_in, line_in};
 ghost use Rattle.vbi_near.specs.Common.{unit_of};
 ghost use Rattle.vbi_near.specs.LevelledLines.{levelled_unit};
 ghost use Rattle.vbi_near.specs.Margins.{levelled_margins};
@@ -16,9 +16,10 @@ ghost use Rattle.vbi_near.specs.Candidates.{HasNearIf, given_line, given_pair};
 ghost use Rattle.vbi_near.specs.PairRule.{HaveNear, HaveLevelled, SayInPair};
 
 use crate::candidates::{
-    are_alike, both_unless_silent, level_row, near_of_one, near_of_two, near_unless_silent,
+    are_alike, as_levelled, both_unless_silent, level_row, near_of_one, near_of_two,
+    near_unless_silent,
 };
-use crate::levelled_lines::{is_swing, levelled_levels};
+use crate::levelled_lines::is_swing;
 use crate::lines::{Line, Pair};
 use crate::margins::{LEVELLED, MarginSet, Margins, unit_of};
 use crate::near::{Nears, WIDEST};
@@ -49,7 +50,7 @@ fn is_silent(can: bool, line: &Line, margins: &Margins) -> bool
 
 /// The nearest words of two lines together, if they may have them and say something by these margins.
 fn both_if(can: bool, pair: &Pair, margins: &Margins) -> Option<Nears>
-    ensures { HasNearIfUnlessSilent margins.now 2 (given_pair (second_in pair.now) (third_in pair.now).row) can result }
+    ensures { HasNearIfUnlessSilent margins.now 2 (given_pair (line_in pair.now.second) (row_in pair.now.third)) can result }
 {
     if can {
         both_unless_silent(pair, margins)
@@ -65,8 +66,8 @@ fn both_in_any_case(
     margins: &Margins,
     found: Option<Nears>,
 ) -> Option<Nears>
-    requires { HasNearIfUnlessSilent margins.now 2 (given_pair (second_in pair.now) (third_in pair.now).row) can found }
-    ensures { HasNearIf (given_pair (second_in pair.now) (third_in pair.now).row) can result }
+    requires { HasNearIfUnlessSilent margins.now 2 (given_pair (line_in pair.now.second) (row_in pair.now.third)) can found }
+    ensures { HasNearIf (given_pair (line_in pair.now.second) (row_in pair.now.third)) can result }
 {
     match found {
         Some(near) => Some(near),
@@ -81,51 +82,47 @@ pub(crate) fn pair_said(
     asked: Asked,
     pair: &Pair,
 ) -> (Option<Word24>, Option<Word24>)
-    ensures { (near : PairNears) → HaveNear (second_in pair.now) (third_in pair.now) asked near
-        → SayInPair margins.now (unit_of pair.now.levels) near result }
+    ensures { (near : PairNears) → HaveNear (line_in pair.now.second) (line_in pair.now.third) asked near
+        → SayInPair margins.now (unit_of pair.now.second.levels) near result }
 {
-    let second = pair.second();
-    let third = pair.third();
     let both = both_if(asked.both, pair, &margins.both);
     if both.is_none()
-        && is_silent(asked.second, &second, &margins.apart)
-        && is_silent(asked.third, &third, &margins.apart)
+        && is_silent(asked.second, &pair.second, &margins.apart)
+        && is_silent(asked.third, &pair.third, &margins.apart)
     {
         return (None, None);
     }
     let near = PairNears {
-        second: near_if(asked.second, &second),
-        third: near_if(asked.third, &third),
+        second: near_if(asked.second, &pair.second),
+        third: near_if(asked.third, &pair.third),
         both: both_in_any_case(asked.both, pair, &margins.both, both),
     };
-    said_by_pair(margins, unit_of(pair.levels), &near)
+    said_by_pair(margins, unit_of(pair.second.levels), &near)
 }
 
 /// The words that lines 17 and 18 say levelled, each if it swings as one with a word does, and together if both swing
 /// alike.
 pub(crate) fn levelled_said(pair: &Pair) -> (Option<Word24>, Option<Word24>)
-    ensures { (near : PairNears) → HaveLevelled (second_in pair.now) (third_in pair.now) near
+    ensures { (near : PairNears) → HaveLevelled (line_in pair.now.second) (line_in pair.now.third) near
         → SayInPair levelled_margins levelled_unit near result }
 {
     let mut buffer = [0; 2 * WIDEST];
     let mut other_buffer = [0; 2 * WIDEST];
-    let bytes = &mut buffer[..pair.bytes.len()];
-    let other_bytes = &mut other_buffer[..pair.other_bytes.len()];
-    let swing = level_row(&pair.second(), bytes);
-    let other_swing = level_row(&pair.third(), other_bytes);
-    let unit = unit_of(pair.levels);
+    let second = &pair.second;
+    let third = &pair.third;
+    let bytes = &mut buffer[..second.bytes.len()];
+    let other_bytes = &mut other_buffer[..third.bytes.len()];
+    let swing = level_row(second, bytes);
+    let other_swing = level_row(third, other_bytes);
+    let unit = unit_of(second.levels);
     let asked = Asked {
         second: is_swing(unit, swing),
         third: is_swing(unit, other_swing),
         both: are_alike(unit, swing, other_swing),
     };
     let levelled = Pair {
-        system: pair.system,
-        levels: levelled_levels(),
-        bytes,
-        erased: pair.erased,
-        other_bytes,
-        other_erased: pair.other_erased,
+        second: as_levelled(second.system, second.number, bytes, second.erased),
+        third: as_levelled(third.system, third.number, other_bytes, third.erased),
     };
     pair_said(&LEVELLED, asked, &levelled)
 }

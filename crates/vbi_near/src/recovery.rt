@@ -20,7 +20,7 @@
 ghost use Rattle.std.specs.Prelude.{◌≡◌, ℕ, ◌+◌, ◌*◌, ◌&&◌, List, ◌∷◌, [], length, IsTrue};
 ghost use Rattle.vbi_near.specs.Common.{line_bytes, width_of, row_levels, reading_of, unit_of};
 ghost use Rattle.vbi_near.specs.Candidates.{Candidates, AreOf, AreOfBoth};
-ghost use Rattle.vbi_near.specs.Lines.{line_in, second_in, third_in};
+ghost use Rattle.vbi_near.specs.Lines.{row_in, line_in};
 ghost use Rattle.vbi_near.specs.Recovery.{Seen, own_of, is_open, are_open, stands_by, stands_of, said_by, recovered_as};
 ghost use Rattle.vbi_near.specs.Recovery.{IsSeen, IsOwn, IsRecovered, IsKept, row_reading, alone, shown_in};
 
@@ -113,11 +113,11 @@ fn shown_alone(line: &Line, own: Recovered) -> Recovered
 /// The words that lines 17 and 18 say if both are open. They are asked as they are only if one of them says none
 /// levelled.
 fn said_by_both(pair: &Pair) -> (Option<Word24>, Option<Word24>)
-    ensures { (near again both : Candidates) → AreOf (second_in pair.now) near → AreOf (third_in pair.now) again
-        → AreOfBoth (second_in pair.now) (third_in pair.now).row both
-        → let stands = stands_by (unit_of pair.now.levels) near again both in
-        (result.0 ≡ said_by stands (unit_of pair.now.levels) near both)
-        × (result.1 ≡ said_by stands (unit_of pair.now.levels) again both) }
+    ensures { (near again both : Candidates) → AreOf (line_in pair.now.second) near → AreOf (line_in pair.now.third) again
+        → AreOfBoth (line_in pair.now.second) (row_in pair.now.third) both
+        → let stands = stands_by (unit_of pair.now.second.levels) near again both in
+        (result.0 ≡ said_by stands (unit_of pair.now.second.levels) near both)
+        × (result.1 ≡ said_by stands (unit_of pair.now.second.levels) again both) }
 {
     let said = levelled_said(pair);
     if said.0.is_some() && said.1.is_some() {
@@ -141,18 +141,16 @@ fn are_both_open(outcome: Outcome, other: Outcome) -> bool
 
 /// What lines 17 and 18 show.
 fn shown_pair(pair: &Pair) -> (Recovered, Recovered)
-    ensures { (second third : Seen) (both : Candidates) → IsSeen (second_in pair.now) second
-        → IsSeen (third_in pair.now) third
-        → (IsTrue (are_open (unit_of pair.now.levels) second third)
-        → AreOfBoth (second_in pair.now) (third_in pair.now).row both)
-        → let stands = stands_of (unit_of pair.now.levels) second third both in
-        (result.0 ≡ shown_in stands (unit_of pair.now.levels) second both)
-        × (result.1 ≡ shown_in stands (unit_of pair.now.levels) third both) }
+    ensures { (second third : Seen) (both : Candidates) → IsSeen (line_in pair.now.second) second
+        → IsSeen (line_in pair.now.third) third
+        → (IsTrue (are_open (unit_of pair.now.second.levels) second third)
+        → AreOfBoth (line_in pair.now.second) (row_in pair.now.third) both)
+        → let stands = stands_of (unit_of pair.now.second.levels) second third both in
+        (result.0 ≡ shown_in stands (unit_of pair.now.second.levels) second both)
+        × (result.1 ≡ shown_in stands (unit_of pair.now.second.levels) third both) }
 {
-    let second = pair.second();
-    let third = pair.third();
-    let own_second = own(&second);
-    let own_third = own(&third);
+    let own_second = own(&pair.second);
+    let own_third = own(&pair.third);
     if are_both_open(own_second.outcome, own_third.outcome) {
         let said = said_by_both(pair);
         return (
@@ -161,8 +159,8 @@ fn shown_pair(pair: &Pair) -> (Recovered, Recovered)
         );
     }
     (
-        shown_alone(&second, own_second),
-        shown_alone(&third, own_third),
+        shown_alone(&pair.second, own_second),
+        shown_alone(&pair.third, own_third),
     )
 }
 
@@ -196,14 +194,7 @@ pub fn recover_rows(system: System, levels: Levels, rows: &[u8], erased: &[bool]
     };
     let second = rows.line(17, 1);
     let third = rows.line(18, 2);
-    let pair = Pair {
-        system,
-        levels,
-        bytes: second.bytes,
-        erased: second.erased,
-        other_bytes: third.bytes,
-        other_erased: third.erased,
-    };
+    let pair = Pair { second, third };
     let first = shown_first(&rows.line(16, 0));
     let others = shown_pair(&pair);
     [first, others.0, others.1]

@@ -4,7 +4,7 @@ use Rattle.vbi_near.specs.LevelledLines.{levelled_unit, levelled_slicing, is_swi
 use Rattle.vbi_near.specs.Margins.{levelled_margins}
 use Rattle.vbi_near.specs.WordRule.{said_of, said_if}
 use Rattle.vbi_near.specs.Lines.{line_in}
-use Rattle.vbi_near.specs.Candidates.{Lines, HasNear, some_lines, levelled_line, has_swing}
+use Rattle.vbi_near.specs.Candidates.{Line, Lines, HasNear, some_lines, given_line, levelled_line, has_swing}
 use Rattle.vbi_near.proofs.Asked.{none_if, says_if}
 use Rattle.vbi_near.proofs.line_rule.said_levelled.Goals as goal
 
@@ -29,5 +29,5 @@ returns c near has =
     says_if levelled_margins.lone 1 (has_swing line.system line.slicing line.row) (levelled_line line)
     (of levelled_slicing samples) near c.said_as.result swings
     (ap (of levelled_slicing) (sym (c.level_row-swing.ensures.levelled swings))) (λ n is. c.said_as.ensures n
-    (subst (λ (s : Slicing). HasNear (of s samples) n) (sym c.levelled_levels.ensures) is)
-    ∙ ap (λ (s : Slicing). said_of (unit_of s) levelled_margins.lone 1 n) c.levelled_levels.ensures) has
+    (subst (λ (l : Line). HasNear (given_line l) n) (sym c.as_levelled-levelled.ensures) is)
+    ∙ ap (λ (l : Line). said_of (unit_of l.slicing) levelled_margins.lone 1 n) c.as_levelled-levelled.ensures) has

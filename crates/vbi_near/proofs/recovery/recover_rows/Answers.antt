@@ -1,7 +1,7 @@
 use Rattle.std.proofs.Common.{◌≡◌, Bool, ℕ, List, [], ◌∷◌, sym, ap, ◌∙◌, get_or, subst}
 use Rattle.vbi_near.proofs.Common.{System, Slicing, unit_of}
 use Rattle.vbi_near.specs.declared.recovery.Recovered.{Recovered}
-use Rattle.vbi_near.specs.Candidates.{Line, line_of, AreOfBoth}
+use Rattle.vbi_near.specs.Candidates.{Line, AreOfBoth}
 use Rattle.vbi_near.specs.Lines.{row_in}
 use Rattle.vbi_near.specs.Recovery.{field_line, row_reading, alone, stands_of, shown_in, IsSeen, IsRecovered, IsKept}
 use Rattle.vbi_near.proofs.SomeSeen.{some_seen, some_of_both}
@@ -36,18 +36,21 @@ returns c =
     (subst (λ (l : Line). IsSeen l first.0) (sym c.line.ensures) first.1)
     ∙ ap (λ (l : Line). shown_in alone (unit_of l.slicing) first.0 both.0) c.line.ensures in
     let others = c.shown_pair-others.ensures second.0 third.0 both.0
-    (subst (λ (l : Line). IsSeen (line_of system 17 levels l.row) second.0) (sym c.line-second.ensures) second.1)
-    (subst (λ (l : Line). IsSeen (line_of system 18 levels l.row) third.0) (sym c.line-third.ensures) third.1)
-    (λ opened. subst (λ (l : Line). AreOfBoth (line_of system 17 levels l.row) (row_in c.line-third.result) both.0)
-    (sym c.line-second.ensures)
+    (subst (λ (l : Line). IsSeen l second.0) (sym c.line-second.ensures) second.1)
+    (subst (λ (l : Line). IsSeen l third.0) (sym c.line-third.ensures) third.1)
+    (λ opened. subst (λ (l : Line). AreOfBoth l (row_in c.line-third.result) both.0) (sym c.line-second.ensures)
     (subst (λ (l : Line). AreOfBoth (line 1) l.row both.0) (sym c.line-third.ensures) both.1)) in
+    let shown = subst (λ (l : Line). let stands = stands_of (unit_of l.slicing) second.0 third.0 both.0 in
+    (c.shown_pair-others.result.0 ≡ shown_in stands (unit_of l.slicing) second.0 both.0)
+    × (c.shown_pair-others.result.1 ≡ shown_in stands (unit_of l.slicing) third.0 both.0)) c.line-second.ensures
+    others in
     let is : IsRecovered system levels c.args.rows.now c.args.erased.now _ = (
       first.0,
       second.0,
       third.0,
       both.0,
       record { line_16 = first.1; line_17 = second.1; line_18 = third.1; pair = λ opened. both.1 },
-      λ j. shows j ∷ others.0 j ∷ others.1 j ∷ [],
+      λ j. shows j ∷ shown.0 j ∷ shown.1 j ∷ [],
     ) in
     record {
       recovered = is;

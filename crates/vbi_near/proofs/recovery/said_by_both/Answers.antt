@@ -9,7 +9,7 @@ use Rattle.vbi_near.proofs.recovery.said_by_both.Goals as goal
 
 pub returns-then-is_some-2 : goal.returns-then-is_some-2
 returns-then-is_some-2 c near other both is are pair =
-    let unit = unit_of c.args.pair.now.levels in
+    let unit = unit_of c.args.pair.now.second.levels in
     let some : is_some c.levelled_said-said.result.0 ≡ true = search rules in
     let some_other : is_some c.levelled_said-said.result.1 ≡ true = search rules in
     let says = c.levelled_said-said.ensures (levelled_of near other both)
