@@ -48,7 +48,7 @@ RELATIONS: Dict[Key, Tuple[Key, str]] = {
     ("vbi_line", "OneReading", "outcome_of"): (("vbi_words", "Outcomes", "IsOutcome"), "one_outcome"),
     ("vbi_line", "OneReading", "reading_of"): (("vbi_words", "Readings", "IsReading"), "one_reading"),
     ("vbi_field", "Shown", "near_of"): (("vbi_field", "Shown", "IsNearRow"), "one_near_row"),
-    ("vbi_field", "Shown", "recovery_of"): (("vbi_near", "Recovery", "IsRecovered"), "one_recovered"),
+    ("vbi_field", "RecoveredRows", "recovery_of"): (("vbi_near", "Recovery", "IsRecovered"), "one_recovered"),
     ("vbi_seek", "FieldLines", "recovery_of"): (("vbi_near", "Recovery", "IsRecovered"), "one_recovered"),
     ("vbi_words", "Smooth", "smooth_of"): (("vbi_words", "Smooth", "IsSmooth"), "one_smooth"),
 }

@@ -7,8 +7,8 @@ use Rattle.vbi_words.specs.Geometry.{line_bytes, field_bytes}
 use Rattle.vbi_words.specs.Levels.{Slicing}
 use Rattle.vbi_near.specs.declared.recovery.Recovered.{Recovered}
 use Rattle.vbi_near.specs.Recovery.{IsRecovered}
-use Rattle.vbi_field.specs.Recovered.{nears_text_of, recovered_without}
-use Rattle.vbi_field.specs.Shown.{recovery_of, joined_rows, as_readings}
+use Rattle.vbi_field.specs.RecoveredDocument.{nears_text_of, recovered_without}
+use Rattle.vbi_field.specs.RecoveredRows.{recovery_of, joined_rows, as_readings}
 use Rattle.vbi_field.specs.Stream.{rows_in}
 use Rattle.vbi_field.proofs.OneShown.{only_shown}
 use Rattle.vbi_c.specs.declared.fields.LdvbiFieldReadings.{LdvbiFieldReadings}

@@ -1,6 +1,6 @@
 -- The record that the document with recovered words has of a field, as C sees it.
 use Rattle.std.specs.Prelude.{◌≡◌, ℕ, ◌-◌, Bool, List, [], ◌∷◌, ◌++◌, length, replicate}
-use Rattle.vbi_field.specs.Recovered.{recovered_record_of, recovered_without, record_with, cause_lines}
+use Rattle.vbi_field.specs.RecoveredDocument.{recovered_record_of, recovered_without, record_with, cause_lines}
 use Rattle.vbi_field.specs.declared.readings.FieldReadings.{FieldReadings}
 use Rattle.vbi_field.specs.Stream.{row_readings, rows_in}
 use Rattle.vbi_c.specs.declared.fields.LdvbiFieldReadings.{LdvbiFieldReadings}

@@ -39,9 +39,9 @@ pub use Rattle.vbi_field.specs.Outlet.{failures_of, tries, written_of}
 pub use Rattle.vbi_field.specs.Progress.{AddsRow, HoldsOn, HoldsRows, IsKept, IsLineOf, IsProgress, MovesOneRow}
 pub use Rattle.vbi_field.specs.Progress.{Progress}
 pub use Rattle.vbi_field.specs.Ran.{Consumes, EndsInside, Read, RunFault, Summary, TooManyFields, Write, over}
-pub use Rattle.vbi_field.specs.Recovered.{recovered_without}
+pub use Rattle.vbi_field.specs.RecoveredDocument.{recovered_without}
 pub use Rattle.vbi_field.specs.RowIntake.{Fetches, HasNoNewline, RowIntake, TakesByte, TakesRow}
-pub use Rattle.vbi_field.specs.Shown.{as_readings, joined_rows}
+pub use Rattle.vbi_field.specs.RecoveredRows.{as_readings, joined_rows}
 pub use Rattle.vbi_field.specs.Stream.{FieldReadings, FieldRows, Position, Reading, fields_of, line_at, looks_of}
 pub use Rattle.vbi_field.specs.Stream.{reading_among, reading_at, reading_of, readings_of, rest_of, row_levels, rows_at}
 pub use Rattle.vbi_field.specs.Stream.{rows_in}

@@ -3,7 +3,7 @@ use Rattle.vbi_field.proofs.Common.{rules, ◌≡◌, ℕ, ◌+◌, ◌++◌, ap
 use Rattle.vbi_field.proofs.Common.{only_reading, row_of, none_erased, ConfigView, System, recovered_without}
 use Rattle.vbi_field.proofs.Common.{joined_rows, fields_of, rest_of, rows_at, row_levels, FieldRows, whole_text}
 use Rattle.std.proofs.Common.{Bool, List}
-use Rattle.vbi_field.specs.Recovered.{FieldRecovered, RowsRecover, recovered_of}
+use Rattle.vbi_field.specs.RecoveredDocument.{FieldRecovered, RowsRecover, recovered_of}
 use Rattle.vbi_near.specs.Candidates.{marks_at}
 use Rattle.vbi_field.specs.Texts.{IsRecoveredText, RecoveredKind, recovering, text_before_tail}
 use Rattle.vbi_field.proofs.Entries.{entry_of, joined-same}

@@ -12,7 +12,7 @@ use Rattle.vbi_near.proofs.OneNear.{one_near}
 use Rattle.vbi_near.proofs.OneRecovered.{one_recovered}
 use Rattle.vbi_near.proofs.SomeNear.{some_near}
 use Rattle.vbi_near.proofs.SomeRecovered.{some_recovered}
-use Rattle.vbi_field.specs.Shown.{IsNearRow, near_of, recovery_of, reading_as}
+use Rattle.vbi_field.specs.RecoveredRows.{IsNearRow, near_of, recovery_of, reading_as}
 
 -- ---- the nearest word of a row
 

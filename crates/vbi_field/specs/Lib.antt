@@ -7,10 +7,10 @@ pub mod Feed
 pub mod Outlet
 pub mod Progress
 pub mod Ran
-pub mod Recovered
+pub mod RecoveredDocument
+pub mod RecoveredRows
 pub mod Report
 pub mod RowIntake
-pub mod Shown
 pub mod Stream
 pub mod Texts
 pub mod WordRows

@@ -9,8 +9,9 @@ use Rattle.vbi_field.specs.Stream.{row_levels, line_at}
 use Rattle.vbi_words.specs.Readings.{IsReading}
 use Rattle.vbi_field.specs.Document.{head_of, record_of, tail_of}
 use Rattle.vbi_near.specs.Recovery.{none_erased}
-use Rattle.vbi_field.specs.Shown.{as_readings}
-use Rattle.vbi_field.specs.Recovered.{recovered_head_of, recovered_record_of, recovered_of, FieldRecovered, RowsRecover}
+use Rattle.vbi_field.specs.RecoveredRows.{as_readings}
+use Rattle.vbi_field.specs.RecoveredDocument.{recovered_head_of, recovered_record_of, recovered_of, FieldRecovered}
+use Rattle.vbi_field.specs.RecoveredDocument.{RowsRecover}
 use Rattle.vbi_field.specs.Report.{report_head_of, report_entry_of, recovered_entry_of, report_tail_of}
 use Rattle.vbi_field.specs.CodeTexts.{Outcome, Word, Blank, Unfinished, Change, Hold}
 

@@ -3,30 +3,20 @@ ghost use Rattle.std.specs.Prelude.{◌≡◌, ◌*◌, ◌<◌, ◌≤◌, ◌�
 ghost use Rattle.vbi_words.specs.Geometry.{height_of, line_bytes};
 ghost use Rattle.vbi_field.specs.ConfigView.{most_fields, most_rows};
 
-use std::error::Error;
-use std::fmt;
 use std::marker::Model;
+use thiserror::Error;
 use vbi_words::{Levels, System};
 
 /// The greatest number of fields that can be allowed in a run: 4.6 times those of an hour of NTSC, a full CLV side.
 pub const MAX_FIELDS_LIMIT: u32 = 1_000_000;
 
 /// Why there is no `Config`.
-#[derive(Clone, Copy, Debug, PartialEq, Eq)]
+#[derive(Clone, Copy, Debug, PartialEq, Eq, Error)]
 pub enum ConfigFault {
     /// The number of fields isn't from 1 to 1,000,000.
+    #[error("max fields is not from 1 to 1000000")]
     BadMaxFields,
 }
-
-impl fmt::Display for ConfigFault {
-    fn fmt<W: fmt::Write>(&self, f: &mut fmt::Formatter<W>) -> fmt::Result {
-        match self {
-            ConfigFault::BadMaxFields => write!(f, "max fields is not from 1 to 1000000"),
-        }
-    }
-}
-
-impl Error for ConfigFault {}
 
 /// A system, its levels, and how many fields a run may have.
 #[derive(Clone, Copy, Debug)]

@@ -2,9 +2,9 @@
 //!
 //! A stream has a head, an entry for each whole field and a tail, and each is made whole before it is written. `Kind`
 //! (texts.rt) has these three calls. The document is one kind, the report (report.rt) another, each has a kind with
-//! recovered words beside it (recovered.rt), and run.rt has one loop for all. The joint, a comma and a newline, stands
-//! before each entry but the first. So nothing has to be known of a field that may follow, and the record of a field is
-//! written as soon as its last byte came.
+//! recovered words beside it (recovered_document.rt, report.rt), and run.rt has one loop for all. The joint, a comma
+//! and a newline, stands before each entry but the first. So nothing has to be known of a field that may follow, and
+//! the record of a field is written as soon as its last byte came.
 //!
 //! Each function here has one definition of `specs/Document.antt`, of which its text is proved to be an equal, byte for
 //! byte; the three words, causes and passes of a record are pieces with a function and a proof each.
@@ -25,7 +25,7 @@ use crate::cause_texts::cause_text;
 use crate::config::Config;
 use crate::numbers::push_number;
 use crate::readings::FieldReadings;
-use crate::texts::{Kind, TEXT_SIZE};
+use crate::texts::{Kind, Text};
 use arrayvec::ArrayString;
 use vbi_words::Outcome;
 
@@ -39,20 +39,15 @@ impl Kind for Document {
 
     ghost KEEPS = { false };
 
-    fn head(config: &Config) -> ArrayString<TEXT_SIZE> {
+    fn head(config: &Config) -> Text {
         head_text("{\"version\":2", config)
     }
 
-    fn entry(
-        _config: &Config,
-        before: u32,
-        readings: &FieldReadings,
-        _held: &[u8],
-    ) -> ArrayString<TEXT_SIZE> {
+    fn entry(_config: &Config, before: u32, readings: &FieldReadings, _held: &[u8]) -> Text {
         record_text(before, readings)
     }
 
-    fn tail(fields: u32, rest: u32) -> ArrayString<TEXT_SIZE> {
+    fn tail(fields: u32, rest: u32) -> Text {
         tail_text(fields, rest)
     }
 }
@@ -90,7 +85,7 @@ fn parameters_text(config: &Config) -> ArrayString<160>
 }
 
 /// The text before the first record, which begins with the version.
-pub(crate) fn head_text(version: &str, config: &Config) -> ArrayString<TEXT_SIZE>
+pub(crate) fn head_text(version: &str, config: &Config) -> Text
     requires { length version.now ≤ 20 }
     ensures { result.bytes ≡ version.now ++ parameters_of config.now }
 {
@@ -166,7 +161,7 @@ pub(crate) fn passes_text(readings: &FieldReadings) -> ArrayString<24>
 
 /// The record of the field after this many others, with the joint before it unless it is the first.
 #[tactic(auto, unfolding(crate::specs::Document::record_of))]
-fn record_text(before: u32, readings: &FieldReadings) -> ArrayString<TEXT_SIZE>
+fn record_text(before: u32, readings: &FieldReadings) -> Text
     requires { before < 2 ^ 32 - 1 }
     ensures { result.bytes ≡ joined_reading_of plain_document before readings.now }
 {
@@ -185,7 +180,7 @@ fn record_text(before: u32, readings: &FieldReadings) -> ArrayString<TEXT_SIZE>
 
 /// The text after the last record.
 #[tactic(auto, unfolding(crate::specs::Document::tail_of))]
-pub(crate) fn tail_text(fields: u32, rest: u32) -> ArrayString<TEXT_SIZE>
+pub(crate) fn tail_text(fields: u32, rest: u32) -> Text
     requires { fields < 2 ^ 32 - 1 }
     ensures { result.bytes ≡ tail_of fields rest }
 {

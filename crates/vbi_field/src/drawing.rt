@@ -1,10 +1,10 @@
 //! Fields drawn from rows of words.
 ghost use Rattle.std.specs.Prelude.{◌≡◌, ◌+◌, ◌-◌, ◌*◌, ◌^◌, ◌≤◌, None, length, OnOk, OnErr, IfErr};
 ghost use Rattle.vbi_words.specs.Drawn.{drawn_line_of};
-ghost use Rattle.vbi_line.specs.Counted.{tries, failures_of, NoError, HasCause, IsSameDevice};
+ghost use Rattle.vbi_line.specs.Counted.{tries, failures_of, IsSameDevice};
 ghost use Rattle.vbi_field.specs.ConfigView.{most_rows};
 ghost use Rattle.vbi_field.specs.Outlet as outlets;
-ghost use Rattle.vbi_field.specs.Outlet.{written_of, Wrote, WrotePart};
+ghost use Rattle.vbi_field.specs.Outlet.{written_of, CountedUpTo, Serves, Wrote, WrotePart};
 ghost use Rattle.vbi_field.specs.RowIntake as intakes;
 ghost use Rattle.vbi_field.specs.Ran.{over};
 ghost use Rattle.vbi_field.specs.Draws.{drawn_field_of, word_at, RunsDrawing};
@@ -14,45 +14,35 @@ use crate::outlet::Outlet;
 use crate::row_intake::{NextByte, NextRow, RowIntake};
 use crate::summary::RunFault;
 use crate::word_row::WordRow;
-use std::error::Error;
-use std::fmt;
 use std::io::{Read, Write};
+use thiserror::Error;
 use vbi_words::{LONGEST_LINE, Word24, draw_line};
 
 /// Why drawing stopped. Rows are counted from 1.
-#[derive(Clone, Copy, Debug, PartialEq, Eq)]
+#[derive(Clone, Copy, Debug, PartialEq, Eq, Error)]
 pub enum DrawFault {
     /// A row is malformed.
+    #[error("row {number} is malformed")]
     Row {
         /// The number of the malformed row.
         number: u32,
     },
     /// The reader failed before a row was read whole.
+    #[error("read failed in row {number}")]
     Read {
         /// The number of the unfinished row.
         number: u32,
     },
     /// The writer failed.
+    #[error("{}", RunFault::Write {written: *.written})]
     Write {
         /// How many bytes it took in all.
         written: u64,
     },
     /// A byte followed the last row that is allowed.
+    #[error("{}", RunFault::TooManyFields)]
     TooManyFields,
 }
-
-impl fmt::Display for DrawFault {
-    fn fmt<W: fmt::Write>(&self, f: &mut fmt::Formatter<W>) -> fmt::Result {
-        match self {
-            DrawFault::Row { number } => write!(f, "row {number} is malformed"),
-            DrawFault::Read { number } => write!(f, "read failed in row {number}"),
-            DrawFault::Write { written } => RunFault::Write { written: *written }.fmt(f),
-            DrawFault::TooManyFields => RunFault::TooManyFields.fmt(f),
-        }
-    }
-}
-
-impl Error for DrawFault {}
 
 /// The word that a row of a field has.
 fn word_of_row(words: &WordRow, row: usize) -> Option<Word24>
@@ -89,18 +79,15 @@ fn put_field<W: Write>(
     outlet: &mut Outlet<W>,
 ) -> Result<(), DrawFault>
     requires black { line.old ≡ drawn_line_of config.now.system config.now.levels None }
-    requires written { written_of outlet.old ≤ 2 ^ 61 }
-    requires failures { (failures_of (outlets.counted_of outlet.old)).all ≤ 2 ^ 61 }
+    requires counts { CountedUpTo (2 ^ 61) outlet.old }
     ensures black { OnOk result (line.new ≡ drawn_line_of config.now.system config.now.levels None) }
-    ensures same { IsSameDevice (outlets.counted_of outlet.old) (outlets.counted_of outlet.new) }
+    ensures serves { Serves outlet.old outlet.new result }
     ensures ok { OnOk result (Wrote W.contents outlet.old outlet.new (drawn_field_of config.now words.now)) }
     ensures part { OnErr result (WrotePart W.contents outlet.old outlet.new (drawn_field_of config.now words.now)) }
     ensures least { (failures_of (outlets.counted_of outlet.old)).all
         ≤ (failures_of (outlets.counted_of outlet.new)).all }
     ensures most { (failures_of (outlets.counted_of outlet.new)).all ≤ (failures_of (outlets.counted_of outlet.old)).all
         + tries * (length (drawn_field_of config.now words.now) + most_rows) }
-    ensures no_error { OnOk result (NoError (outlets.counted_of outlet.old) (outlets.counted_of outlet.new)) }
-    ensures failed { OnErr result (HasCause (outlets.counted_of outlet.old) (outlets.counted_of outlet.new)) }
     ensures fault { IfErr result (λ e. e ≡ DrawFault.Write (written_of outlet.new)) }
 {
     for row in 0..config.system().height() {

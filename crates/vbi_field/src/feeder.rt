@@ -24,8 +24,8 @@ ghost use Rattle.vbi_words.specs.Geometry.{width_of, line_bytes};
 ghost use Rattle.vbi_line.specs.Line.{IsFull, KeepsPasses};
 ghost use Rattle.vbi_field.specs.Document.{head_of};
 ghost use Rattle.vbi_field.specs.Feed.{IsAt, IsFeedFault, IsFeederState, IsStep, position_in};
-ghost use Rattle.vbi_line.specs.Counted.{failures_of, NoError, HasCause, IsSameDevice};
-ghost use Rattle.vbi_field.specs.Outlet.{counted_of, written_of, IsFresh, Rises, Wrote, WrotePart};
+ghost use Rattle.vbi_line.specs.Counted.{NoError, IsSameDevice};
+ghost use Rattle.vbi_field.specs.Outlet.{counted_of, written_of, CountedUpTo, IsFresh, Rises, Serves, WrotePart};
 
 use crate::config::Config;
 use crate::document::Document;
@@ -72,8 +72,7 @@ fn take_bytes<W: Write>(
 ) -> Result<usize, RunFault>
     requires stand { IsFeederState config.now line.old progress.old }
     requires some { 0 < length bytes.now }
-    requires written { written_of outlet.old ≤ 2 ^ 62 }
-    requires failures { (failures_of (counted_of outlet.old)).all ≤ 2 ^ 62 }
+    requires counts { CountedUpTo (2 ^ 62) outlet.old }
     ensures same { IsSameDevice (counted_of outlet.old) (counted_of outlet.new) }
     ensures stand { IsFeederState config.now line.new progress.new }
     ensures some { IfOk result (λ n. (0 < n) × (n ≤ length bytes.now)) }
@@ -125,12 +124,10 @@ impl Feeder {
     /// Writes the head, and begins a stream of which nothing has come. If the writer fails there is no feeder.
     pub fn begin<W: Write>(config: Config, outlet: &mut Outlet<W>) -> Result<Feeder, RunFault>
         requires { IsFresh outlet.old }
-        ensures same { IsSameDevice (counted_of outlet.old) (counted_of outlet.new) }
+        ensures serves { Serves outlet.old outlet.new result }
         ensures rises { Rises outlet.old outlet.new 0 1 }
         ensures begins { IfOk result (λ f. Begins W.contents config outlet.old outlet.new f) }
         ensures write { IfErr result (λ e. e ≡ RunFault.Write (written_of outlet.new)) }
-        ensures no_error { OnOk result (NoError (counted_of outlet.old) (counted_of outlet.new)) }
-        ensures failed { OnErr result (HasCause (counted_of outlet.old) (counted_of outlet.new)) }
         ensures part { OnErr result (WrotePart W.contents outlet.old outlet.new (head_of config)) }
     {
         put(outlet, Document::head(&config).as_str())?;
@@ -150,8 +147,7 @@ impl Feeder {
     /// What is written depends on the pieces alone, and not on how the stream was cut (law `pieces_join`). So the
     /// contract speaks of any bytes z that lead to the feeder's position. A stream has one outlet from begin to end.
     pub fn feed<W: Write>(&mut self, piece: &[u8], outlet: &mut Outlet<W>) -> Result<(), RunFault>
-        requires written { written_of outlet.old ≤ 2 ^ 61 }
-        requires failures { (failures_of (counted_of outlet.old)).all ≤ 2 ^ 61 }
+        requires counts { CountedUpTo (2 ^ 61) outlet.old }
         ensures same { IsSameDevice (counted_of outlet.old) (counted_of outlet.new) }
         ensures rises { Rises outlet.old outlet.new self.old.position.fields self.new.position.fields }
         ensures short { length self.new.position.held < line_bytes self.new.config.system }
@@ -189,8 +185,7 @@ impl Feeder {
 
     /// Writes the tail, and answers the number of fields and the cut. The feeder is gone afterwards, in a fault too.
     pub fn finish<W: Write>(self, outlet: &mut Outlet<W>) -> Result<Summary, RunFault>
-        requires written { written_of outlet.old ≤ 2 ^ 61 }
-        requires failures { (failures_of (counted_of outlet.old)).all ≤ 2 ^ 61 }
+        requires counts { CountedUpTo (2 ^ 61) outlet.old }
         ensures same { IsSameDevice (counted_of outlet.old) (counted_of outlet.new) }
         ensures refused { IsTrue self.has_failed ↔ (result ≡ Err RunFault.Failed) }
         ensures unwritten { IsTrue self.has_failed → outlet.new ≡ outlet.old }

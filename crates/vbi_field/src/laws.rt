@@ -10,8 +10,9 @@ ghost use Rattle.vbi_field.specs.Texts.{FieldReads, IsWholeText, text_before_tai
 ghost use Rattle.vbi_field.specs.Texts.{document, report, plain_document, plain_report, RecoveredKind, recovering};
 ghost use Rattle.vbi_field.specs.Texts.{IsRecoveredText, recovered_document, worn_field, plain_config, black_field};
 ghost use Rattle.vbi_field.specs.Texts.{picture_field, time_field, second_pass_field, refused_field};
-ghost use Rattle.vbi_field.specs.Shown.{IsNearRow, near_of, recovery_of, as_readings};
-ghost use Rattle.vbi_field.specs.Recovered.{FieldRecovered, RowsRecover, recovered_without, recovered_record_of};
+ghost use Rattle.vbi_field.specs.RecoveredRows.{IsNearRow, near_of, recovery_of, as_readings};
+ghost use Rattle.vbi_field.specs.RecoveredDocument.{FieldRecovered, RowsRecover, recovered_without};
+ghost use Rattle.vbi_field.specs.RecoveredDocument.{recovered_record_of};
 ghost use Rattle.vbi_field.specs.Report.{recovered_entry_of};
 ghost use Rattle.vbi_words.specs.declared.outcome.Outcome.TheVariants.{Word, Blank, Change};
 ghost use Rattle.vbi_near.specs.Candidates.{Row};

@@ -1,9 +1,9 @@
 //! The fields of a TBC stream: the document and the report that are written for it, pulled from a reader or pushed in
-//! pieces, and test fields drawn from a text of words. Stands on `vbi_words`, `vbi_line`, `itoa` and `arrayvec`. What
-//! is written is exactly the text of `specs/` for the bytes fetched, however they were cut; a fault comes only if
-//! a device failed or the input is at fault, and says what was written. One line is held at a time, each byte is
-//! fetched once, and nothing allocates. A file of `specs/` passes on by `pub use` what its readers need, but no type of
-//! this crate to another crate.
+//! pieces, and test fields drawn from a text of words. Stands on `vbi_words`, `vbi_line`, `vbi_near`, `itoa`,
+//! `arrayvec` and `thiserror`. What is written is exactly the text of `specs/` for the bytes fetched, however they were
+//! cut; a fault comes only if a device failed or the input is at fault, and says what was written. One line is held at
+//! a time, each byte is fetched once, and nothing allocates. A file of `specs/` passes on by `pub use` what its readers
+//! need, but no type of this crate to another crate.
 #![tactic(auto)]
 
 mod cause_texts;
@@ -17,11 +17,11 @@ mod numbers;
 mod outlet;
 mod progress;
 mod readings;
-mod recovered;
+mod recovered_document;
+mod recovered_rows;
 mod report;
 mod row_intake;
 mod run;
-mod shown;
 mod summary;
 mod texts;
 mod word_row;
@@ -33,7 +33,7 @@ pub use drawing::{DrawFault, draw};
 pub use feeder::Feeder;
 pub use outlet::{Outlet, OutletFault};
 pub use readings::FieldReadings;
-pub use recovered::recovered_record;
+pub use recovered_document::recovered_record;
 pub use row_intake::RowIntake;
 pub use run::{extract, extract_recovered, show, show_recovered};
 pub use summary::{RunFault, Summary};

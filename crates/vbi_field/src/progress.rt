@@ -6,9 +6,8 @@
 ghost use Rattle.std.specs.Prelude.{◌≡◌, ◌++◌, ◌+◌, ◌*◌, ◌^◌, ◌↔◌, IsTrue, ◌<◌, ◌≤◌, List, ℕ, length, IfSome};
 ghost use Rattle.std.specs.Prelude.{Some, None, OnOk, OnErr, IfErr};
 ghost use Rattle.vbi_words.specs.Geometry.{height_of, line_bytes};
-ghost use Rattle.vbi_line.specs.Counted.{failures_of, NoError, HasCause, IsSameDevice};
 ghost use Rattle.vbi_field.specs.ConfigView.{most_fields};
-ghost use Rattle.vbi_field.specs.Outlet.{counted_of, written_of, Rises};
+ghost use Rattle.vbi_field.specs.Outlet.{written_of, CountedUpTo, Rises, Serves};
 
 use crate::config::Config;
 use crate::outlet::Outlet;
@@ -137,14 +136,11 @@ impl Progress {
         requires inside { self.old.row < height_of config.now.system }
         requires few { self.old.fields < most_fields }
         requires held { IsTrue K.KEEPS → length held.now ≡ 3 * line_bytes config.now.system }
-        requires written { written_of outlet.old ≤ 2 ^ 62 }
-        requires failures { (failures_of (counted_of outlet.old)).all ≤ 2 ^ 62 }
-        ensures same { IsSameDevice (counted_of outlet.old) (counted_of outlet.new) }
+        requires counts { CountedUpTo (2 ^ 62) outlet.old }
+        ensures serves { Serves outlet.old outlet.new result }
         ensures inside { self.new.row < height_of config.now.system }
         ensures next { MovesOneRow config.now self.old self.new }
         ensures rises { Rises outlet.old outlet.new self.old.fields self.new.fields }
-        ensures no_error { OnOk result (NoError (counted_of outlet.old) (counted_of outlet.new)) }
-        ensures failed { OnErr result (HasCause (counted_of outlet.old) (counted_of outlet.new)) }
         ensures field { OnErr result (self.new.row ≡ 0) }
         ensures fault { IfErr result (λ e. e ≡ RunFault.Write (written_of outlet.new)) }
         ensures adds { (z b : List ℕ) → IsProgress config.now z self.old

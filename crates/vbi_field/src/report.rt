@@ -13,8 +13,8 @@ use crate::code_texts::{code_text, hex_text};
 use crate::config::Config;
 use crate::numbers::push_number;
 use crate::readings::FieldReadings;
-use crate::shown::{none_erased, shown_lines};
-use crate::texts::{Kind, TEXT_SIZE};
+use crate::recovered_rows::{none_erased, shown_lines};
+use crate::texts::{Kind, Text};
 use arrayvec::ArrayString;
 use vbi_words::{Format, Levels, Outcome, Reading, System, classify, format_of};
 
@@ -28,20 +28,15 @@ impl Kind for Report {
 
     ghost KEEPS = { false };
 
-    fn head(config: &Config) -> ArrayString<TEXT_SIZE> {
+    fn head(config: &Config) -> Text {
         report_head(config.system(), config.levels())
     }
 
-    fn entry(
-        _config: &Config,
-        before: u32,
-        readings: &FieldReadings,
-        _held: &[u8],
-    ) -> ArrayString<TEXT_SIZE> {
+    fn entry(_config: &Config, before: u32, readings: &FieldReadings, _held: &[u8]) -> Text {
         report_entry(before + 1, readings)
     }
 
-    fn tail(fields: u32, rest: u32) -> ArrayString<TEXT_SIZE> {
+    fn tail(fields: u32, rest: u32) -> Text {
         report_tail(fields, rest)
     }
 }
@@ -56,28 +51,23 @@ impl Kind for RecoveredReport {
 
     ghost KEEPS = { true };
 
-    fn head(config: &Config) -> ArrayString<TEXT_SIZE> {
+    fn head(config: &Config) -> Text {
         report_head(config.system(), config.levels())
     }
 
-    fn entry(
-        config: &Config,
-        before: u32,
-        readings: &FieldReadings,
-        held: &[u8],
-    ) -> ArrayString<TEXT_SIZE> {
+    fn entry(config: &Config, before: u32, readings: &FieldReadings, held: &[u8]) -> Text {
         let lines = shown_lines(config, readings, held, none_erased(config));
         recovered_entry(before + 1, &lines)
     }
 
-    fn tail(fields: u32, rest: u32) -> ArrayString<TEXT_SIZE> {
+    fn tail(fields: u32, rest: u32) -> Text {
         report_tail(fields, rest)
     }
 }
 
 /// The first line: the system, its width and height in samples and lines, and the levels.
 #[tactic(auto, unfolding(crate::specs::Report::report_head_of))]
-pub(crate) fn report_head(system: System, levels: Levels) -> ArrayString<TEXT_SIZE>
+pub(crate) fn report_head(system: System, levels: Levels) -> Text
     ensures { result.bytes ≡ report_head_of system levels }
 {
     let mut text = ArrayString::new();
@@ -150,7 +140,7 @@ fn field_lines(
     first: &str,
     second: &str,
     third: &str,
-) -> ArrayString<TEXT_SIZE>
+) -> Text
     requires first { length first.now ≤ 43 }
     requires second { length second.now ≤ 43 }
     requires third { length third.now ≤ 43 }
@@ -177,7 +167,7 @@ fn field_lines(
 }
 
 /// The four lines of a field that is read so.
-pub(crate) fn report_entry(number: u32, readings: &FieldReadings) -> ArrayString<TEXT_SIZE>
+pub(crate) fn report_entry(number: u32, readings: &FieldReadings) -> Text
     ensures { result.bytes ≡ report_entry_of number readings.now }
 {
     field_lines(
@@ -190,7 +180,7 @@ pub(crate) fn report_entry(number: u32, readings: &FieldReadings) -> ArrayString
 }
 
 /// The four lines of a field whose lines show this, with recovered words.
-fn recovered_entry(number: u32, lines: &FieldReadings) -> ArrayString<TEXT_SIZE>
+fn recovered_entry(number: u32, lines: &FieldReadings) -> Text
     ensures { result.bytes ≡ recovered_entry_of number lines.now }
 {
     field_lines(
@@ -204,7 +194,7 @@ fn recovered_entry(number: u32, lines: &FieldReadings) -> ArrayString<TEXT_SIZE>
 
 /// The last line, from the number of whole fields and the bytes past them, which are those of a cut last field.
 #[tactic(auto, unfolding(crate::specs::Report::report_tail_of))]
-pub(crate) fn report_tail(fields: u32, rest: u32) -> ArrayString<TEXT_SIZE>
+pub(crate) fn report_tail(fields: u32, rest: u32) -> Text
     requires { fields < 2 ^ 32 - 1 }
     ensures { result.bytes ≡ report_tail_of fields rest }
 {

@@ -19,7 +19,7 @@ use crate::config::Config;
 use crate::document::Document;
 use crate::outlet::Outlet;
 use crate::progress::Progress;
-use crate::recovered::RecoveredDocument;
+use crate::recovered_document::RecoveredDocument;
 use crate::report::{RecoveredReport, Report};
 use crate::summary::{RunFault, Summary};
 use crate::texts::{HELD_SIZE, Kind, end, put};
@@ -96,8 +96,7 @@ fn end_at_limit<K: Kind, R: Read, W: Write>(
     requires looked { (line_of intake.old).looked ≤ 2 ^ 61 }
     requires fetched { fetched_of intake.old ≤ 2 ^ 62 }
     requires reads { (failures_of (intakes.counted_of intake.old)).all ≤ 2 ^ 62 }
-    requires written { outlets.written_of outlet.old ≤ 2 ^ 62 }
-    requires writes { (failures_of (outlets.counted_of outlet.old)).all ≤ 2 ^ 62 }
+    requires counts { outlets.CountedUpTo (2 ^ 62) outlet.old }
     ensures same_reader { IsSameDevice (intakes.counted_of intake.old) (intakes.counted_of intake.new) }
     ensures same_writer { IsSameDevice (outlets.counted_of outlet.old) (outlets.counted_of outlet.new) }
     ensures ends { EndsAtLimit K.kind R.remaining W.contents progress.now.fields

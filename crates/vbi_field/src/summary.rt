@@ -1,7 +1,6 @@
 //! How a run ends.
 
-use std::error::Error;
-use std::fmt;
+use thiserror::Error;
 
 /// What a run did that went to the end of its stream.
 #[derive(Clone, Copy, Debug, PartialEq, Eq)]
@@ -15,9 +14,10 @@ pub struct Summary {
 }
 
 /// Why a run stopped.
-#[derive(Clone, Copy, Debug, PartialEq, Eq)]
+#[derive(Clone, Copy, Debug, PartialEq, Eq, Error)]
 pub enum RunFault {
     /// The reader failed.
+    #[error("read failed in field {field} at byte {offset}")]
     Read {
         /// The field that the next byte would belong to, from 1.
         field: u32,
@@ -25,28 +25,15 @@ pub enum RunFault {
         offset: u32,
     },
     /// The writer failed.
+    #[error("write failed after {written} bytes")]
     Write {
         /// How many bytes it took in all.
         written: u64,
     },
     /// A byte followed the last field that is allowed.
+    #[error("too many fields")]
     TooManyFields,
     /// A feeder was used after a fault. No other call answers it.
+    #[error("feeder failed before")]
     Failed,
 }
-
-impl fmt::Display for RunFault {
-    fn fmt<W: fmt::Write>(&self, f: &mut fmt::Formatter<W>) -> fmt::Result {
-        match self {
-            RunFault::Read { field, offset } => write!(
-                f,
-                "read failed in field {field} at byte {offset}"
-            ),
-            RunFault::Write { written } => write!(f, "write failed after {written} bytes"),
-            RunFault::TooManyFields => write!(f, "too many fields"),
-            RunFault::Failed => write!(f, "feeder failed before"),
-        }
-    }
-}
-
-impl Error for RunFault {}

@@ -1,11 +1,11 @@
 //! The texts of a stream, of either kind, and how they are written.
 ghost use Rattle.std.specs.Prelude.{◌≡◌, ◌+◌, ◌-◌, ◌*◌, ◌^◌, Bool, IsTrue, ◌<◌, ◌≤◌, length, OnOk, OnErr, IfOk, IfErr};
 ghost use Rattle.vbi_words.specs.Geometry.{line_bytes};
-ghost use Rattle.vbi_line.specs.Counted.{failures_of, NoError, HasCause, IsSameDevice};
+ghost use Rattle.vbi_line.specs.Counted.{IsSameDevice};
 ghost use Rattle.vbi_field.specs.Texts as kinds;
 ghost use Rattle.vbi_field.specs.ConfigView.{most_fields};
 ghost use Rattle.vbi_field.specs.Extracts.{PutsTail};
-ghost use Rattle.vbi_field.specs.Outlet.{counted_of, written_of, Puts};
+ghost use Rattle.vbi_field.specs.Outlet.{counted_of, written_of, CountedUpTo, Puts, Serves};
 ghost use Rattle.vbi_field.specs.Stream.{readings_of, rows_in, FieldRows};
 ghost use Rattle.vbi_field.specs.Texts.{joined_entry_of};
 
@@ -19,6 +19,9 @@ use vbi_words::LONGEST_LINE;
 
 /// The most bytes that one text may have: those of the head, of an entry, or of the tail.
 pub(crate) const TEXT_SIZE: usize = 448;
+
+/// A head, an entry or a tail.
+pub(crate) type Text = ArrayString<TEXT_SIZE>;
 
 /// Room for the bytes of three of the longest lines.
 pub(crate) const HELD_SIZE: usize = 3 * LONGEST_LINE;
@@ -34,17 +37,12 @@ pub(crate) trait Kind {
     ghost KEEPS: { Bool };
 
     /// The head, which is written before the first read.
-    fn head(config: &Config) -> ArrayString<TEXT_SIZE>
+    fn head(config: &Config) -> Text
         ensures { result.bytes ≡ kind.head config.now };
 
     /// The entry of a field after `before` others, with the joint before it if there are any: by its readings and the
     /// bytes of its rows, if these are kept.
-    fn entry(
-        config: &Config,
-        before: u32,
-        readings: &FieldReadings,
-        held: &[u8],
-    ) -> ArrayString<TEXT_SIZE>
+    fn entry(config: &Config, before: u32, readings: &FieldReadings, held: &[u8]) -> Text
         requires few { before < 2 ^ 32 - 1 }
         requires held { IsTrue KEEPS → length held.now ≡ 3 * line_bytes config.now.system }
         ensures { (rows : FieldRows) → readings.now ≡ readings_of config.now rows
@@ -52,21 +50,18 @@ pub(crate) trait Kind {
             → result.bytes ≡ joined_entry_of kind config.now before rows };
 
     /// The tail after this number of whole fields and this number of bytes past them.
-    fn tail(fields: u32, rest: u32) -> ArrayString<TEXT_SIZE>
+    fn tail(fields: u32, rest: u32) -> Text
         requires { fields < 2 ^ 32 - 1 }
         ensures { result.bytes ≡ kind.tail fields rest };
 }
 
 /// Writes a text.
 pub(crate) fn put<W: Write>(outlet: &mut Outlet<W>, text: &str) -> Result<(), RunFault>
-    requires written { written_of outlet.old ≤ 2 ^ 62 }
-    requires failures { (failures_of (counted_of outlet.old)).all ≤ 2 ^ 62 }
+    requires counts { CountedUpTo (2 ^ 62) outlet.old }
     requires few { length text.now ≤ 2 ^ 56 }
-    ensures same { IsSameDevice (counted_of outlet.old) (counted_of outlet.new) }
+    ensures serves { Serves outlet.old outlet.new result }
     ensures puts { Puts W.contents outlet.old outlet.new text.now }
     ensures ok { OnOk result (written_of outlet.new ≡ written_of outlet.old + length text.now) }
-    ensures no_error { OnOk result (NoError (counted_of outlet.old) (counted_of outlet.new)) }
-    ensures failed { OnErr result (HasCause (counted_of outlet.old) (counted_of outlet.new)) }
     ensures short { OnErr result (written_of outlet.new < written_of outlet.old + length text.now) }
     ensures fault { IfErr result (λ e. e ≡ RunFault.Write (written_of outlet.new)) }
 {
@@ -85,8 +80,7 @@ pub(crate) fn end<K: Kind, W: Write>(
     rest: u32,
     looked: u64,
 ) -> Result<Summary, RunFault>
-    requires written { written_of outlet.old ≤ 2 ^ 62 }
-    requires failures { (failures_of (counted_of outlet.old)).all ≤ 2 ^ 62 }
+    requires counts { CountedUpTo (2 ^ 62) outlet.old }
     requires fields { fields ≤ most_fields }
     ensures same { IsSameDevice (counted_of outlet.old) (counted_of outlet.new) }
     ensures tail { PutsTail K.kind W.contents outlet.old outlet.new fields rest looked result }

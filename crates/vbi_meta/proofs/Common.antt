@@ -27,9 +27,9 @@ pub use Rattle.vbi_field.proofs.OneRecoveredDocument.{is_one}
 pub use Rattle.vbi_field.specs.CodeTexts.{Blank, Change, Hold, Outcome, Unfinished, Word, cause_text_of}
 pub use Rattle.vbi_field.specs.ConfigView.{ConfigView, Ntsc, Pal, System, field_bytes, height_of, name_of, width_of}
 pub use Rattle.vbi_field.specs.Document.{value_of}
-pub use Rattle.vbi_field.specs.Recovered.{FieldRecovered, Near, cause_line, cause_lines, hundredths}
-pub use Rattle.vbi_field.specs.Recovered.{recovered_record_of, recovered_without, word_or_zero}
-pub use Rattle.vbi_field.specs.Shown.{as_readings, joined_rows, reading_as}
+pub use Rattle.vbi_field.specs.RecoveredDocument.{FieldRecovered, Near, cause_line, cause_lines, hundredths}
+pub use Rattle.vbi_field.specs.RecoveredDocument.{recovered_record_of, recovered_without, word_or_zero}
+pub use Rattle.vbi_field.specs.RecoveredRows.{as_readings, joined_rows, reading_as}
 pub use Rattle.vbi_field.specs.Stream.{Reading, fields_of, line_at, reading_at, readings_at, rest_of, row_levels}
 pub use Rattle.vbi_field.specs.Stream.{rows_at, rows_in}
 pub use Rattle.vbi_field.specs.Texts.{document, recovered_document, whole_text}

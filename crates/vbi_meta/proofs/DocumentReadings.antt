@@ -14,7 +14,7 @@ use Rattle.vbi_words.specs.Readings.{Reads}
 use Rattle.vbi_line.proofs.OneReading.{only_reading}
 use Rattle.vbi_field.proofs.OneRecoveredDocument.{only_one}
 use Rattle.vbi_field.specs.Texts.{RowReads, FieldRecovers}
-use Rattle.vbi_field.specs.Recovered.{recovered_of}
+use Rattle.vbi_field.specs.RecoveredDocument.{recovered_of}
 use Rattle.vbi_meta.specs.ReadBack.{HasReading, ReadsWord, HasReadings, ReadsBack, count_in, HasNearest, LinePlace}
 use Rattle.vbi_meta.specs.ReadBack.{HasField, ShowsWord, HasRecovered, RecoversBack, RuleSays, HasSaid, FollowsRule}
 use Rattle.vbi_meta.specs.ReadBack.{FollowsLines}

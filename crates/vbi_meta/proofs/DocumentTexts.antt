@@ -10,7 +10,7 @@ use Rattle.json.specs.Print.{escape_byte}
 use Rattle.json.specs.Spaced.{print_spaced}
 use Rattle.json.specs.Token.{begin_object, begin_array, key, number}
 use Rattle.vbi_field.specs.Document.{head_of, parameters_of, tail_of}
-use Rattle.vbi_field.specs.Recovered.{recovered_head_of}
+use Rattle.vbi_field.specs.RecoveredDocument.{recovered_head_of}
 use Rattle.vbi_meta.proofs.RecordTexts.{Pieces, plain, gapped, count_json, quoted_then}
 
 -- ---- tokens under gaps

@@ -6,7 +6,7 @@ use Rattle.vbi_meta.proofs.Common.{as_readings, joined_rows}
 use Rattle.vbi_words.specs.Readings.{IsReading}
 use Rattle.vbi_near.specs.Candidates.{row_of, marks_at}
 use Rattle.vbi_near.specs.Recovery.{AreSeen, are_open, stands_by, stands_of, row_at, recovered_of, field_line}
-use Rattle.vbi_field.specs.Recovered.{RowsRecover}
+use Rattle.vbi_field.specs.RecoveredDocument.{RowsRecover}
 use Rattle.vbi_field.specs.Stream.{FieldRows}
 use Rattle.vbi_meta.proofs.RecoveredLines.{SayWords, AreWords, near_few, of_both, alone_words, by_words, either}
 use Rattle.vbi_meta.proofs.RecoveredLines.{line_shown}

@@ -7,7 +7,7 @@ use Rattle.json.specs.Json as json
 use Rattle.json.specs.Print.{escape_byte}
 use Rattle.json.specs.Spaced.{print_spaced}
 use Rattle.json.specs.Token.{end_object}
-use Rattle.vbi_field.specs.Recovered.{near_text_of, nears_text_of}
+use Rattle.vbi_field.specs.RecoveredDocument.{near_text_of, nears_text_of}
 use Rattle.vbi_meta.proofs.RecordTexts.{Pieces, plain, count_json, record_json, seven, IsLast}
 
 -- ---- the trees

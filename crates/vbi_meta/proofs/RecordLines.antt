@@ -5,7 +5,7 @@ use Rattle.vbi_meta.proofs.Common.{recovered_record_of, recovered_without, as_re
 use Rattle.vbi_meta.proofs.Common.{IsPrinted}
 use Rattle.std.specs.Prelude.{All}
 use Rattle.vbi_field.specs.Document.{lines_of}
-use Rattle.vbi_field.specs.Recovered.{near_text_of, nears_text_of, record_with}
+use Rattle.vbi_field.specs.RecoveredDocument.{near_text_of, nears_text_of, record_with}
 use Rattle.vbi_meta.proofs.FieldWrites.{AreShort, is_written}
 use Rattle.vbi_meta.proofs.PrintedBytes.{Printed, then, known, count}
 use Rattle.vbi_meta.proofs.RecordTexts.{LineList, list_of, word_list, cause_list, pass_list}

@@ -7,7 +7,7 @@ use Rattle.json.specs.Json as json
 use Rattle.json.specs.Print.{escape_byte}
 use Rattle.json.specs.Spaced.{print_spaced}
 use Rattle.vbi_field.specs.Document.{record_of, lines_of}
-use Rattle.vbi_field.specs.Recovered.{record_with}
+use Rattle.vbi_field.specs.RecoveredDocument.{record_with}
 use Rattle.vbi_meta.proofs.ShownLines.{AreShown}
 
 -- ---- tokens and gaps

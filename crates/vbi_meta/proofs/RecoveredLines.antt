@@ -26,7 +26,7 @@ use Rattle.vbi_near.specs.WordRule.{first_said, said_in}
 use Rattle.vbi_near.proofs.Chosen.{code-place}
 use Rattle.vbi_near.proofs.Most.{most_of-fits}
 use Rattle.vbi_near.proofs.OneSeen.{open_asked}
-use Rattle.vbi_field.specs.Shown.{IsNearRow}
+use Rattle.vbi_field.specs.RecoveredRows.{IsNearRow}
 use Rattle.vbi_meta.proofs.ShownLines.{IsShown, IsShort, samples_below, word_shown, outcome_shown, reading_shown}
 use Rattle.vbi_meta.proofs.ValueReads.{IsFew}
 

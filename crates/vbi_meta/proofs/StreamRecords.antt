@@ -6,7 +6,7 @@ use Rattle.vbi_meta.proofs.Common.{as_readings, Reading, readings_at, rows_at, f
 use Rattle.json.specs.Json as json
 use Rattle.json.specs.Spaced.{print_spaced}
 use Rattle.vbi_field.specs.Document.{record_of}
-use Rattle.vbi_field.specs.Recovered.{nears_text_of, recovered_of}
+use Rattle.vbi_field.specs.RecoveredDocument.{nears_text_of, recovered_of}
 use Rattle.vbi_meta.specs.DocumentValue.{IsConfig}
 use Rattle.vbi_meta.proofs.DocumentTexts.{Records}
 use Rattle.vbi_meta.proofs.FieldWrites.{AreShort, is_written}

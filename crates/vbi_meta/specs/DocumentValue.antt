@@ -12,8 +12,8 @@ use Rattle.vbi_field.specs.declared.readings.FieldReadings.{FieldReadings}
 use Rattle.vbi_field.specs.ConfigView.{width_of, height_of, name_of, most_fields, ConfigView, allowed_bytes}
 use Rattle.vbi_field.specs.CodeTexts.{cause_text_of}
 use Rattle.vbi_field.specs.Document.{value_of}
-use Rattle.vbi_field.specs.Recovered.{Near, FieldRecovered, recovered_of, cause_lines, word_or_zero, hundredths}
-use Rattle.vbi_field.specs.Shown.{as_readings}
+use Rattle.vbi_field.specs.RecoveredDocument.{Near, FieldRecovered, recovered_of, cause_lines, word_or_zero, hundredths}
+use Rattle.vbi_field.specs.RecoveredRows.{as_readings}
 
 -- ---- which streams
 

@@ -11,8 +11,8 @@ use Rattle.vbi_field.specs.Stream.{Reading, fields_of, rest_of, line_at}
 use Rattle.vbi_field.specs.Texts.{RowReads, FieldRecovers}
 use Rattle.vbi_field.specs.ConfigView.{ConfigView}
 use Rattle.vbi_field.specs.Document.{value_of}
-use Rattle.vbi_field.specs.Recovered.{Near, Recovered, FieldRecovered, cause_line, word_or_zero, hundredths}
-use Rattle.vbi_field.specs.Shown.{as_readings}
+use Rattle.vbi_field.specs.RecoveredDocument.{Near, Recovered, FieldRecovered, cause_line, word_or_zero, hundredths}
+use Rattle.vbi_field.specs.RecoveredRows.{as_readings}
 use Rattle.vbi_near.specs.Recovery.{IsRecovered, none_erased}
 use Rattle.vbi_meta.specs.DocumentValue.{document_value, recovered_value}
 use Rattle.vbi_meta.specs.Settings.{whole, member_of}

@@ -12,7 +12,7 @@ ghost use Rattle.vbi_field.specs.declared.outlet.Outlet.{Outlet};
 ghost use Rattle.vbi_field.specs.Ran.{over};
 ghost use Rattle.vbi_field.specs.Extracts.{ExtractsAll, Runs};
 ghost use Rattle.vbi_field.specs.Outlet as outlets;
-ghost use Rattle.vbi_field.specs.Recovered.{recovered_record_of, recovered_without};
+ghost use Rattle.vbi_field.specs.RecoveredDocument.{recovered_record_of, recovered_without};
 ghost use Rattle.vbi_field.specs.Stream.{rows_in};
 ghost use Rattle.vbi_field.specs.Texts.{document, recovered_document, whole_text};
 ghost use Rattle.vbi_meta.specs.ReadBack.{IsPlainText, IsPrinted, IsReadAs, HasReadings, HasRecovered, ReadsBack};

@@ -15,26 +15,26 @@ loop-done-preserved g c =
     let e = c.in_ok-put_field-in-Row.ensures in
     row_drawn c.loop-done.invariant c.next_row.new.self c.in-Row.words c.in-Row.ensures
     (omega (arith, c.max_fields-done-end.ensures.value)) c.put_field.new.outlet
-    c.put_field.new.line e.ok e.no_error e.same e.most e.black
+    c.put_field.new.line e.ok e.serves.no_error e.serves.same e.most e.black
 
 pub returns-in_err-put_field-in-Row-clause-run : goal.returns-in_err-put_field-in-Row-clause-run
 returns-in_err-put_field-in-Row-clause-run g c =
     let e = c.in_err-put_field-in-Row.ensures in
     row_failed c.loop-done.invariant c.next_row.new.self c.in-Row.words c.in-Row.ensures
-    (omega (arith, c.max_fields-done-end.ensures.value)) c.put_field.new.outlet _ e.part e.failed (search rules)
+    (omega (arith, c.max_fields-done-end.ensures.value)) c.put_field.new.outlet _ e.part e.serves.failed (search rules)
 
 pub returns-in_err-put_field-in-LastRow-clause-run : goal.returns-in_err-put_field-in-LastRow-clause-run
 returns-in_err-put_field-in-LastRow-clause-run g c =
     let e = c.in_err-put_field-in-LastRow.ensures in
     last_row_failed c.loop-done.invariant c.next_row.new.self c.in-LastRow.words c.in-LastRow.ensures
-    (omega (arith, c.max_fields-done-end.ensures.value)) c.put_field-in-LastRow.new.outlet _ e.part e.failed
+    (omega (arith, c.max_fields-done-end.ensures.value)) c.put_field-in-LastRow.new.outlet _ e.part e.serves.failed
     (search rules)
 
 pub returns-in-LastRow-clause-run : goal.returns-in-LastRow-clause-run
 returns-in-LastRow-clause-run g c =
     let e = c.in_ok-put_field-in-LastRow.ensures in
     last_row_drawn c.loop-done.invariant c.next_row.new.self c.in-LastRow.words c.in-LastRow.ensures
-    (omega (arith, c.max_fields-done-end.ensures.value)) c.put_field-in-LastRow.new.outlet e.ok e.no_error
+    (omega (arith, c.max_fields-done-end.ensures.value)) c.put_field-in-LastRow.new.outlet e.ok e.serves.no_error
 
 pub returns-in-Malformed-clause-run : goal.returns-in-Malformed-clause-run
 returns-in-Malformed-clause-run g c =

@@ -28,7 +28,7 @@ pub loop-row-preserved : goal.loop-row-preserved
 loop-row-preserved g c =
     Putting-more c.loop-row.invariant c.next_line.ensures c.put_all.ensures.puts
     c.in-Ok.ensures.ok
-    c.in-Ok.ensures.no_error c.put_all.ensures.same
+    c.in-Ok.ensures.serves.no_error c.put_all.ensures.serves.same
 
 pub returns : goal.returns
 returns g c =
@@ -37,12 +37,10 @@ returns g c =
     let v = c.loop-row.invariant in
     record {
       black = whole.1;
-      same = v.same;
+      serves = record { same = v.same; no_error = v.errors; failed = tt };
       ok = whole.0;
       part = tt;
       least = v.least;
       most = whole.2;
-      no_error = v.errors;
-      failed = tt;
       fault = tt;
     }

@@ -3,7 +3,7 @@ use Rattle.std.specs.Fmt.{digits}
 use Rattle.vbi_words.specs.Codes.{code_of}
 use Rattle.vbi_words.specs.Formats.{format_of_lines}
 use Rattle.vbi_field.specs.Document.{lines_of}
-use Rattle.vbi_field.specs.Recovered.{near_text_of, nears_text_of, record_with}
+use Rattle.vbi_field.specs.RecoveredDocument.{near_text_of, nears_text_of, record_with}
 use Rattle.vbi_field.specs.Report.{field_lines_of, marked_of, shown_of}
 use Rattle.vbi_field.proofs.laws.worked_recovered.Goals as goal
 

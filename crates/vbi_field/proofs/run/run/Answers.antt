@@ -15,7 +15,7 @@ loop-row-init g c = record {
   pulled = start _ g.R.Read.remaining _ c.args.config.now c.args.intake.now c.args.outlet.now c.put.new.outlet
       c.new-progress.result c.as_str.result.now c.requires.intake c.requires.outlet
       (c.as_str.ensures.value ∙ c.head.ensures) c.as_str.ensures.fits c.in_ok-put.ensures.puts
-      c.in_ok-put.ensures.ok c.in_ok-put.ensures.no_error c.in_ok-put.ensures.same c.new-progress.ensures.fields
+      c.in_ok-put.ensures.ok c.in_ok-put.ensures.serves.no_error c.in_ok-put.ensures.serves.same c.new-progress.ensures.fields
       c.new-progress.ensures.row c.new-progress.ensures.readings;
   long = refl;
   holds = λ keeps. holds_none c.args.config.now _ _ _ _ c.new-progress.ensures.row;
@@ -24,7 +24,7 @@ loop-row-init g c = record {
 pub returns-in_err-put-clause-run : goal.returns-in_err-put-clause-run
 returns-in_err-put-clause-run g c =
     head_fault _ g.R.Read.remaining _ c.args.config.now c.args.intake.now _ _ c.as_str.result.now c.requires.intake
-    c.requires.outlet (c.as_str.ensures.value ∙ c.head.ensures) c.in_err-put.ensures.puts c.in_err-put.ensures.failed
+    c.requires.outlet (c.as_str.ensures.value ∙ c.head.ensures) c.in_err-put.ensures.puts c.in_err-put.ensures.serves.failed
     c.in_err-put.ensures.short c.from_residual.result (search rules)
 
 pub loop-row-preserved : goal.loop-row-preserved
@@ -45,7 +45,7 @@ loop-row-preserved g c =
     let e = c.in_ok-add_row-in-Full.ensures in
     let added = e.adds v.z t.bytes v.at came (λ keeps ends. kept_field v t more keeps ends) in
     let after = step v (search rules) c.levels.ensures t reads reader same
-    c.add_row.new.outlet c.add_row.new.self e.next e.rises added e.no_error e.same last in
+    c.add_row.new.outlet c.add_row.new.self e.next e.rises added e.serves.no_error e.serves.same last in
     record {
       pulled = after.0;
       long = c.keep_row.ensures.long ∙ w.long;
@@ -76,7 +76,7 @@ returns-in_err-add_row-in-Full-clause-run g c =
     holds_kept v t came c.loop-row.invariant.holds c.keep_row.ensures.holds in
     let added = e.adds v.z t.bytes v.at came (λ keeps ends. kept_field v t more keeps ends) in
     entry_fault v (search rules) c.levels.ensures t reads reader same c.add_row.new.outlet c.add_row.new.self e.next
-    e.field added.0 added.1 e.failed last c.from_residual-in_err-add_row-in-Full.result (search rules)
+    e.field added.0 added.1 e.serves.failed last c.from_residual-in_err-add_row-in-Full.result (search rules)
 
 pub returns-in-Ended-clause-run : goal.returns-in-Ended-clause-run
 returns-in-Ended-clause-run g c =

@@ -2,7 +2,7 @@ use Rattle.vbi_field.proofs.Common.{ℕ, ◌+◌, ap, ◌∙◌, sym, refl, ◌=
 use Rattle.vbi_field.proofs.Common.{readings_of}
 use Rattle.std.proofs.Common.{Bool, List}
 use Rattle.vbi_field.specs.Report.{recovered_entry_of}
-use Rattle.vbi_field.specs.Shown.{recovery_of}
+use Rattle.vbi_field.specs.RecoveredRows.{recovery_of}
 use Rattle.vbi_field.proofs.Entries.{no_joint}
 use Rattle.vbi_field.proofs.HeldRows.{joined_in}
 use Rattle.vbi_field.proofs.report.RecoveredReportKind.entry.Goals as goal
