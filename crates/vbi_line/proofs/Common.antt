@@ -1,8 +1,8 @@
 -- The names that more than one proof cites, each passed on from the module that defines it.
-pub use Rattle.std.proofs.Common.{[], ◌%◌, ◌*◌, ◌++◌, ◌+◌, ◌-◌, ◌/◌, ◌<◌, ◌^◌, ◌∙◌, ◌∷◌, ◌≡◌, ◌≤◌, ◌⊎◌, Bool, None}
-pub use Rattle.std.proofs.Common.{Some, add-zero, ap, append_assoc, arith, bit_or, cond, drop, false, get_or, inl, inr}
-pub use Rattle.std.proofs.Common.{length, lit<, map, max, nat_eq, nat_lt, refl, slice_index, subst, suc, sym, true}
-pub use Rattle.std.proofs.Common.{zero, ℕ}
+pub use Rattle.std.proofs.Common.{[], ◌%◌, ◌*◌, ◌++◌, ◌+◌, ◌-◌, ◌/◌, ◌<◌, ◌^◌, ◌∙◌, ◌∷◌, ◌≡◌, ◌≤◌, ◌⊎◌, Bool, List}
+pub use Rattle.std.proofs.Common.{None, Option, Some, add-zero, ap, append_assoc, arith, bit_or, cond, drop, false}
+pub use Rattle.std.proofs.Common.{get_or, inl, inr, length, length-append, lit<, map, max, nat_eq, nat_lt, refl, rules}
+pub use Rattle.std.proofs.Common.{slice_index, subst, suc, sym, take, true, zero, ℕ}
 pub use Rattle.std.proofs.Math.Nat.{max-zero, mod-eq_of_lt, mul-lt-mul_of_pos_right, pow-le-pow_right, zero-max}
 pub use Rattle.std.proofs.lemmas.Bool.{cases_eq, cases_lt}
 pub use Rattle.std.proofs.lemmas.List.{append-nil, drop-drop, get_or-map, length-take-le, take_at}

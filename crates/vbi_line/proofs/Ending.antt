@@ -1,7 +1,6 @@
 use Rattle.vbi_line.proofs.Common.{arith, ◌≡◌, ℕ, ◌≤◌, Bool, true, false, length, None, sym, ap, subst, ◌∙◌, Some}
 use Rattle.vbi_line.proofs.Common.{System, Word, Blank, Unfinished, IsWord, IsOutcome, State, dead, IsFit, ending_of}
-use Rattle.vbi_line.proofs.Common.{state_after, state_at, fit_after, word_outcome, Decoder, state_of}
-use Rattle.std.proofs.Common.{List}
+use Rattle.vbi_line.proofs.Common.{state_after, state_at, fit_after, word_outcome, Decoder, state_of, List}
 -- The outcome that a decoder gives at the end of a line.
 use Rattle.std.proofs.lemmas.List.{take_all}
 use Rattle.vbi_words.specs.Words.{lowest_bits}

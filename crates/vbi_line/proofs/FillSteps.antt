@@ -1,6 +1,5 @@
 -- What holds between the reads of a call of `fill_line`.
-use Rattle.std.proofs.Common.{◌≡◌, ℕ, ◌+◌, ◌*◌, ◌<◌, ◌≤◌, List, ◌++◌, length}
-use Rattle.std.specs.Prelude.{Option}
+use Rattle.vbi_line.proofs.Common.{◌≡◌, ℕ, ◌+◌, ◌*◌, ◌<◌, ◌≤◌, List, ◌++◌, length, Option}
 use Rattle.std.specs.Io.KnownBytes.{Consumes}
 use Rattle.vbi_words.specs.Geometry.{line_bytes}
 use Rattle.vbi_line.specs.Line.{KeepsPasses}

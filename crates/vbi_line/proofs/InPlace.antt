@@ -3,8 +3,7 @@ use Rattle.vbi_line.proofs.Common.{◌≡◌, ℕ, ◌+◌, ◌-◌, ◌*◌, �
 use Rattle.vbi_line.proofs.Common.{length, get_or, ap, sym, ◌∙◌, arith, lit<, mod-eq_of_lt, mul-lt-mul_of_pos_right}
 use Rattle.vbi_line.proofs.Common.{pow-le-pow_right, cases_lt, get_or-map, get_or-map-range_with_len}
 use Rattle.vbi_line.proofs.Common.{length-map-range_with_len, pow-add, pow_pos, bit_at_above, Slicing, is_high_of}
-use Rattle.vbi_line.proofs.Common.{level_at, sample_at, level_of_bit, levels_in, TellsAbove}
-use Rattle.std.proofs.Common.{List, length-append}
+use Rattle.vbi_line.proofs.Common.{level_at, sample_at, level_of_bit, levels_in, TellsAbove, List, length-append}
 use Rattle.std.proofs.Math.Nat.{div-lt_iff_lt-mul}
 use Rattle.std.proofs.lemmas.Nat.{or_lt}
 use Rattle.vbi_line.proofs.Packs.{bit_after, joined, joined_below, joined_inside}

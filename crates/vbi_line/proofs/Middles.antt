@@ -4,8 +4,7 @@ use Rattle.vbi_line.proofs.Common.{inl, inr, length, refl, sym, ap, subst, â—Œâˆ
 use Rattle.vbi_line.proofs.Common.{half_max, level_at, IsOutcome, IsWord, sizes_of, half_max-le, State, lead, dead}
 use Rattle.vbi_line.proofs.Common.{grown, length_of, next_of, after_of, limit_of, ending_of, IsFit, state_after}
 use Rattle.vbi_line.proofs.Common.{state_at, after_append, fit_after, length-lowest_bits, word_outcome, level_of_bit}
-use Rattle.vbi_line.proofs.Common.{IsRun, IsBitRun, IsHalf, ReachesMiddle, IsMiddle}
-use Rattle.std.proofs.Common.{List}
+use Rattle.vbi_line.proofs.Common.{IsRun, IsBitRun, IsHalf, ReachesMiddle, IsMiddle, List}
 use Rattle.std.proofs.Math.ListN.{replicate, take}
 use Rattle.vbi_words.specs.Words.{lowest_bits}
 use Rattle.vbi_words.proofs.Machine.{first, second, tail, pick, limit_cases}

@@ -1,6 +1,5 @@
 use Rattle.vbi_line.proofs.Common.{arith, ◌≡◌, ℕ, Bool, inl, inr, refl, sym, ◌∙◌, ap, subst, System, Outcome, Word}
-use Rattle.vbi_line.proofs.Common.{Blank, Unfinished, Change, Hold, ShowsNone, IsOutcome, smooth_of}
-use Rattle.std.proofs.Common.{List}
+use Rattle.vbi_line.proofs.Common.{Blank, Unfinished, Change, Hold, ShowsNone, IsOutcome, smooth_of, List}
 -- A list of levels has one outcome and one reading.
 use Rattle.vbi_words.specs.declared.outcome.Reading.{Reading}
 use Rattle.vbi_words.specs.Outcomes.{AllLow}

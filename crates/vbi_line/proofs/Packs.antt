@@ -4,8 +4,7 @@ use Rattle.vbi_line.proofs.Common.{length, max, nat_eq, slice_index, refl, sym, 
 use Rattle.vbi_line.proofs.Common.{bit_at, mod-eq_of_lt, mul-lt-mul_of_pos_right, pow-le-pow_right, max-zero, zero-max}
 use Rattle.vbi_line.proofs.Common.{pow-add, pow_pos, cases_eq, length-map-range_with_len, get_or-map-range_with_len}
 use Rattle.vbi_line.proofs.Common.{bit_at-lt, bit_at-zero, bit_at_or, bit_at_above, bit_at_cat_low, bit_at_cat_high}
-use Rattle.vbi_line.proofs.Common.{level_at, level_of_bit, levels_in, packed_level, unpacked}
-use Rattle.std.proofs.Common.{List}
+use Rattle.vbi_line.proofs.Common.{level_at, level_of_bit, levels_in, packed_level, unpacked, List}
 use Rattle.std.specs.List.{range_with_len}
 use Rattle.std.proofs.Math.ListN.{set}
 use Rattle.std.proofs.Math.Nat.{div-div-eq-div-mul}

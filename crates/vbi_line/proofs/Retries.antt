@@ -1,7 +1,6 @@
 -- What holds while a device is asked again since it was interrupted.
-use Rattle.vbi_line.proofs.Common.{◌≡◌, ℕ, ◌+◌, device_of, failures_of, IsSameDevice, Counted}
+use Rattle.vbi_line.proofs.Common.{◌≡◌, ℕ, ◌+◌, device_of, failures_of, IsSameDevice, Counted, List, Option}
 use Rattle.std.specs.Io.KnownBytes.{Keeps}
-use Rattle.std.specs.Prelude.{List, Option}
 
 -- all calls so far were interrupted, and moved no byte; `known` are the device's bytes, where it tells them
 pub record Interrupted {D : Type 0} (known : D → Option (List ℕ)) (old now : Counted D) (calls : ℕ) : Type 0 where

@@ -3,8 +3,7 @@
 use Rattle.vbi_line.proofs.Common.{◌≡◌, ℕ, ◌+◌, ◌-◌, ◌≤◌, [], ◌∷◌, ◌++◌, length, drop, refl, sym, ap, ◌∙◌, arith}
 use Rattle.vbi_line.proofs.Common.{length-take-le, take_at, drop-drop, Ura, SProp, ent, sep, Fml, ftrue, Logic, sem}
 use Rattle.vbi_line.proofs.Common.{cells, ‵, ◌⊛◌, raw, ◌$◌, ◌∵◌, !, qed, move, done, rewrite, split, fsplit, fjoin}
-use Rattle.vbi_line.proofs.Common.{use1, use2, Array, u8, mem, nothing, LineBytes, with_part}
-use Rattle.std.proofs.Common.{List, take}
+use Rattle.vbi_line.proofs.Common.{use1, use2, Array, u8, mem, nothing, LineBytes, with_part, List, take}
 use Rattle.std.proofs.lemmas.List.{take-append-drop, length-drop, length-append}
 use mir.Syntax.{Ty, ty_array, ty_int, ty_struct, w8}
 use base.Logic.{guard}

@@ -2,8 +2,7 @@
 use Rattle.vbi_line.proofs.Common.{◌≡◌, ℕ, ◌+◌, ◌-◌, ◌*◌, ◌/◌, ◌%◌, ◌^◌, ◌<◌, ◌≤◌, false, max, nat_eq, slice_index, sym}
 use Rattle.vbi_line.proofs.Common.{ap, ◌∙◌, arith, add-zero, bit_or, bit_at, max-zero, zero-max, pow_pos, cases_lt}
 use Rattle.vbi_line.proofs.Common.{bit_at-zero, bit_at_or, bit_at_above, bit_at_cat_low, bit_at_cat_high, level_at}
-use Rattle.vbi_line.proofs.Common.{level_of_bit, packed_level, unpacked}
-use Rattle.std.proofs.Common.{List}
+use Rattle.vbi_line.proofs.Common.{level_of_bit, packed_level, unpacked, List}
 use Rattle.std.proofs.lemmas.Nat.{div-add-mod'}
 use Rattle.std.proofs.lemmas.List.{get_or_past}
 use Rattle.vbi_line.proofs.Packs.{bit_after, length-unpacked, level_unpacked}

@@ -1,8 +1,7 @@
 -- Two lists of one length that differ in few columns show the same word.
 use Rattle.vbi_words.proofs.Common.{◌≡◌, ℕ, suc, zero, ◌≤◌, ◌<◌, ◌+◌, ◌-◌, Bool, true, false, List, [], ◌∷◌, ◌++◌, ◌⊎◌}
 use Rattle.vbi_words.proofs.Common.{inl, inr, refl, sym, ap, subst, ◌∙◌, arith, replicate, cases_order, not, System}
-use Rattle.vbi_words.proofs.Common.{Ntsc, Pal, half_min, half_max, Shows, differs, differences, least_distance}
-use Rattle.std.proofs.Common.{length}
+use Rattle.vbi_words.proofs.Common.{Ntsc, Pal, half_min, half_max, Shows, differs, differences, least_distance, length}
 use Rattle.std.proofs.lemmas.List.{length-replicate, length-append}
 use Rattle.vbi_words.proofs.Bits
 use Rattle.vbi_words.proofs.Shown.{word_bits, draws_from_shows}

@@ -2,8 +2,7 @@
 use Rattle.vbi_words.proofs.Common.{get_or, ◌≡◌, ℕ, suc, zero, ◌≤◌, ◌<◌, ◌+◌, ◌-◌, ◌*◌, ◌/◌, ◌%◌, ◌^◌, Bool, true}
 use Rattle.vbi_words.proofs.Common.{false, eqb, List, [], ◌∷◌, ◌++◌, ◌⊎◌, refl, ap, sym, ◌∙◌, subst, arith}
 use Rattle.vbi_words.proofs.Common.{append_assoc, zero-add, add-one, add-zero, eqb-true, cases_lt, append-nil, not}
-use Rattle.vbi_words.proofs.Common.{flat_map, cell_of}
-use Rattle.std.proofs.Common.{length}
+use Rattle.vbi_words.proofs.Common.{flat_map, cell_of, length}
 use Rattle.std.proofs.lemmas.Nat.{pow-add}
 use Rattle.std.proofs.lemmas.Nat.Bits.{bit_at-suc, bit_at_above, same_from_bits_below}
 use Rattle.std.specs.Int.{bit_at}

@@ -3,8 +3,7 @@ use Rattle.vbi_words.proofs.Common.{◌≡◌, ℕ, suc, zero, ◌≤◌, ◌<�
 use Rattle.vbi_words.proofs.Common.{get_or, refl, sym, ap, subst, ◌∙◌, arith, cases_lt, System, Ntsc, Pal, Outcome}
 use Rattle.vbi_words.proofs.Common.{Word, Blank, Unfinished, Change, Hold, ShowsAmply, IsBlurred, ReadsWord}
 use Rattle.vbi_words.proofs.Common.{HasGlitches, differs, differences, least_distance, AllLow, IsOutcome, level_at}
-use Rattle.vbi_words.proofs.Common.{IsReading, Shows, ShowsNone}
-use Rattle.std.proofs.Common.{length}
+use Rattle.vbi_words.proofs.Common.{IsReading, Shows, ShowsNone, length}
 use Rattle.vbi_words.specs.Smooth.{smooth_of}
 use Rattle.vbi_words.proofs.Apart.{same_word}
 use Rattle.vbi_words.proofs.Found.{found}

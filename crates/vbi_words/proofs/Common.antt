@@ -1,7 +1,8 @@
 -- The names that more than one proof cites, each passed on from the module that defines it.
-pub use Rattle.std.proofs.Common.{[], ◌%◌, ◌*◌, ◌++◌, ◌+◌, ◌-◌, ◌/◌, ◌<◌, ◌^◌, ◌↔◌, ◌∙◌, ◌∷◌, ◌≡◌, ◌≤◌, ◌⊎◌, Any, Bool}
-pub use Rattle.std.proofs.Common.{List, add-one, add-zero, ap, append_assoc, arith, cond, drop, eqb, false, get_or, inl}
-pub use Rattle.std.proofs.Common.{inr, leb, lit<, lit≤, refl, rules, subst, suc, sym, take, true, zero, zero-add, ℕ}
+pub use Rattle.std.proofs.Common.{[], ◌%◌, ◌&&◌, ◌*◌, ◌++◌, ◌+◌, ◌-◌, ◌/◌, ◌<◌, ◌^◌, ◌↔◌, ◌∙◌, ◌∷◌, ◌≡◌, ◌≤◌, ◌⊎◌, Any}
+pub use Rattle.std.proofs.Common.{Bool, List, None, Option, Some, add-one, add-zero, ap, append_assoc, arith, cond}
+pub use Rattle.std.proofs.Common.{drop, eqb, false, get_or, inl, inr, leb, length, length-append, lit<, lit≤, ltb, refl}
+pub use Rattle.std.proofs.Common.{rules, subst, suc, sym, take, true, zero, zero-add, ℕ}
 pub use Rattle.std.proofs.Math.ListN.{replicate, take-append-drop}
 pub use Rattle.std.proofs.Math.Seq.{drop-cons}
 pub use Rattle.std.proofs.lemmas.Bool.{and_parts, cases_lt, cases_order, cond_both, eqb-true, le-leb, leb-true, lt-ltb}

@@ -2,9 +2,8 @@
 use Rattle.vbi_words.proofs.Common.{◌≡◌, ℕ, ◌+◌, ◌*◌, ◌/◌, ◌%◌, ◌<◌, List, [], ◌∷◌, ◌++◌, take, refl, sym, ap, subst}
 use Rattle.vbi_words.proofs.Common.{◌∙◌, arith, append_assoc, inl, zero-add, flat_map, range_with_len, append-nil}
 use Rattle.vbi_words.proofs.Common.{take_all, length-map-range_with_len, System, width_of, line_bytes, Slicing}
-use Rattle.vbi_words.proofs.Common.{levels_of, IsReading}
-use Rattle.std.proofs.Common.{length, set, map}
-use Rattle.std.specs.Prelude.{Option, Some, None}
+use Rattle.vbi_words.proofs.Common.{levels_of, IsReading, length, Option, Some, None}
+use Rattle.std.proofs.Common.{set, map}
 use Rattle.std.proofs.lemmas.List.{take_more_set, length-set}
 use Rattle.std.proofs.lemmas.List.Concat.{flat_map-append}
 use Rattle.std.proofs.lemmas.List.FromFn.{map-range_with_len_more}

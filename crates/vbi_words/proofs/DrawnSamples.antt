@@ -3,9 +3,8 @@ use Rattle.vbi_words.proofs.Common.{◌≡◌, ℕ, ◌+◌, ◌<◌, Bool, true
 use Rattle.vbi_words.proofs.Common.{List, zero-add, list_any, range_with_len, Any-from_list_any, list_any_at}
 use Rattle.vbi_words.proofs.Common.{length-map-range_with_len, get_or-map-range_with_len, ext_get_or, and_parts}
 use Rattle.vbi_words.proofs.Common.{leb-true, ltb-true, le-leb, lt-ltb, System, width_of, Slicing, halves_of, boundary}
-use Rattle.vbi_words.proofs.Common.{IsDrawnHigh, IsDrawnRow}
-use Rattle.std.proofs.Common.{length}
-use Rattle.std.specs.Prelude.{Option, Some, None, ◌&&◌, nat_lt, nat_le}
+use Rattle.vbi_words.proofs.Common.{IsDrawnHigh, IsDrawnRow, length, Option, Some, None, ◌&&◌}
+use Rattle.std.specs.Prelude.{nat_lt, nat_le}
 use Rattle.std.proofs.lemmas.List.FromFn.{length-range_with_len, get_or-range_with_len}
 use Rattle.vbi_words.specs.Drawn.{is_drawn_in, is_drawn_high, drawn_sample_of, drawn_row_of, IsDrawnSample}
 

@@ -3,8 +3,7 @@ use Rattle.vbi_words.proofs.Common.{◌≡◌, ℕ, suc, ◌≤◌, ◌<◌, ◌
 use Rattle.vbi_words.proofs.Common.{inl, inr, get_or, drop, refl, sym, ap, subst, ◌∙◌, arith, add-zero, append_assoc}
 use Rattle.vbi_words.proofs.Common.{replicate, append-nil, drop_all, lt-ltb, flat_map, System, Ntsc, Pal, width_of}
 use Rattle.vbi_words.proofs.Common.{half_min, half_max, Slicing, levels_of, IsWord, halves_of, cell_of, Shows, Spells}
-use Rattle.vbi_words.proofs.Common.{ShowsAmply, AllLow, boundary, IsDrawnHigh, IsDrawnRow}
-use Rattle.std.proofs.Common.{length, Some, None}
+use Rattle.vbi_words.proofs.Common.{ShowsAmply, AllLow, boundary, IsDrawnHigh, IsDrawnRow, length, Some, None}
 use Rattle.std.proofs.lemmas.List.{get_or-map, length-map}
 use Rattle.std.proofs.lemmas.List.Elements.{All-from_get_or}
 use Rattle.std.proofs.lemmas.Bool.{le-ltb}

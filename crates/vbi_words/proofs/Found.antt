@@ -2,8 +2,7 @@
 use Rattle.vbi_words.proofs.Common.{◌≡◌, ℕ, suc, zero, ◌≤◌, ◌+◌, Bool, true, false, eqb, leb, List, ◌⊎◌, inl, inr, refl}
 use Rattle.vbi_words.proofs.Common.{ap, sym, ◌∙◌, subst, arith, add-one, take, take_all, cond_both, cases_order}
 use Rattle.vbi_words.proofs.Common.{eqb-true, and_parts, System, Outcome, Word, Blank, Unfinished, Change, Hold, Viable}
-use Rattle.vbi_words.proofs.Common.{level_at, FirstHopeless, Holds, IsOutcome}
-use Rattle.std.proofs.Common.{Option, Some, None, length}
+use Rattle.vbi_words.proofs.Common.{level_at, FirstHopeless, Holds, IsOutcome, Option, Some, None, length}
 use Rattle.vbi_words.proofs.Machine
 use Rattle.vbi_words.proofs.Machine.{State, lead, first, second, tail, dead, level_of, is_lead}
 use Rattle.vbi_words.proofs.SystemMachine.{IsFit, ending_of, state_after, state_at, fit_after}

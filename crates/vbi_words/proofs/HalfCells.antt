@@ -3,8 +3,7 @@
 use Rattle.vbi_words.proofs.Common.{◌≡◌, ℕ, ◌≤◌, ◌<◌, ◌+◌, ◌-◌, Bool, true, false, List, [], ◌∷◌, ◌++◌, ◌⊎◌, inl, suc}
 use Rattle.vbi_words.proofs.Common.{inr, get_or, drop, refl, sym, ap, ◌∙◌, arith, append_assoc, replicate, drop-cons}
 use Rattle.vbi_words.proofs.Common.{append-nil, drop_all, get_or-drop, get_or_append_left, get_or-append-add}
-use Rattle.vbi_words.proofs.Common.{cases_order, not, Spells, IsBlurred, NoneAlone}
-use Rattle.std.proofs.Common.{length}
+use Rattle.vbi_words.proofs.Common.{cases_order, not, Spells, IsBlurred, NoneAlone, length}
 use Rattle.std.proofs.Math.Seq.{drop-append_seam}
 use Rattle.std.proofs.lemmas.List.{drop-drop, get_or-replicate, get_or_past, length-replicate, length-append}
 use Rattle.vbi_words.proofs.HalfCell

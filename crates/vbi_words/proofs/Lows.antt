@@ -1,8 +1,7 @@
 -- A list of lows alone: smoothed it is as it was, shows no word, and is read as blank.
 use Rattle.vbi_words.proofs.Common.{◌≡◌, ℕ, Bool, false, List, [], ◌∷◌, ◌++◌, refl, sym, ap, subst, ◌∙◌, replicate}
 use Rattle.vbi_words.proofs.Common.{append-nil, recursion_from_All, AllByRecursion, System, Blank, AllLow, IsOutcome}
-use Rattle.vbi_words.proofs.Common.{IsReading, Shows, ShowsNone}
-use Rattle.std.proofs.Common.{length}
+use Rattle.vbi_words.proofs.Common.{IsReading, Shows, ShowsNone, length}
 use Rattle.vbi_words.specs.Smooth.{smooth_of}
 use Rattle.vbi_words.proofs.Cutting
 use Rattle.vbi_words.proofs.Shown.{word_bits, draws_from_shows}

@@ -1,8 +1,7 @@
 -- A row that is blurred at its changes of level, without its columns that stand alone.
 use Rattle.vbi_words.proofs.Common.{◌≡◌, ◌≤◌, ◌+◌, ◌-◌, Bool, false, List, ◌++◌, drop, sym, ap, ◌∙◌, arith, ℕ, refl}
 use Rattle.vbi_words.proofs.Common.{replicate, flat_map, System, Ntsc, Pal, half_min, half_max, IsWord, halves_of}
-use Rattle.vbi_words.proofs.Common.{cell_of, Shows, ShowsAmply, IsBlurred, NoneAlone}
-use Rattle.std.proofs.Common.{length}
+use Rattle.vbi_words.proofs.Common.{cell_of, Shows, ShowsAmply, IsBlurred, NoneAlone, length}
 use Rattle.std.proofs.lemmas.List.{length-append}
 use Rattle.vbi_words.specs.Smooth.{smooth_of}
 use Rattle.vbi_words.proofs.HalfCells.{first, whole_goes}

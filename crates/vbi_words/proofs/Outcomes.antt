@@ -1,8 +1,7 @@
 -- What the machine says of the outcome of a list of levels.
 use Rattle.vbi_words.proofs.Common.{◌≡◌, ℕ, suc, zero, ◌<◌, ◌+◌, ◌-◌, Bool, true, false, List, refl, ap, sym, ◌∙◌}
 use Rattle.vbi_words.proofs.Common.{subst, arith, take, not, System, Word, Blank, Unfinished, Change, Hold, IsWord}
-use Rattle.vbi_words.proofs.Common.{ShowsNone, Viable, level_at, AllLow, FirstHopeless, Holds, IsOutcome}
-use Rattle.std.proofs.Common.{None, length}
+use Rattle.vbi_words.proofs.Common.{ShowsNone, Viable, level_at, AllLow, FirstHopeless, Holds, IsOutcome, None, length}
 use Rattle.std.proofs.lemmas.List.{take-take}
 use Rattle.vbi_words.proofs.Machine.{State, dead, level_of, is_lead}
 use Rattle.vbi_words.proofs.SystemMachine.{ending_of, state_after, state_at, state_next, dead_later}

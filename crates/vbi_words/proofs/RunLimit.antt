@@ -1,8 +1,7 @@
 -- How long a run may become.
 use Rattle.vbi_words.proofs.Common.{◌≡◌, ℕ, suc, zero, ◌≤◌, ◌<◌, ◌+◌, ◌*◌, Bool, true, false, List, [], ◌∷◌, ◌++◌, ◌⊎◌}
 use Rattle.vbi_words.proofs.Common.{◌↔◌, inl, inr, refl, ap, sym, ◌∙◌, subst, arith, append_assoc, replicate, cases_lt}
-use Rattle.vbi_words.proofs.Common.{not, System, half_max, Viable}
-use Rattle.std.proofs.Common.{Option, Some, None}
+use Rattle.vbi_words.proofs.Common.{not, System, half_max, Viable, Option, Some, None}
 use Rattle.vbi_words.specs.Outcomes.{EndsOtherwise, HasRunLimit}
 use Rattle.vbi_words.proofs.Sizes.{Sizes, sizes_of, apart_of}
 use Rattle.vbi_words.proofs.Machine

@@ -1,8 +1,7 @@
 -- Smoothing moves a shown word's columns three to the right, and takes away short glitches.
 use Rattle.vbi_words.proofs.Common.{◌≡◌, ℕ, suc, zero, ◌≤◌, ◌+◌, ◌-◌, Bool, true, false, List, [], ◌∷◌, ◌++◌, refl, ap}
 use Rattle.vbi_words.proofs.Common.{sym, ◌∙◌, arith, append_assoc, replicate, append-nil, replicate-append-replicate}
-use Rattle.vbi_words.proofs.Common.{not, level_of_four, Spells}
-use Rattle.std.proofs.Common.{length}
+use Rattle.vbi_words.proofs.Common.{not, level_of_four, Spells, length}
 use Rattle.vbi_words.specs.Smooth.{smooth_of}
 use Rattle.vbi_words.proofs.Runs.{run_joined}
 use Rattle.vbi_words.proofs.Smoothing.{window, smooth_window}

@@ -2,8 +2,7 @@
 use Rattle.vbi_words.proofs.Common.{◌≡◌, ℕ, suc, zero, ◌<◌, ◌+◌, ◌-◌, Bool, false, List, [], ◌∷◌, ◌⊎◌, inl, inr, refl}
 use Rattle.vbi_words.proofs.Common.{ap, sym, ◌∙◌, subst, arith, zero-add, get_or, drop, drop-cons, ext_get_or, drop_all}
 use Rattle.vbi_words.proofs.Common.{length-map-range_with_len, get_or-map-range_with_len, cases_lt, level_at}
-use Rattle.vbi_words.proofs.Common.{level_of_four}
-use Rattle.std.proofs.Common.{length}
+use Rattle.vbi_words.proofs.Common.{level_of_four, length}
 use Rattle.vbi_words.specs.Smooth.{FourEqual, SmoothAt, IsSmooth, latest, smooth_of}
 
 -- each level with the three before it, and the level before

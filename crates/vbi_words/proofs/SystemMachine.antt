@@ -1,7 +1,6 @@
 -- The machine at the sizes of a system's words.
 use Rattle.vbi_words.proofs.Common.{◌≡◌, ℕ, ◌<◌, ◌+◌, Bool, false, List, [], ◌∷◌, ◌++◌, ap, sym, ◌∙◌, take, drop}
-use Rattle.vbi_words.proofs.Common.{take-append-drop, System, level_at}
-use Rattle.std.proofs.Common.{Option, length}
+use Rattle.vbi_words.proofs.Common.{take-append-drop, System, level_at, Option, length}
 use Rattle.std.proofs.lemmas.List.{take_more}
 use Rattle.vbi_words.proofs.Sizes.{sizes_of, apart_of}
 use Rattle.vbi_words.proofs.Machine

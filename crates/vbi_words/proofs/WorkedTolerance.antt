@@ -1,8 +1,7 @@
 -- Worked facts of the definitions of tolerance, computed on a few columns.
 use Rattle.vbi_words.proofs.Common.{◌≡◌, ℕ, ◌≤◌, ◌<◌, ◌+◌, ◌*◌, Bool, true, false, List, [], ◌∷◌, ◌++◌, ◌⊎◌, inl, inr}
 use Rattle.vbi_words.proofs.Common.{refl, ap, ◌∙◌, arith, lit<, replicate, cases_lt, flat_map, ShowsAmply, IsBlurred}
-use Rattle.vbi_words.proofs.Common.{NoneAlone, IsJittered, HasGlitches, level_at, Ntsc, Spells, halves_of}
-use Rattle.std.proofs.Common.{length}
+use Rattle.vbi_words.proofs.Common.{NoneAlone, IsJittered, HasGlitches, level_at, Ntsc, Spells, halves_of, length}
 use Rattle.std.proofs.lemmas.List.{length-append, length-replicate}
 use Rattle.vbi_words.specs.Words.{lowest_bits}
 use Rattle.vbi_words.specs.WorkedLines.{low, high, little_row}

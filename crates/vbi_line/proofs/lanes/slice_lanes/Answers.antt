@@ -1,6 +1,5 @@
 use Rattle.vbi_line.proofs.Common.{◌≡◌, ◌+◌, ◌∷◌, ℕ, arith, sym, ap, ◌∙◌, length, subst, width_of, sample_at, levels_in}
-use Rattle.vbi_line.proofs.Common.{line_bytes-twice}
-use Rattle.std.proofs.Common.{List, length-append}
+use Rattle.vbi_line.proofs.Common.{line_bytes-twice, List, length-append}
 use Rattle.std.proofs.lemmas.Grind.{common_steps}
 use Rattle.vbi_line.proofs.Slicing.{Sliced, sliced_more, keeps_on, length-block, block_sliced, sliced_all}
 use Rattle.vbi_line.proofs.lanes.slice_lanes.Goals as goal

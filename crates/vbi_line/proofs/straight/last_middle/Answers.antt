@@ -1,6 +1,5 @@
 use Rattle.vbi_line.proofs.Common.{◌≡◌, ◌+◌, ◌<◌, Bool, true, [], ◌∷◌, ◌++◌, length, sym, ap, subst, ◌∙◌, arith}
-use Rattle.vbi_line.proofs.Common.{level_at, length-lowest_bits, IsMiddle}
-use Rattle.std.proofs.Common.{List, length-append}
+use Rattle.vbi_line.proofs.Common.{level_at, length-lowest_bits, IsMiddle, List, length-append}
 use Rattle.vbi_words.specs.Words.{lowest_bits}
 use Rattle.vbi_line.proofs.Middles.{reached}
 use Rattle.vbi_line.proofs.Steps.{lowest-none}

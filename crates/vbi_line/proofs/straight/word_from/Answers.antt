@@ -1,6 +1,5 @@
 use Rattle.vbi_line.proofs.Common.{◌≡◌, ℕ, ◌+◌, ◌-◌, ◌^◌, ◌<◌, ◌≤◌, Bool, true, false, length, sym, subst, ◌∙◌, arith}
-use Rattle.vbi_line.proofs.Common.{System, Word, half_min, half_max, level_at, IsOutcome, IsWord, IsRun, IsMiddle}
-use Rattle.std.proofs.Common.{List}
+use Rattle.vbi_line.proofs.Common.{System, Word, half_min, half_max, level_at, IsOutcome, IsWord, IsRun, IsMiddle, List}
 use Rattle.vbi_words.specs.Words.{lowest_bits}
 use Rattle.vbi_line.proofs.Middles.{low_word, high_word}
 use Rattle.vbi_line.proofs.straight.word_from.Goals as goal

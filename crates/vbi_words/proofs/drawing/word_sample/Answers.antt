@@ -1,5 +1,4 @@
-use Rattle.std.proofs.Common.{rules}
-use Rattle.std.specs.Prelude.{Some}
+use Rattle.vbi_words.proofs.Common.{rules, Some}
 use Rattle.vbi_words.proofs.DrawnSamples.{drawn_sample_is}
 use Rattle.vbi_words.proofs.drawing.word_sample.Goals as goal
 

@@ -1,6 +1,5 @@
 use Rattle.vbi_line.proofs.Common.{arith, ap, sym, ◌∙◌, ◌≡◌, ◌<◌, ◌≤◌, ◌+◌, ◌-◌, ◌/◌, ◌%◌, ℕ, Bool, length, slice_index}
-use Rattle.vbi_line.proofs.Common.{level_at, packed_level, unpacked, EqualBits}
-use Rattle.std.proofs.Common.{List}
+use Rattle.vbi_line.proofs.Common.{level_at, packed_level, unpacked, EqualBits, List}
 use Rattle.vbi_line.proofs.Packs.{length-unpacked, level_unpacked}
 use Rattle.vbi_line.proofs.PackedRuns.{RunSoFar, each_on, run_in_word, run_to_width}
 use Rattle.vbi_line.proofs.packed.Packed.run_end.Goals as goal
