@@ -16,7 +16,7 @@ use Rattle.vbi_side.proofs.Weights.{spread, weight_at-passes}
 use Rattle.vbi_seek.specs.FieldLines.{Side}
 use Rattle.vbi_seek.specs.ChapterLeads.{TellsChapter, chapter_spots, IsFirstOf}
 use Rattle.vbi_seek.specs.Spots.{Leads}
-use Rattle.vbi_c.specs.ChapterRuns.{AreChaptersRead, IsFirstPicture}
+use Rattle.vbi_c.specs.CleanSides.{AreChaptersRead, IsFirstPicture}
 use Rattle.vbi_seek.specs.ChapterSearch.{chapters_at, chapters_from, said_below, TellChapter}
 use Rattle.vbi_seek.specs.NumberSpots.{sum_below}
 use Rattle.vbi_seek.proofs.Running.{sum_below_more}

@@ -12,7 +12,8 @@ use Rattle.vbi_seek.specs.declared.asked.Asked.TheVariants.{Given, Found}
 use Rattle.vbi_c.specs.CalledWhole.{Called}
 use Rattle.vbi_c.specs.CleanSides.{IsJudgedClean}
 use Rattle.vbi_c.specs.Judging.{IsGiven}
-use Rattle.vbi_c.specs.WholeSides.{both_by, side_for_c}
+use Rattle.vbi_c.specs.Numbers.{both_by}
+use Rattle.vbi_c.specs.WholeSides.{side_for_c}
 use Rattle.vbi_c.proofs.SidesCalled.{answers_at, found_on}
 
 module _ (number : ℕ → ℕ) (called : Called) (begin last : ℕ) (is : IsJudgedClean number called begin last)
@@ -45,6 +46,7 @@ module _ (number : ℕ → ℕ) (called : Called) (begin last : ℕ) (is : IsJud
     pub clean_whole : called.side ≡ side_for_c (found_whole begin (begin + 2 * last))
     clean_whole =
         let (found, finds, e) = found_on called false is.answered at_video none_on_both in
-        e ∙ ap side_for_c (called_whole called.siding.numbering number called.seen begin last run.read.each run.read.others
+        e ∙ ap side_for_c (called_whole called.siding.numbering number called.seen begin last run.read.each
+          run.read.others
         run.three (λ p inside. (run.keeps p inside).0) called.numbers answers called.may_end called.ends
         is.clean.begun is.clean.ended is.clean.unpadded found called.old called.new finds)

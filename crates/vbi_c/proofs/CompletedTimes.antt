@@ -12,10 +12,10 @@ use Rattle.vbi_side.specs.Votes.{minute_of, part_of, time_word, IsCompleted, IsV
 use Rattle.vbi_side.specs.Lines.{sighting_of}
 use Rattle.vbi_side.proofs.RightVotes.{rightly_soundly}
 use Rattle.vbi_side.proofs.ToldTimes.{completed_rightly, completed_soundly, word_of_minute}
-use Rattle.vbi_c.specs.declared.fields.LdvbiFieldReadings.{LdvbiFieldReadings}
+use Rattle.vbi_c.specs.declared.reading.LdvbiFieldReadings.{LdvbiFieldReadings}
 use Rattle.vbi_c.specs.declared.reading.LdvbiReading.{LdvbiReading}
-use Rattle.vbi_c.specs.Judging.{shown_by, lines_of, lines_in}
 use Rattle.vbi_c.specs.Completing.{read_as, with_time, IsCompletedField, TellsTime, AreCompleted}
+use Rattle.vbi_c.specs.Judging.{shown_by, lines_of, lines_in}
 
 -- a word that is read as one
 shown_word : (word pass : ℕ) → IsWord word → shown_by (read_as word pass) ≡ record { word = Some word; pass = pass }

@@ -1,5 +1,5 @@
 -- What a search sees of a drawn side.
-use Rattle.std.proofs.Common.{◌≡◌, ℕ, ◌+◌, ◌*◌, ◌-◌, ◌<◌, ◌≤◌, List, [], ◌∷◌, take, drop, map}
+use Rattle.std.proofs.Common.{◌≡◌, ℕ, ◌+◌, ◌*◌, ◌-◌, ◌<◌, ◌≤◌, List, [], ◌∷◌, take, drop}
 use Rattle.std.proofs.Common.{refl, arith, ap, sym, ◌∙◌, subst}
 use Rattle.std.specs.Prelude.{Option, Some, None, slice_get}
 use Rattle.std.proofs.lemmas.List.{drop-take, take-take, drop-drop}
@@ -13,7 +13,7 @@ use Rattle.vbi_line.specs.OneReading.{reading_of}
 use Rattle.vbi_line.proofs.OneReading.{only_reading}
 use Rattle.vbi_near.specs.declared.recovery.Recovered.{Recovered}
 use Rattle.vbi_near.specs.Distances.{unit_of}
-use Rattle.vbi_near.specs.Recovery.{alone, stands_of, shown_in, none_erased, row_reading, IsSureBy}
+use Rattle.vbi_near.specs.Recovery.{alone, stands_of, shown_in, row_reading, IsSureBy}
 use Rattle.vbi_near.proofs.Kept.{sure-shown}
 use Rattle.vbi_field.specs.ConfigView.{ConfigView}
 use Rattle.vbi_field.specs.Draws.{draw_out, AreDrawable}

@@ -9,7 +9,7 @@ use Rattle.vbi_side.specs.Numbers.{believed}
 use Rattle.vbi_side.specs.Truth.{IsSound}
 use Rattle.vbi_side.specs.Misread.{Words, numbers_in, IsRead}
 use Rattle.vbi_side.proofs.MisreadWords.{wrong_misread}
-use Rattle.vbi_c.specs.declared.fields.LdvbiFieldReadings.{LdvbiFieldReadings}
+use Rattle.vbi_c.specs.declared.reading.LdvbiFieldReadings.{LdvbiFieldReadings}
 use Rattle.vbi_seek.specs.declared.asked.Judging.{Judging}
 use Rattle.vbi_c.specs.Judging.{seen_in, lines_in, capture_of}
 

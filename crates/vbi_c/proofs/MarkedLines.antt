@@ -12,8 +12,8 @@ use Rattle.vbi_near.specs.Candidates.{Row, row_of}
 use Rattle.vbi_near.specs.PileRule.{row_in, rows_in, IsSaidTogether}
 use Rattle.vbi_c.specs.declared.erased.LdvbiErased.{LdvbiErased}
 use Rattle.vbi_c.specs.Erased.{line_marks}
-use Rattle.vbi_seek.specs.declared.side_bytes.Setup.{Setup}
 use Rattle.vbi_c.specs.Piling.{HasMarks, row_erased, rows_erased, count_in}
+use Rattle.vbi_seek.specs.declared.side_bytes.Setup.{Setup}
 
 -- the first items of the first items
 take-take : (n m : ℕ) (xs : List Bool) → n ≤ m → take n (take m xs) ≡ take n xs

@@ -9,7 +9,7 @@ use Rattle.vbi_words.specs.declared.outcome.Outcome.TheVariants.{Word, Blank, Un
 use Rattle.vbi_words.specs.Codes.{IsBetween}
 use Rattle.vbi_near.specs.declared.recovery.Recovered.{Recovered}
 use Rattle.vbi_near.proofs.NeverBeyond.{field-within}
-use Rattle.vbi_c.specs.declared.fields.LdvbiFieldReadings.{LdvbiFieldReadings}
+use Rattle.vbi_c.specs.declared.reading.LdvbiFieldReadings.{LdvbiFieldReadings}
 use Rattle.vbi_c.specs.declared.reading.LdvbiReading.{LdvbiReading}
 use Rattle.vbi_seek.specs.declared.side_bytes.Setup.{Setup}
 use Rattle.vbi_c.specs.Readings.{outcome_for_c}

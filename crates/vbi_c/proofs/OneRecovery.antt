@@ -10,9 +10,13 @@ use Rattle.vbi_near.specs.declared.recovery.Recovered.{Recovered}
 use Rattle.vbi_near.specs.Distances.{unit_of}
 use Rattle.vbi_near.specs.Recovery.{alone, shown_in, stands_of}
 use Rattle.vbi_side.specs.Chapters.{chapters_of}
-use Rattle.vbi_c.specs.declared.fields.LdvbiFieldReadings.{LdvbiFieldReadings}
+use Rattle.vbi_c.specs.declared.reading.LdvbiFieldReadings.{LdvbiFieldReadings}
 use Rattle.vbi_seek.specs.declared.side_bytes.Setup.{Setup}
 use Rattle.vbi_c.specs.Erased.{none_erased}
+use Rattle.vbi_c.specs.FieldCodes.{chapters_in, IsStopOf}
+use Rattle.vbi_c.specs.Judging.{seen_in, shown_by, lines_of}
+use Rattle.vbi_c.specs.Recovering.{AreRecovered, AreAllRecovered, code_bytes, recovered_for_c, recovered_reading}
+use Rattle.vbi_c.specs.Recovering.{reading_at}
 use Rattle.vbi_side.specs.declared.lines.Shown.{Shown}
 use Rattle.vbi_side.specs.Misread.{Lines, numbers_in}
 use Rattle.vbi_side.specs.Stops.{IsJudgedStop}
@@ -20,11 +24,6 @@ use Rattle.vbi_seek.specs.ChapterSearch.{chapters_at}
 use Rattle.vbi_seek.specs.FieldLines.{Side, field_in, lines_by, recovered_at, recovery_of, shown_as}
 use Rattle.vbi_seek.specs.StopSearch.{HasStop}
 use Rattle.vbi_seek.proofs.OneRecovery.{is_recovered, only_recovered}
-use Rattle.vbi_c.specs.Chapters.{chapters_in}
-use Rattle.vbi_c.specs.Judging.{seen_in, shown_by, lines_of}
-use Rattle.vbi_c.specs.Stops.{IsStopOf}
-use Rattle.vbi_c.specs.Recovering.{AreRecovered, AreAllRecovered, code_bytes, recovered_for_c}
-use Rattle.vbi_c.specs.Recovering.{recovered_reading, reading_at}
 use Rattle.vbi_seek.specs.NumberSearch.{Numbers, shown_at, shown_of}
 
 -- what is recovered of a field is this

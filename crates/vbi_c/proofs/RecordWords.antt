@@ -11,10 +11,9 @@ use Rattle.vbi_field.specs.RecoveredDocument.{nears_text_of, recovered_without}
 use Rattle.vbi_field.specs.RecoveredRows.{recovery_of, joined_rows, as_readings}
 use Rattle.vbi_field.specs.Stream.{rows_in}
 use Rattle.vbi_field.proofs.OneShown.{only_shown}
-use Rattle.vbi_c.specs.declared.fields.LdvbiFieldReadings.{LdvbiFieldReadings}
+use Rattle.vbi_c.specs.declared.reading.LdvbiFieldReadings.{LdvbiFieldReadings}
 use Rattle.vbi_seek.specs.declared.side_bytes.Setup.{Setup}
-use Rattle.vbi_c.specs.Record.{lines_for_c, HasWordsOf}
-use Rattle.vbi_c.specs.Recovering.{AreRecovered, recovered_for_c}
+use Rattle.vbi_c.specs.Recovering.{lines_for_c, HasWordsOf, AreRecovered, recovered_for_c}
 
 -- what rows show is three lines
 three_lines : (system : System) (slicing : Slicing) (rows : List ℕ) (marks : List Bool) (shown : List Recovered)

@@ -11,7 +11,7 @@ use Rattle.vbi_whole.specs.declared.verdict.Verdict.TheVariants.{Yes, No, Cannot
 use Rattle.vbi_whole.specs.Verdicts.{IsFinding}
 use Rattle.vbi_c.specs.declared.whole_side.LdvbiSide.{LdvbiSide}
 use Rattle.vbi_c.specs.CalledWhole.{Called, Finds, IsAnswered, judged_at, slack_at}
-use Rattle.vbi_c.specs.WholeSides.{both_by, verdict_for_c}
+use Rattle.vbi_c.specs.Numbers.{both_by, verdict_for_c}
 
 -- what is answered, at the pace that is known
 pub answers_at : (called : Called) (pace : Pace) → IsAnswered called → called.siding.pace ≡ pace

@@ -9,7 +9,7 @@ use Rattle.vbi_side.specs.Clocks.{IsClearAt}
 use Rattle.vbi_side.specs.Side.{Rises, captured, AreLost}
 use Rattle.vbi_side.specs.Truth.{wrong_weight, IsNear}
 use Rattle.vbi_whole.specs.Verdicts.{IsFinding}
-use Rattle.vbi_c.specs.declared.fields.LdvbiFieldReadings.{LdvbiFieldReadings}
+use Rattle.vbi_c.specs.declared.reading.LdvbiFieldReadings.{LdvbiFieldReadings}
 use Rattle.vbi_seek.specs.declared.asked.Judging.{Judging}
 use Rattle.vbi_c.specs.declared.whole_side.Siding.{Siding}
 use Rattle.vbi_c.specs.Judging.{AreJudged}

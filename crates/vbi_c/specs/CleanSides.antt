@@ -1,11 +1,12 @@
--- A side that leaves nothing to doubt, by what the calls answer one after the other.
-use Rattle.std.specs.Prelude.{◌≡◌, ◌≢◌, ◌⊎◌, ℕ}
+-- A side that leaves nothing to doubt, by what the calls answer one after the other, and one whose chapters do.
+use Rattle.std.specs.Prelude.{◌≡◌, ◌≢◌, ◌⊎◌, ℕ, ◌<◌, ◌≤◌, ◌+◌, List}
 use Rattle.vbi_words.specs.declared.system.System.TheVariants.{Pal}
 use Rattle.vbi_side.specs.declared.clock.Clock.{Clock}
 use Rattle.vbi_side.specs.declared.clock.Clock.TheVariants.{Plain}
 use Rattle.vbi_side.specs.declared.lines.Counted.TheVariants.{Times}
 use Rattle.vbi_side.specs.declared.pace.Pace.TheVariants.{Video, Film}
-use Rattle.vbi_whole.specs.CleanRuns.{IsCleanSide}
+use Rattle.vbi_side.specs.declared.sighting.Sightings.{Sightings}
+use Rattle.vbi_whole.specs.CleanRuns.{IsCleanSide, IsReadRun}
 use Rattle.vbi_seek.specs.declared.asked.Asked.TheVariants.{Given, Found}
 use Rattle.vbi_seek.specs.declared.asked.Judging.{Judging}
 use Rattle.vbi_c.specs.CalledWhole.{Called, IsAnswered, judged_at, slack_at}
@@ -26,3 +27,15 @@ abbrev pub AsksVideo : Clock → Judging → Type 0
 AsksVideo clock judging =
     (judging.asked ≡ Given Video)
     ⊎ ((judging.asked ≡ Found) × ((clock ≡ Plain) ⊎ (judging.counted ≡ Times) ⊎ (judging.system ≡ Pal)))
+
+-- from field `begin` on every other field shows the chapter of the next picture on both lines, in pass 1, up to picture
+-- `last`; no other field shows one. Chapters never fall, and each lasts three pictures or more
+pub record AreChaptersRead (chapter : ℕ → ℕ) (fields : List Sightings) (begin last : ℕ) : Type 0 where
+  pub read : IsReadRun chapter fields begin last
+  pub rise : (p q : ℕ) → p ≤ q → q ≤ last → chapter p ≤ chapter q
+  pub three : (p : ℕ) → p ≤ last → (q : ℕ) × (q ≤ p) × (p ≤ q + 2) × (q + 2 ≤ last)
+      × (chapter q ≡ chapter p) × (chapter (q + 2) ≡ chapter p)
+
+-- the chapter of picture p begins with it
+abbrev pub IsFirstPicture : (ℕ → ℕ) → ℕ → Type 0
+IsFirstPicture chapter p = (q : ℕ) → q < p → chapter q ≢ chapter p

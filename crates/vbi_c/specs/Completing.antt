@@ -8,13 +8,13 @@ use Rattle.vbi_side.specs.Sightings.{Shows}
 use Rattle.vbi_side.specs.Lines.{pass_weight}
 use Rattle.vbi_side.specs.Misread.{numbers_in}
 use Rattle.vbi_side.specs.Votes.{minute_of, part_of, IsCompleted, IsVotedSoundly, IsVotedRightly}
-use Rattle.vbi_c.specs.declared.fields.LdvbiFieldReadings.{LdvbiFieldReadings}
+use Rattle.vbi_c.specs.declared.reading.LdvbiFieldReadings.{LdvbiFieldReadings}
 use Rattle.vbi_seek.specs.declared.asked.Judging.{Judging}
 use Rattle.vbi_seek.specs.declared.asked.Asked.TheVariants.{Found}
 use Rattle.vbi_c.specs.declared.reading.LdvbiReading.{LdvbiReading}
 use Rattle.vbi_c.specs.declared.status.Refusal.{Refusal}
 use Rattle.vbi_c.specs.Judging.{are_as_long, with_lengths, lines_in}
-use Rattle.vbi_c.specs.Setups.{system_of}
+use Rattle.vbi_c.specs.Numbers.{system_of}
 
 -- the system of a call, with arrays that are both as long as that of the readings
 abbrev pub completing_of : ℕ → ℕ → ℕ → ℕ → Result words.System Refusal

@@ -4,38 +4,26 @@ use Rattle.std.specs.Prelude.{◌≡◌, ℕ, ◌+◌, ◌^◌, Bool, ◌==◌, 
 use Rattle.std.specs.Prelude.{slice_get, Option, Some, None, ok_or, Result, Ok, Err}
 use Rattle.vbi_words.specs.declared.system.System as words
 use Rattle.vbi_side.specs.declared.lines.Counted as side
-use Rattle.vbi_side.specs.declared.lines.Counted.TheVariants.{Pictures, Times}
 use Rattle.vbi_side.specs.declared.lines.Shown.{Shown}
 use Rattle.vbi_side.specs.declared.number.Number.{Number}
 use Rattle.vbi_side.specs.declared.pace.Pace as paces
-use Rattle.vbi_side.specs.declared.pace.Pace.TheVariants.{Video, Film}
+use Rattle.vbi_side.specs.declared.pace.Pace.TheVariants.{Video}
 use Rattle.vbi_side.specs.declared.sighting.Sightings.{Sightings}
 use Rattle.vbi_side.specs.Numbers.{believed, due, AreAnswers, AreRight, IsAnswer}
 use Rattle.vbi_side.specs.Truth.{IsRegular, IsSoundStill}
 use Rattle.vbi_side.specs.Misread.{Capture, Lines, Words, numbers_in, IsRead}
-use Rattle.vbi_c.specs.declared.fields.LdvbiFieldReadings.{LdvbiFieldReadings}
+use Rattle.vbi_c.specs.declared.reading.LdvbiFieldReadings.{LdvbiFieldReadings}
 use Rattle.vbi_seek.specs.declared.asked.Judging.{Judging}
 use Rattle.vbi_seek.specs.declared.asked.Asked.{Asked}
-use Rattle.vbi_seek.specs.declared.asked.Asked.TheVariants.{Given, Found}
 use Rattle.vbi_c.specs.declared.reading.LdvbiReading.{LdvbiReading}
 use Rattle.vbi_c.specs.declared.status.Refusal.{Refusal}
 use Rattle.vbi_c.specs.declared.status.Refusal.TheVariants.{System, Length, Counted, Pace}
 pub use Rattle.vbi_seek.specs.Asked.{IsGiven, IsAskedPace}
-use Rattle.vbi_c.specs.Setups.{system_of}
+use Rattle.vbi_c.specs.Numbers.{system_of, counted_of, asked_of, given_of}
 use Rattle.vbi_c.specs.Statuses.{in_turn}
 use Rattle.vbi_side.specs.Parts.{part_most, IsPart}
 
 -- ---- what is asked for
-
--- what is counted, by its number
-abbrev pub counted_of : ℕ → Option side.Counted
-counted_of number = if number == 1 then Some Pictures else (if number == 2 then Some Times else None)
-
--- the pace that is asked for, by its number: one that is given, or the one that is found
-abbrev pub asked_of : ℕ → Option Asked
-asked_of number =
-    if number == 1 then Some (Given Video)
-    else (if number == 2 then Some (Given Film) else (if number == 3 then Some Found else None))
 
 -- both other arrays of a call are as long as its first
 abbrev pub are_as_long : ℕ → ℕ → ℕ → Bool
@@ -80,11 +68,6 @@ lines_in readings = lines_of readings.lines
 abbrev pub seen_in : Judging → LdvbiFieldReadings → Sightings
 seen_in judging readings = numbers_in judging.system judging.counted (lines_in readings)
 
--- a pace as C sees it
-abbrev pub pace_for_c : paces.Pace → ℕ
-pace_for_c Video = 1
-pace_for_c Film = 2
-
 -- the capture that has these readings of a disc
 abbrev pub capture_of : Judging → List LdvbiFieldReadings → (ℕ → Words) → (ℕ → Option ℕ) → Capture
 capture_of judging readings disc recorded = record {
@@ -111,10 +94,6 @@ pub record AreJudged (judging : Judging) (readings : List LdvbiFieldReadings) (s
 
 -- ---- of one field: first the system is looked at, then how many fields there are and whether the field is among them,
 -- then what is counted, then the pace
-
--- the pace has to be given: a few fields have none of their own
-abbrev pub given_of : ℕ → Option Asked
-given_of number = if number == 3 then None else asked_of number
 
 -- what the numbers of a call ask for, of this field among this many, which are no more than an answer depends on
 abbrev pub one_judging_of : ℕ → ℕ → ℕ → ℕ → ℕ → Result Judging Refusal

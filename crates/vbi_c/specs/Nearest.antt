@@ -6,7 +6,7 @@ use Rattle.vbi_near.specs.Distances.{Samples, lines_of}
 use Rattle.vbi_near.specs.Nearest.{IsNearest}
 use Rattle.vbi_near.specs.LongerSignal.{IsLonger}
 use Rattle.vbi_seek.specs.declared.side_bytes.Setup.{Setup}
-use Rattle.vbi_c.specs.declared.nearest.LdvbiNear.{LdvbiNear}
+use Rattle.vbi_c.specs.declared.piling.LdvbiNear.{LdvbiNear}
 
 -- the nearest word; 0 for none
 abbrev pub near_for_c : Near → LdvbiNear

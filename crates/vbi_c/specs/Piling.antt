@@ -7,7 +7,6 @@ use Rattle.vbi_words.specs.declared.system.System as words
 use Rattle.vbi_near.specs.Candidates.{Row, row_of, marks_at}
 use Rattle.vbi_near.specs.PileRule.{IsSaidTogether}
 use Rattle.vbi_c.specs.declared.erased.LdvbiErased.{LdvbiErased}
-use Rattle.vbi_c.specs.declared.piling.Lines.{Lines}
 use Rattle.vbi_seek.specs.declared.side_bytes.Setup.{Setup}
 use Rattle.vbi_c.specs.declared.status.Refusal.{Refusal}
 use Rattle.vbi_c.specs.declared.status.Refusal.TheVariants.{Erased, Line, Known}
@@ -25,27 +24,14 @@ count_in system bytes = bytes / line_bytes system
 abbrev pub is_list_of : ℕ → ℕ → List LdvbiErased → Bool
 is_list_of line count list = is_taken count list && list_all (λ entry. entry.line == line) list
 
--- the setup of a call that was found right so far, unless its line has no code words
-abbrev pub refuse_line : ℕ → Result Setup Refusal → Result Setup Refusal
-refuse_line line asked = in_turn asked (λ setup. if is_code_line line then Ok setup else Err Line)
-
--- unless it says neither that dropouts are known, by 1, nor that they aren't, by 0
-abbrev pub refuse_known : ℕ → Result Setup Refusal → Result Setup Refusal
-refuse_known known asked = in_turn asked (λ setup. if nat_le known 1 then Ok setup else Err Known)
-
--- unless its list isn't taken
-abbrev pub refuse_list : ℕ → ℕ → List LdvbiErased → Result Setup Refusal → Result Setup Refusal
-refuse_list line bytes list asked = in_turn asked (λ setup.
-    if is_list_of line (count_in setup.system bytes) list then Ok setup else Err Erased)
-
--- what a call says of its lines
-abbrev pub lines_as : ℕ → ℕ → ℕ → Lines
-lines_as line known length = record { line = line; known = known; length = length }
-
--- the setup of a call with lines of one number
-abbrev pub pile_setup : ℕ → ℕ → ℕ → Lines → List LdvbiErased → Result Setup Refusal
-pile_setup system black white lines list = refuse_list lines.line lines.length list
-    (refuse_known lines.known (refuse_line lines.line (lines_setup system black white lines.length)))
+-- the setup of a call with lines of one number: after the setup and the length the line is looked at, which has to have
+-- code words, then whether dropouts are known, by 1, or not, by 0, then the list
+abbrev pub pile_setup : ℕ → ℕ → ℕ → ℕ → ℕ → ℕ → List LdvbiErased → Result Setup Refusal
+pile_setup system black white line known bytes list = in_turn (lines_setup system black white bytes) (λ setup.
+    if is_code_line line
+    then (if nat_le known 1
+    then (if is_list_of line (count_in setup.system bytes) list then Ok setup else Err Erased)
+    else Err Known) else Err Line)
 
 -- ---- what is answered
 

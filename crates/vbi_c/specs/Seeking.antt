@@ -1,12 +1,12 @@
 -- Seeking in the bytes of a side, as C asks for it: first the system is looked at, then black and white, then what is
 -- counted, then the pace.
-use Rattle.std.specs.Prelude.{ℕ, Option, Some, None, Result, Ok}
-use Rattle.vbi_side.specs.declared.pace.Pace.{Pace}
+use Rattle.std.specs.Prelude.{ℕ, Result, Ok}
 use Rattle.vbi_seek.specs.declared.number_search.Sought.{Sought}
 use Rattle.vbi_seek.specs.declared.search.Seek.{Seek}
 use Rattle.vbi_c.specs.declared.seeking.LdvbiSought.{LdvbiSought}
 use Rattle.vbi_c.specs.declared.status.Refusal.{Refusal}
-use Rattle.vbi_c.specs.Judging.{counted_of, asked_of, with_pace, pace_for_c}
+use Rattle.vbi_c.specs.Judging.{with_pace}
+use Rattle.vbi_c.specs.Numbers.{counted_of, asked_of, sought_pace}
 use Rattle.vbi_c.specs.Setups.{setup_of}
 use Rattle.vbi_c.specs.Statuses.{in_turn}
 
@@ -15,11 +15,6 @@ abbrev pub seek_of : ℕ → ℕ → ℕ → ℕ → ℕ → Result Seek Refusal
 seek_of system black white counted pace = in_turn (setup_of system black white) (λ setup.
     in_turn (with_pace (Ok setup.system) (counted_of counted) (asked_of pace))
     (λ judging. Ok (record { setup = setup; judging = judging })))
-
--- the pace of a number that was sought, or 0 if none was found
-abbrev pub sought_pace : Option Pace → ℕ
-sought_pace None = 0
-sought_pace (Some pace) = pace_for_c pace
 
 -- a number that was sought, as C sees it
 abbrev pub sought_for_c : Sought → LdvbiSought

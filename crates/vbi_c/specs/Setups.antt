@@ -1,18 +1,14 @@
--- What the numbers of a call stand for, and why they are refused: the system is looked at first, then black and white,
+-- What a call is given beside its bytes, and why it is refused: the system is looked at first, then black and white,
 -- then the length. The numbers of systems and levels may be any of 32 bits.
-use Rattle.std.specs.Prelude.{ℕ, Bool, ◌*◌, ◌%◌, ◌==◌, ◌&&◌, nat_lt, nat_le, if◌then◌else◌, Option, Some, None, ok_or}
-use Rattle.std.specs.Prelude.{Result, Ok, Err}
+use Rattle.std.specs.Prelude.{ℕ, Bool, ◌*◌, ◌%◌, ◌==◌, ◌&&◌, nat_lt, nat_le, if◌then◌else◌, ok_or, Result, Ok, Err}
 use Rattle.vbi_words.specs.declared.system.System as words
-use Rattle.vbi_words.specs.declared.system.System.TheVariants.{Ntsc, Pal}
 use Rattle.vbi_words.specs.Geometry.{line_bytes, field_bytes}
 use Rattle.vbi_seek.specs.declared.side_bytes.Setup.{Setup}
+use Rattle.vbi_c.specs.declared.words.Drawing.{Drawing}
 use Rattle.vbi_c.specs.declared.status.Refusal.{Refusal}
 use Rattle.vbi_c.specs.declared.status.Refusal.TheVariants.{System, Levels, Length}
+use Rattle.vbi_c.specs.Numbers.{system_of, word_or_none}
 use Rattle.vbi_c.specs.Statuses.{in_turn}
-
--- the system of a number
-abbrev pub system_of : ℕ → Option words.System
-system_of number = if number == 1 then Some Ntsc else (if number == 2 then Some Pal else None)
 
 -- the system of a number with black and white: samples of 16 bits, black below white
 abbrev pub setup_of : ℕ → ℕ → ℕ → Result Setup Refusal
@@ -46,7 +42,7 @@ lines_setup number black white length = of_length (λ system.
     length % line_bytes system == 0 && nat_lt 0 length && nat_le length (28 * line_bytes system))
     (setup_of number black white)
 
--- a number of a system's geometry, or 0 if there is no system
-abbrev pub of_system : (words.System → ℕ) → Option words.System → ℕ
-of_system number None = 0
-of_system number (Some system) = number system
+-- what these numbers ask to be drawn on this many bytes: after the setup and the length the word is looked at
+abbrev pub drawing_of : ℕ → ℕ → ℕ → ℕ → ℕ → Result Drawing Refusal
+drawing_of system black white word length = in_turn (line_setup system black white length)
+    (λ setup. in_turn (word_or_none word) (λ word. Ok (record { setup = setup; word = word })))

@@ -1,5 +1,5 @@
 -- How a call ends, and that what is looked at first is refused first.
-use Rattle.std.specs.Prelude.{ℕ, Result, Ok, Err}
+use Rattle.std.specs.Prelude.{◌≡◌, ◌≢◌, ℕ, IfOk, Result, Ok, Err}
 use Rattle.vbi_c.specs.declared.status.Refusal.{Refusal}
 use Rattle.vbi_c.specs.declared.status.Refusal.TheVariants.{System, Levels, Length, Word, Counted, Pace}
 use Rattle.vbi_c.specs.declared.status.Refusal.TheVariants.{Erased, Line, Known, Clock}
@@ -26,3 +26,11 @@ status_of (Err refusal) = refusal_status refusal
 abbrev pub in_turn : {A B : Type 0} → Result A Refusal → (A → Result B Refusal) → Result B Refusal
 in_turn (Ok found) next = next found
 in_turn (Err refusal) next = Err refusal
+
+-- a call is answered the status of what its arguments stand for: if they are found right, this holds of what they stand
+-- for; after any status but 0 all is unwritten
+pub record Answers {A : Type 0} (asked : Result A Refusal) (status : ℕ) (holds : A → Type 0) (unwritten : Type 0)
+    : Type 0 where
+  pub status_is : status ≡ status_of asked
+  pub does : IfOk asked holds
+  pub refused : status ≢ 0 → unwritten

@@ -9,18 +9,18 @@ use Rattle.vbi_side.specs.declared.clock.Clock.{Clock}
 use Rattle.vbi_side.specs.declared.clock.Clock.TheVariants.{Plain}
 use Rattle.vbi_side.specs.declared.pace.Pace.{Pace}
 use Rattle.vbi_side.specs.Numbers.{believed, nothing}
-use Rattle.vbi_c.specs.declared.code.LdvbiCode.{LdvbiCode}
+use Rattle.vbi_c.specs.declared.numbers.LdvbiCode.{LdvbiCode}
 use Rattle.vbi_c.specs.declared.erased.LdvbiErased.{LdvbiErased}
-use Rattle.vbi_c.specs.declared.fields.LdvbiFieldReadings.{LdvbiFieldReadings}
+use Rattle.vbi_c.specs.declared.reading.LdvbiFieldReadings.{LdvbiFieldReadings}
 use Rattle.vbi_seek.specs.declared.asked.Asked.{Asked}
 use Rattle.vbi_seek.specs.declared.asked.Judging.{Judging}
-use Rattle.vbi_c.specs.declared.nearest.LdvbiNear.{LdvbiNear}
+use Rattle.vbi_c.specs.declared.piling.LdvbiNear.{LdvbiNear}
 use Rattle.vbi_c.specs.declared.reading.LdvbiReading.{LdvbiReading}
 use Rattle.vbi_seek.specs.declared.side_bytes.Setup.{Setup}
-use Rattle.vbi_c.specs.declared.clock.LdvbiClock.{LdvbiClock}
+use Rattle.vbi_c.specs.declared.numbers.LdvbiClock.{LdvbiClock}
 use Rattle.vbi_c.specs.declared.whole_side.LdvbiSideRule.{LdvbiSideRule}
 use Rattle.vbi_c.specs.declared.whole_side.Siding.{Siding}
-use Rattle.vbi_c.specs.Clocks.{clock_as}
+use Rattle.vbi_c.specs.Numbers.{clock_as}
 
 -- black and white of ld-decode's TBC files of NTSC, and of PAL
 abbrev pub ntsc : Setup

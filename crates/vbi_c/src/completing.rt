@@ -1,28 +1,15 @@
 //! Completing the times of fields of which line 16 alone was read.
 
-ghost use Rattle.std.specs.Prelude.{◌≡◌, ◌≢◌, ℕ, ◌<◌, length, map, slice_get, IfOk, Some};
+ghost use Rattle.std.specs.Prelude.{◌≡◌, ◌<◌, length, map};
 ghost use Rattle.vbi_c.specs.Judging.{lines_in, seen_in};
-ghost use Rattle.vbi_c.specs.Completing.{completing_of, times_of, read_as, with_time, IsCompletedField, AreCompleted};
-ghost use Rattle.vbi_c.specs.Statuses.{status_of};
+ghost use Rattle.vbi_c.specs.Completing.{completing_of, times_of, with_time, IsCompletedField, AreCompleted};
+ghost use Rattle.vbi_c.specs.Statuses.{Answers};
 
-use crate::fields::LdvbiFieldReadings;
 use crate::judging::{Asked, Judging, are_as_long, see_all, shown_by, with_lengths};
-use crate::reading::LdvbiReading;
-use crate::status::{DONE, Refusal};
+use crate::reading::{LdvbiFieldReadings, LdvbiReading};
+use crate::status::DONE;
 use vbi_side::{Counted, Shown, Sightings, completed_time};
 use vbi_words::{System, Word24};
-
-/// The system of this number, or why the call is refused: both arrays have to be as long as that of the readings.
-fn completing_of(
-    system: u32,
-    count: usize,
-    seen: usize,
-    completed: usize,
-) -> Result<System, Refusal>
-    ensures { result ≡ completing_of system count seen completed }
-{
-    with_lengths(system, are_as_long(count, seen, completed))
-}
 
 /// What asks for the times that fields show.
 fn times_of(system: System) -> Judging
@@ -101,15 +88,13 @@ pub extern "C" fn ldvbi_complete_times(
     seen: &mut [Sightings],
     completed: &mut [LdvbiFieldReadings],
 ) -> u32
-    ensures status { result ≡ status_of (completing_of system
-        (length readings.now) (length seen.old) (length completed.old)) }
-    ensures sees { IfOk (completing_of system (length readings.now) (length seen.old) (length completed.old))
-        (λ system. seen.new ≡ map (seen_in (times_of system)) readings.now) }
-    ensures completes { IfOk (completing_of system (length readings.now) (length seen.old) (length completed.old))
-        (λ system. AreCompleted system readings.now seen.new completed.new) }
-    ensures unwritten { result ≢ 0 → (seen.new ≡ seen.old) × (completed.new ≡ completed.old) }
+    ensures completes { Answers (completing_of system (length readings.now) (length seen.old) (length completed.old))
+        result (λ system. (seen.new ≡ map (seen_in (times_of system)) readings.now)
+        × AreCompleted system readings.now seen.new completed.new)
+        ((seen.new ≡ seen.old) × (completed.new ≡ completed.old)) }
 {
-    match completing_of(system, readings.len(), seen.len(), completed.len()) {
+    let fit = are_as_long(readings.len(), seen.len(), completed.len());
+    match with_lengths(system, fit) {
         Ok(system) => {
             see_all(&times_of(system), readings, seen);
             complete_all(system, readings, seen, completed);

@@ -9,14 +9,13 @@ ghost use Rattle.vbi_c.specs.Erased.{is_code_line, is_entry, may_follow, are_sor
 ghost use Rattle.vbi_c.specs.Erased.{erased_of, IsPlace};
 
 use crate::setup::Setup;
-use crate::status::Refusal;
-use std::mem::size_of;
+use crate::status::{Refusal, Settled, refuse_unless};
 use vbi_words::System;
 
 /// The line whose row comes first.
 pub(crate) const FIRST_LINE: u32 = 16;
 /// The last line with a code word.
-pub(crate) const LAST_LINE: u32 = 18;
+const LAST_LINE: u32 = 18;
 
 /// Columns of a line that are erased.
 #[derive(Clone, Copy)]
@@ -32,30 +31,25 @@ pub struct LdvbiErased {
     pub last: u32,
 }
 
-// As include/ldvbi.h has it.
-const _: () = prove!(size_of::<LdvbiErased>() == 16);
+/// Whether a line has code words.
+pub(crate) fn is_code_line(line: u32) -> bool
+    ensures { result ≡ is_code_line line }
+{
+    FIRST_LINE <= line && line <= LAST_LINE
+}
 
 /// Whether it has columns of a line with code words, in one of this many fields.
 fn is_entry(count: usize, entry: &LdvbiErased) -> bool
     ensures { result ≡ is_entry count entry.now }
 {
-    (entry.field as usize) < count
-        && FIRST_LINE <= entry.line
-        && entry.line <= LAST_LINE
-        && entry.first <= entry.last
+    (entry.field as usize) < count && is_code_line(entry.line) && entry.first <= entry.last
 }
 
 /// Whether an entry may stand after another.
 fn may_follow(before: &LdvbiErased, entry: &LdvbiErased) -> bool
     ensures { result ≡ may_follow before.now entry.now }
 {
-    if before.field != entry.field {
-        before.field < entry.field
-    } else if before.line != entry.line {
-        before.line < entry.line
-    } else {
-        before.first <= entry.first
-    }
+    (before.field, before.line, before.first) <= (entry.field, entry.line, entry.first)
 }
 
 /// Whether each entry may stand after the one before it.
@@ -88,14 +82,12 @@ pub(crate) fn is_taken(count: usize, list: &[LdvbiErased]) -> bool
 pub(crate) fn with_erased(
     count: usize,
     list: &[LdvbiErased],
-    asked: Result<Setup, Refusal>,
-) -> Result<Setup, Refusal>
+    asked: Settled<Setup>,
+) -> Settled<Setup>
     ensures { result ≡ with_erased count list.now asked }
 {
     let setup = asked?;
-    if !is_taken(count, list) {
-        return Err(Refusal::Erased);
-    }
+    refuse_unless(is_taken(count, list), Refusal::Erased)?;
     Ok(setup)
 }
 

@@ -1,43 +1,23 @@
-//! Judging the numbers of fields.
+//! Judging the numbers of fields, of one field by those around it, and the pace of a capture.
 
-ghost use Rattle.std.specs.Prelude.{◌≡◌, ◌≢◌, ◌<◌, ◌≤◌, length, map, IfOk, Some, None, Ok};
+ghost use Rattle.std.specs.Prelude.{◌≡◌, ◌<◌, ◌≤◌, ◌==◌, length, map, Some, None, Ok};
 ghost use Rattle.vbi_side.specs.declared.pace.Pace as paces;
 ghost use Rattle.vbi_side.specs.Numbers.{IsFirst};
-ghost use Rattle.vbi_c.specs.Judging.{counted_of, asked_of, judging_of, shown_by, seen_in, AreJudged};
-ghost use Rattle.vbi_c.specs.Judging.{are_as_long, with_lengths, with_pace};
-ghost use Rattle.vbi_c.specs.Setups.{system_of};
-ghost use Rattle.vbi_c.specs.Statuses.{status_of};
+ghost use Rattle.vbi_side.specs.Parts.{part_most};
+ghost use Rattle.vbi_c.specs.Judging.{judging_of, shown_by, seen_in, AreJudged, are_as_long, with_lengths, with_pace};
+ghost use Rattle.vbi_c.specs.Judging.{IsAskedPace, one_judging_of, IsJudgedField};
+ghost use Rattle.vbi_c.specs.Numbers.{system_of, counted_of, pace_for_c};
+ghost use Rattle.vbi_c.specs.Statuses.{Answers};
 
-use crate::fields::LdvbiFieldReadings;
-use crate::reading::LdvbiReading;
-use crate::setup::system_of;
-use crate::status::{DONE, Refusal};
+use crate::numbers::{asked_of, counted_of, given_of, pace_for_c, system_of};
+use crate::reading::{LdvbiFieldReadings, LdvbiReading};
+use crate::status::{DONE, Refusal, Settled, answer, refuse_unless};
 pub(crate) use vbi_seek::{Asked, Judging, pace_for};
-use vbi_side::{Counted, Number, Pace, Shown, Sightings, first_of, judge, sightings};
+use vbi_side::{Number, PART, Shown, Sightings, first_of, judge, judge_one, sightings};
 use vbi_words::{System, Word24};
 
-/// What is counted, by its number: 1 for pictures, 2 for times.
-pub(crate) fn counted_of(number: u32) -> Option<Counted>
-    ensures { result ≡ counted_of number }
-{
-    match number {
-        1 => Some(Counted::Pictures),
-        2 => Some(Counted::Times),
-        _ => None,
-    }
-}
-
-/// The pace that is asked for, by its number: 1 for that of video, 2 for that of film, 3 for the one that is found.
-pub(crate) fn asked_of(number: u32) -> Option<Asked>
-    ensures { result ≡ asked_of number }
-{
-    match number {
-        1 => Some(Asked::Given(Pace::Video)),
-        2 => Some(Asked::Given(Pace::Film)),
-        3 => Some(Asked::Found),
-        _ => None,
-    }
-}
+/// The number by which C asks for a pace that is to be found.
+const FIND: u32 = 3;
 
 /// Whether both other arrays of a call are as long as its first.
 pub(crate) fn are_as_long(count: usize, first: usize, second: usize) -> bool
@@ -47,22 +27,16 @@ pub(crate) fn are_as_long(count: usize, first: usize, second: usize) -> bool
 }
 
 /// The system of a number, if the lengths of the arrays fit, or why the call is refused.
-pub(crate) fn with_lengths(system: u32, fit: bool) -> Result<System, Refusal>
+pub(crate) fn with_lengths(system: u32, fit: bool) -> Settled<System>
     ensures { result ≡ with_lengths (system_of system) fit }
 {
     let system = system_of(system).ok_or(Refusal::System)?;
-    if !fit {
-        return Err(Refusal::Length);
-    }
+    refuse_unless(fit, Refusal::Length)?;
     Ok(system)
 }
 
 /// What is to be judged of a system, by the number of what is counted and the pace, or why the call is refused.
-pub(crate) fn with_pace(
-    system: System,
-    counted: u32,
-    asked: Option<Asked>,
-) -> Result<Judging, Refusal>
+pub(crate) fn with_pace(system: System, counted: u32, asked: Option<Asked>) -> Settled<Judging>
     ensures { result ≡ with_pace (Ok system) (counted_of counted) asked }
 {
     let counted = counted_of(counted).ok_or(Refusal::Counted)?;
@@ -75,16 +49,10 @@ pub(crate) fn with_pace(
 }
 
 /// What these numbers ask for, if the lengths of the arrays fit, or why they are refused.
-pub(crate) fn judging_of(
-    system: u32,
-    counted: u32,
-    pace: u32,
-    fit: bool,
-) -> Result<Judging, Refusal>
+fn judging_of(system: u32, counted: u32, pace: u32, fit: bool) -> Settled<Judging>
     ensures { result ≡ judging_of system counted pace fit }
 {
-    let system = with_lengths(system, fit)?;
-    with_pace(system, counted, asked_of(pace))
+    with_pace(with_lengths(system, fit)?, counted, asked_of(pace))
 }
 
 /// What a line shows by its reading, of which C may have made anything.
@@ -127,15 +95,11 @@ pub extern "C" fn ldvbi_judge(
     seen: &mut [Sightings],
     numbers: &mut [Number],
 ) -> u32
-    ensures status { result ≡ status_of (judging_of system counted pace
-        (are_as_long (length readings.now) (length seen.old) (length numbers.old))) }
-    ensures sees { IfOk (judging_of system counted pace
-        (are_as_long (length readings.now) (length seen.old) (length numbers.old)))
-        (λ judging. seen.new ≡ map (seen_in judging) readings.now) }
-    ensures judges { IfOk (judging_of system counted pace
-        (are_as_long (length readings.now) (length seen.old) (length numbers.old)))
-        (λ judging. (pace : paces.Pace) × AreJudged judging readings.now seen.new numbers.new pace) }
-    ensures unwritten { result ≢ 0 → (seen.new ≡ seen.old) × (numbers.new ≡ numbers.old) }
+    ensures judges { Answers (judging_of system counted pace
+        (are_as_long (length readings.now) (length seen.old) (length numbers.old))) result
+        (λ judging. (seen.new ≡ map (seen_in judging) readings.now)
+        × (pace : paces.Pace) × AreJudged judging readings.now seen.new numbers.new pace)
+        ((seen.new ≡ seen.old) × (numbers.new ≡ numbers.old)) }
 {
     let fit = are_as_long(readings.len(), seen.len(), numbers.len());
     match judging_of(system, counted, pace, fit) {
@@ -160,4 +124,78 @@ pub extern "C" fn ldvbi_first_of(numbers: &[Number], number: u32) -> usize
         Some(field) => field,
         None => numbers.len(),
     }
+}
+
+/// The pace that `ldvbi_judge` takes if it is to find one, 1 or 2. What is read of each field goes to `seen`, which
+/// is as long as `readings`.
+#[unsafe(no_mangle)]
+pub extern "C" fn ldvbi_find_pace(
+    system: u32,
+    counted: u32,
+    readings: &[LdvbiFieldReadings],
+    seen: &mut [Sightings],
+    pace: &mut u32,
+) -> u32
+    ensures finds { Answers (judging_of system counted 3 (length seen.old == length readings.now)) result
+        (λ judging. (seen.new ≡ map (seen_in judging) readings.now)
+        × (found : paces.Pace) × IsAskedPace judging seen.new found × (pace.new ≡ pace_for_c found))
+        ((seen.new ≡ seen.old) × (pace.new ≡ pace.old)) }
+{
+    match judging_of(system, counted, FIND, seen.len() == readings.len()) {
+        Ok(judging) => {
+            see_all(&judging, readings, seen);
+            *pace = pace_for_c(pace_for(&judging, seen));
+            DONE
+        }
+        Err(refusal) => refusal.status(),
+    }
+}
+
+/// What these numbers ask for of one field, or why they are refused.
+fn one_judging_of(
+    system: u32,
+    counted: u32,
+    pace: u32,
+    count: usize,
+    field: usize,
+) -> Settled<Judging>
+    ensures { result ≡ one_judging_of system counted pace count field }
+{
+    let system = with_lengths(system, count <= PART && field < count)?;
+    with_pace(system, counted, given_of(pace))
+}
+
+/// The answer for one of at most 97 fields.
+fn answer_of(judging: &Judging, readings: &[LdvbiFieldReadings], field: usize) -> Number
+    requires few { length readings.now ≤ part_most }
+    requires inside { field < length readings.now }
+    ensures { (pace : paces.Pace) × IsJudgedField judging.now readings.now field result pace }
+{
+    // What each field shows is put over this.
+    let mut all_seen = [seen_in(judging, &readings[field]); PART];
+    let seen = &mut all_seen[..readings.len()];
+    see_all(judging, readings, seen);
+    judge_one(seen, pace_for(judging, seen), field)
+}
+
+/// Judges which number of its disc one field shows, counted from 0, by the readings of at most 97 that follow each
+/// other. What is answered is what `ldvbi_judge` answers of it, of these fields at this pace, and also of a whole
+/// capture of which they are a part: if they have 48 fields before this one, or all that the capture has, and so
+/// after it. The pace is 1 or 2: a few fields have none of their own.
+#[unsafe(no_mangle)]
+pub extern "C" fn ldvbi_judge_field(
+    system: u32,
+    counted: u32,
+    pace: u32,
+    readings: &[LdvbiFieldReadings],
+    field: usize,
+    number: &mut Number,
+) -> u32
+    ensures judges { Answers (one_judging_of system counted pace (length readings.now) field) result
+        (λ judging. (given : paces.Pace) × IsJudgedField judging readings.now field number.new given)
+        (number.new ≡ number.old) }
+{
+    let judging = one_judging_of(system, counted, pace, readings.len(), field);
+    let found = judging.map(|judging| answer_of(&judging, readings, field));
+    answer(found, number)
 }

@@ -9,64 +9,60 @@
 //! between two calls, so calls from several threads don't meet.
 #![tactic(auto)]
 
-mod aside;
-pub mod chapter_laws;
-mod chapters;
-mod clock;
-mod code;
 mod completing;
-mod drawing;
-mod ends;
 mod erased;
-mod fields;
-mod format;
+mod field_codes;
 mod judging;
 pub mod laws;
-mod line;
-mod nearest;
-mod one_field;
-mod pace;
+mod numbers;
 mod piling;
 mod plan;
 mod reading;
-mod record;
 mod recovering;
-pub mod refusal_laws;
 mod seeking;
 mod setup;
 mod sizes;
 mod status;
-mod stops;
 mod version;
 pub mod whole_laws;
 mod whole_side;
-mod word;
+mod words;
 
-pub use aside::ldvbi_set_aside;
-pub use chapters::ldvbi_judge_chapters;
-pub use clock::LdvbiClock;
-pub use code::{LdvbiCode, ldvbi_classify};
 pub use completing::ldvbi_complete_times;
-pub use drawing::ldvbi_draw_line;
-pub use ends::ldvbi_judge_ends;
 pub use erased::LdvbiErased;
-pub use fields::{LdvbiFieldReadings, ldvbi_read_field, ldvbi_read_fields, ldvbi_read_rows};
-pub use format::ldvbi_format;
-pub use judging::{ldvbi_first_of, ldvbi_judge};
-pub use line::ldvbi_read_line;
-pub use nearest::{LdvbiNear, ldvbi_nearest};
-pub use one_field::ldvbi_judge_field;
-pub use pace::ldvbi_find_pace;
-pub use piling::ldvbi_recover_pile;
-pub use plan::{
-    DISORDERED, HIDDEN, LdvbiChecked, MISPLACED, NOT_THERE, PLANNED, TWICE, ldvbi_check_plan,
+pub use field_codes::{ldvbi_judge_chapters, ldvbi_judge_ends, ldvbi_judge_stops};
+pub use judging::{ldvbi_find_pace, ldvbi_first_of, ldvbi_judge, ldvbi_judge_field};
+pub use numbers::{LdvbiClock, LdvbiCode};
+pub use piling::{LdvbiNear, ldvbi_nearest, ldvbi_recover_pile};
+pub use plan::{LdvbiChecked, ldvbi_check_plan};
+pub use reading::{
+    LdvbiFieldReadings, LdvbiReading, ldvbi_read_field, ldvbi_read_fields, ldvbi_read_line,
+    ldvbi_read_rows,
 };
-pub use reading::LdvbiReading;
-pub use record::{LdvbiRecord, ldvbi_recovered_record};
-pub use recovering::{ldvbi_recover_fields, ldvbi_recover_rows};
+pub use recovering::{
+    LdvbiRecord, ldvbi_recover_fields, ldvbi_recover_rows, ldvbi_recovered_record,
+};
 pub use seeking::{LdvbiSought, ldvbi_next_stop, ldvbi_seek, ldvbi_seek_chapter};
 pub use sizes::{ldvbi_field_bytes, ldvbi_line_bytes, ldvbi_line_samples, ldvbi_lines};
-pub use stops::ldvbi_judge_stops;
+use std::mem::size_of;
 pub use vbi_seek::{FoundField as LdvbiPlace, Neighbour as LdvbiNeighbour};
 pub use version::{ldvbi_abi, ldvbi_version};
-pub use whole_side::{LdvbiSide, LdvbiSideRule, ldvbi_find_both, ldvbi_find_clock, ldvbi_judge_side};
+pub use whole_side::{
+    LdvbiSide, LdvbiSideRule, ldvbi_find_both, ldvbi_find_clock, ldvbi_judge_side, ldvbi_set_aside,
+};
+pub use words::{ldvbi_classify, ldvbi_draw_line, ldvbi_format};
+
+// As include/ldvbi.h has them
+const _: () = prove!(
+    size_of::<LdvbiChecked>() == 16
+        && size_of::<LdvbiClock>() == 12
+        && size_of::<LdvbiCode>() == 12
+        && size_of::<LdvbiErased>() == 16
+        && size_of::<LdvbiFieldReadings>() == 24
+        && size_of::<LdvbiNear>() == 32
+        && size_of::<LdvbiReading>() == 8
+        && size_of::<LdvbiRecord>() == 452
+        && size_of::<LdvbiSide>() == 152
+        && size_of::<LdvbiSideRule>() == 28
+        && size_of::<LdvbiSought>() == 56
+);

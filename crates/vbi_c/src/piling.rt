@@ -1,21 +1,73 @@
-//! The word that lines say together which all have one word, or none.
+//! The nearest word of lines that all have one word, or none, and the word that they say together.
 
-ghost use Rattle.std.specs.Prelude.{◌≡◌, ◌≢◌, ◌*◌, ◌≤◌, ◌+◌, ◌-◌, ◌/◌, ◌==◌, length, take, drop, IfOk, IsTrue};
+ghost use Rattle.std.specs.Prelude.{◌≡◌, ◌<◌, length, ◌*◌, ◌≤◌, ◌+◌, ◌/◌, ◌==◌, take, drop, IfOk, IsTrue};
 ghost use Rattle.std.specs.List.{list_all};
 ghost use Rattle.vbi_words.specs.Geometry.{line_bytes, width_of};
+ghost use Rattle.vbi_c.specs.Nearest.{near_for_c, IsNearestOf};
+ghost use Rattle.vbi_c.specs.Setups.{lines_setup};
+ghost use Rattle.vbi_c.specs.Statuses.{Answers};
 ghost use Rattle.vbi_c.specs.Erased.{is_code_line, is_taken};
-ghost use Rattle.vbi_c.specs.Piling.{is_list_of, refuse_line, refuse_known, refuse_list, pile_setup, IsWordOf};
-ghost use Rattle.vbi_c.specs.Piling.{HasMarks, lines_as, rows_erased};
-ghost use Rattle.vbi_c.specs.Statuses.{status_of};
+ghost use Rattle.vbi_c.specs.Piling.{is_list_of, pile_setup, IsWordOf, HasMarks, rows_erased};
 
-use crate::erased::{FIRST_LINE, LAST_LINE, LdvbiErased, is_taken, mark_field};
+use crate::erased::{FIRST_LINE, LdvbiErased, is_code_line, is_taken, mark_field};
+use crate::recovering::WIDEST;
 use crate::setup::{MOST_LINES, Setup, lines_setup};
-use crate::status::{DONE, Refusal};
-use vbi_near::{marks_of_line, recover_pile};
+use crate::status::{DONE, Refusal, Settled, answer, refuse_unless};
+use vbi_near::{Near, marks_of_line, nearest_of_lines, recover_pile};
 use vbi_words::System;
 
-/// The samples of the longest line, that of PAL.
-const WIDEST: usize = 1135;
+/// The word that is nearest to some lines, and how near others are.
+#[derive(Clone, Copy)]
+#[repr(C)]
+pub struct LdvbiNear {
+    /// The word, from 0x800000 to 0xFFFFFF, or 0 if the row of none is nearest.
+    pub word: u32,
+    /// The column, counted from 0, at which the word begins; 0 if there is none.
+    pub start: u32,
+    /// How far the samples are from those of the word's drawn row, in sum.
+    pub distance: u64,
+    /// The same of the nearest drawn row of another word, or of none.
+    pub rival: u64,
+    /// The same of the nearest drawn row on which the word goes on by one cell; the distance if there is no word.
+    pub longer: u64,
+}
+
+/// The nearest word as C sees it.
+fn near_for_c(near: Near) -> LdvbiNear
+    requires { near.start < 285 }
+    ensures { result ≡ near_for_c near }
+{
+    LdvbiNear {
+        word: near.word.map_or(0, |word| word.value()),
+        start: near.start as u32,
+        distance: u64::from(near.distance),
+        rival: u64::from(near.rival),
+        longer: u64::from(near.longer),
+    }
+}
+
+/// The nearest word of 1 to 28 lines of `ldvbi_line_bytes(system)` bytes, one after the other, which all have one word
+/// or none.
+#[unsafe(no_mangle)]
+pub extern "C" fn ldvbi_nearest(
+    system: u32,
+    black: u32,
+    white: u32,
+    bytes: &[u8],
+    near: &mut LdvbiNear,
+) -> u32
+    ensures nearest { Answers (lines_setup system black white (length bytes.now)) result
+        (λ setup. IsNearestOf setup bytes.now near.new) (near.new ≡ near.old) }
+{
+    match lines_setup(system, black, white, bytes.len()) {
+        Ok(setup) => {
+            let count = bytes.len() / setup.system.line_bytes();
+            *near = near_for_c(nearest_of_lines(setup.system, setup.levels, bytes, count));
+            DONE
+        }
+        Err(refusal) => refusal.status(),
+    }
+}
 
 /// Whether each entry is of a line of this number.
 fn are_of_line(line: u32, list: &[LdvbiErased]) -> bool
@@ -31,82 +83,30 @@ fn is_list_of(line: u32, count: usize, list: &[LdvbiErased]) -> bool
     is_taken(count, list) && are_of_line(line, list)
 }
 
-/// Refuses a call whose line has no code words, unless it was refused before; else passes its setup on.
-fn refuse_line(line: u32, asked: Result<Setup, Refusal>) -> Result<Setup, Refusal>
-    ensures { result ≡ refuse_line line asked }
-{
-    let setup = asked?;
-    if line < FIRST_LINE || line > LAST_LINE {
-        return Err(Refusal::Line);
-    }
-    Ok(setup)
-}
-
-/// Refuses one that says neither that dropouts are known nor that they aren't.
-fn refuse_known(known: u32, asked: Result<Setup, Refusal>) -> Result<Setup, Refusal>
-    ensures { result ≡ refuse_known known asked }
-{
-    let setup = asked?;
-    if known > 1 {
-        return Err(Refusal::Known);
-    }
-    Ok(setup)
-}
-
-/// Refuses one whose list of erased columns is of other lines, or isn't in order.
-fn refuse_list(
-    line: u32,
-    length: usize,
-    list: &[LdvbiErased],
-    asked: Result<Setup, Refusal>,
-) -> Result<Setup, Refusal>
-    ensures { result ≡ refuse_list line length list.now asked }
-{
-    let setup = asked?;
-    if !is_list_of(line, length / setup.system.line_bytes(), list) {
-        return Err(Refusal::Erased);
-    }
-    Ok(setup)
-}
-
-/// What a call says of its lines.
-#[derive(Clone, Copy)]
-struct Lines {
-    /// The number that they all have.
-    line: u32,
-    /// Whether their dropouts are known: 0 or 1.
-    known: u32,
-    /// How many bytes they have.
-    length: usize,
-}
-
-/// The setup of a call with lines of one number, or why the call is refused.
+/// The setup of a call with this many bytes, of lines that all have this number, whose dropouts are known, by 1, or
+/// not, by 0; or why the call is refused.
 fn pile_setup(
     system: u32,
     black: u32,
     white: u32,
-    lines: Lines,
+    line: u32,
+    known: u32,
+    length: usize,
     list: &[LdvbiErased],
-) -> Result<Setup, Refusal>
-    ensures setup { result ≡ pile_setup system black white lines list.now }
+) -> Settled<Setup>
+    ensures setup { result ≡ pile_setup system black white line known length list.now }
     ensures lines { IfOk result (λ setup.
-        (lines.length ≡ lines.length / line_bytes setup.system * line_bytes setup.system)
-        × (lines.length / line_bytes setup.system ≤ 28)) }
-    ensures line { IfOk result (λ setup. IsTrue (is_code_line lines.line)) }
-    ensures list { IfOk result (λ setup. IsTrue (is_taken (lines.length / line_bytes setup.system) list.now)) }
+        (length ≡ length / line_bytes setup.system * line_bytes setup.system)
+        × (length / line_bytes setup.system ≤ 28)) }
+    ensures line { IfOk result (λ setup. IsTrue (is_code_line line)) }
+    ensures list { IfOk result (λ setup. IsTrue (is_taken (length / line_bytes setup.system) list.now)) }
 {
-    let Lines {
-        line,
-        known,
-        length,
-    } = lines;
-    let asked = lines_setup(system, black, white, length);
-    refuse_list(
-        line,
-        length,
-        list,
-        refuse_known(known, refuse_line(line, asked)),
-    )
+    let setup = lines_setup(system, black, white, length)?;
+    refuse_unless(is_code_line(line), Refusal::Line)?;
+    refuse_unless(known <= 1, Refusal::Known)?;
+    let count = length / setup.system.line_bytes();
+    refuse_unless(is_list_of(line, count, list), Refusal::Erased)?;
+    Ok(setup)
 }
 
 /// Writes the marks of a line from this place on.
@@ -171,22 +171,11 @@ pub extern "C" fn ldvbi_recover_pile(
     erased: &[LdvbiErased],
     word: &mut u32,
 ) -> u32
-    ensures status { result ≡ status_of (pile_setup system black white (lines_as line known (length bytes.now))
-        erased.now) }
-    ensures recovers { IfOk (pile_setup system black white (lines_as line known (length bytes.now)) erased.now)
-        (λ setup. IsWordOf setup line known (rows_erased setup.system line bytes.now erased.now) word.new) }
-    ensures unwritten { result ≢ 0 → word.new ≡ word.old }
+    ensures recovers { Answers (pile_setup system black white line known (length bytes.now) erased.now) result
+        (λ setup. IsWordOf setup line known (rows_erased setup.system line bytes.now erased.now) word.new)
+        (word.new ≡ word.old) }
 {
-    let lines = Lines {
-        line,
-        known,
-        length: bytes.len(),
-    };
-    match pile_setup(system, black, white, lines, erased) {
-        Ok(setup) => {
-            *word = word_of(&setup, line, known, bytes, erased);
-            DONE
-        }
-        Err(refusal) => refusal.status(),
-    }
+    let setup = pile_setup(system, black, white, line, known, bytes.len(), erased);
+    let found = setup.map(|setup| word_of(&setup, line, known, bytes, erased));
+    answer(found, word)
 }

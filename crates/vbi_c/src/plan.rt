@@ -1,27 +1,13 @@
 //! The plan of a file made from several captures, as C asks about it.
 
-ghost use Rattle.std.specs.Prelude.{◌≡◌, ◌≢◌, IfOk};
-ghost use Rattle.vbi_c.specs.Plans.{spacing_given, layout_of, rule_for_c, checked_for_c, IsChecked};
-ghost use Rattle.vbi_c.specs.Statuses.{status_of};
+ghost use Rattle.std.specs.Prelude.{◌≡◌};
+ghost use Rattle.vbi_c.specs.Plans.{layout_of, checked_for_c, IsChecked};
+ghost use Rattle.vbi_c.specs.Statuses.{Answers};
 
-use crate::clock::{LdvbiClock, clock_given};
-use crate::status::{DONE, Refusal};
-use std::mem::size_of;
-use vbi_plan::{Capture, Layout, Plan, PlanFault, PlanRule, Spacing, Stretch, check_plan};
+use crate::numbers::{LdvbiClock, clock_given, rule_for_c, spacing_given};
+use crate::status::{DONE, Refusal, Settled};
+use vbi_plan::{Capture, Layout, Plan, PlanFault, Stretch, check_plan};
 use vbi_side::Number;
-
-/// The plan is done.
-pub const PLANNED: u32 = 0;
-/// A stretch has no field, fewer than numbers, or a number before that of an earlier stretch.
-pub const DISORDERED: u32 = 1;
-/// A stretch takes fields that its capture hasn't.
-pub const NOT_THERE: u32 = 2;
-/// A stretch takes a field that was taken before.
-pub const TWICE: u32 = 3;
-/// A number that a stretch shows is out of its place.
-pub const MISPLACED: u32 = 4;
-/// Padding stands for a number that a capture has.
-pub const HIDDEN: u32 = 5;
 
 /// What is found of a plan.
 #[derive(Clone, Copy)]
@@ -29,28 +15,14 @@ pub const HIDDEN: u32 = 5;
 pub struct LdvbiChecked {
     /// The first stretch that isn't as it should be, counted from 0; as many as there are if each is.
     pub stretch: usize,
-    /// The rule that it breaks: `DISORDERED`, `NOT_THERE`, `TWICE`, `MISPLACED` or `HIDDEN`; else `PLANNED`.
+    /// The rule that it breaks: 1 if it has no field, fewer than numbers, or a number before that of an earlier
+    /// stretch, 2 if it takes fields that its capture hasn't, 3 a field that was taken before, 4 if a number that it
+    /// shows is out of its place, 5 if padding stands for a number that a capture has; else 0.
     pub rule: u32,
 }
 
-// As include/ldvbi.h has it.
-const _: () = prove!(size_of::<LdvbiChecked>() == 16);
-
-/// The spacing of this number.
-fn spacing_given(number: u32) -> Option<Spacing>
-    ensures { result ≡ spacing_given number }
-{
-    match number {
-        1 => Some(Spacing::Video),
-        2 => Some(Spacing::Film),
-        3 => Some(Spacing::Both),
-        4 => Some(Spacing::Rising),
-        _ => None,
-    }
-}
-
 /// The layout that these numbers ask for, or why they are refused.
-fn layout_of(spacing: u32, clock: &LdvbiClock, begin: usize, end: u32) -> Result<Layout, Refusal>
+fn layout_of(spacing: u32, clock: &LdvbiClock, begin: usize, end: u32) -> Settled<Layout>
     ensures { result ≡ layout_of spacing clock.now begin end }
 {
     let spacing = spacing_given(spacing).ok_or(Refusal::Pace)?;
@@ -61,19 +33,6 @@ fn layout_of(spacing: u32, clock: &LdvbiClock, begin: usize, end: u32) -> Result
         begin,
         end,
     })
-}
-
-/// The number of a rule.
-fn rule_for_c(rule: PlanRule) -> u32
-    ensures { result ≡ rule_for_c rule }
-{
-    match rule {
-        PlanRule::Disordered => DISORDERED,
-        PlanRule::NotThere => NOT_THERE,
-        PlanRule::Twice => TWICE,
-        PlanRule::Misplaced => MISPLACED,
-        PlanRule::Hidden => HIDDEN,
-    }
 }
 
 /// What is found of a plan of so many stretches.
@@ -87,7 +46,7 @@ fn checked_for_c(stretches: usize, fault: Option<PlanFault>) -> LdvbiChecked
         },
         None => LdvbiChecked {
             stretch: stretches,
-            rule: PLANNED,
+            rule: 0,
         },
     }
 }
@@ -105,15 +64,13 @@ pub extern "C" fn ldvbi_check_plan(
     plan: &[Stretch],
     checked: &mut LdvbiChecked,
 ) -> u32
-    ensures status { result ≡ status_of (layout_of spacing clock.now begin end) }
-    ensures checks { IfOk (layout_of spacing clock.now begin end)
+    ensures checks { Answers (layout_of spacing clock.now begin end) result
         (λ layout. IsChecked (record {
           layout = layout;
           numbers = numbers.now;
           captures = captures.now;
           stretches = plan.now;
-        }) checked.new) }
-    ensures unwritten { result ≢ 0 → checked.new ≡ checked.old }
+        }) checked.new) (checked.new ≡ checked.old) }
 {
     match layout_of(spacing, clock, begin, end) {
         Ok(layout) => {

@@ -1,6 +1,6 @@
 //! Seeking a number, a chapter or the next picture stop in the bytes of a side.
 
-ghost use Rattle.std.specs.Prelude.{◌≡◌, ◌≢◌, IfOk};
+ghost use Rattle.std.specs.Prelude.{◌≡◌};
 ghost use Rattle.vbi_seek.specs.declared.number_search.Sought as numbers;
 ghost use Rattle.vbi_seek.specs.ChapterLeads.{IsChapterComplete};
 ghost use Rattle.vbi_seek.specs.ChapterSearch.{IsChapterSought};
@@ -9,17 +9,16 @@ ghost use Rattle.vbi_seek.specs.NumberLeads.{IsComplete};
 ghost use Rattle.vbi_seek.specs.Neighbours.{AreBeside};
 ghost use Rattle.vbi_seek.specs.NumberSearch.{IsSought};
 ghost use Rattle.vbi_seek.specs.StopSearch.{IsNextStop};
-ghost use Rattle.vbi_c.specs.Seeking.{seek_of, sought_pace, sought_for_c};
+ghost use Rattle.vbi_c.specs.Seeking.{seek_of, sought_for_c};
 ghost use Rattle.vbi_c.specs.Setups.{setup_of};
-ghost use Rattle.vbi_c.specs.Statuses.{status_of};
+ghost use Rattle.vbi_c.specs.Statuses.{Answers};
 
-use crate::judging::{asked_of, with_pace};
-use crate::pace::pace_for_c;
+use crate::judging::with_pace;
+use crate::numbers::{asked_of, sought_pace};
 use crate::setup::setup_of;
-use crate::status::{DONE, Refusal};
-use std::mem::size_of;
+use crate::status::{DONE, Settled, answer};
 use vbi_seek::{FoundField, Neighbour, Seek, Sought, next_stop, seek_chapter, seek_number};
-use vbi_side::{Number, Pace};
+use vbi_side::Number;
 
 /// Where a number was found.
 #[derive(Clone, Copy)]
@@ -39,26 +38,13 @@ pub struct LdvbiSought {
     pub after: Neighbour,
 }
 
-// As include/ldvbi.h has it.
-const _: () = prove!(size_of::<LdvbiSought>() == 56);
-
 /// What these numbers ask for, or why they are refused.
-fn seek_of(system: u32, black: u32, white: u32, counted: u32, pace: u32) -> Result<Seek, Refusal>
+fn seek_of(system: u32, black: u32, white: u32, counted: u32, pace: u32) -> Settled<Seek>
     ensures { result ≡ seek_of system black white counted pace }
 {
     let setup = setup_of(system, black, white)?;
     let judging = with_pace(setup.system, counted, asked_of(pace))?;
     Ok(Seek { setup, judging })
-}
-
-/// The pace of a number that was sought, as C sees it.
-fn sought_pace(pace: Option<Pace>) -> u32
-    ensures { result ≡ sought_pace pace }
-{
-    match pace {
-        Some(pace) => pace_for_c(pace),
-        None => 0,
-    }
 }
 
 /// A number that was sought, as C sees it.
@@ -90,19 +76,13 @@ pub extern "C" fn ldvbi_seek(
     number: u32,
     sought: &mut LdvbiSought,
 ) -> u32
-    ensures status { result ≡ status_of (seek_of system black white counted pace) }
-    ensures seeks { IfOk (seek_of system black white counted pace) (λ seek. (found : numbers.Sought)
+    ensures seeks { Answers (seek_of system black white counted pace) result (λ seek. (found : numbers.Sought)
         × IsSought seek bytes.now number found × IsComplete seek bytes.now number found
-        × AreBeside seek bytes.now number found × (sought.new ≡ sought_for_c found)) }
-    ensures unwritten { result ≢ 0 → sought.new ≡ sought.old }
+        × AreBeside seek bytes.now number found × (sought.new ≡ sought_for_c found)) (sought.new ≡ sought.old) }
 {
-    match seek_of(system, black, white, counted, pace) {
-        Ok(seek) => {
-            *sought = sought_for_c(seek_number(seek, bytes, number));
-            DONE
-        }
-        Err(refusal) => refusal.status(),
-    }
+    let seek = seek_of(system, black, white, counted, pace);
+    let found = seek.map(|seek| sought_for_c(seek_number(seek, bytes, number)));
+    answer(found, sought)
 }
 
 /// Seeks a chapter in the bytes of a side: a field of which `ldvbi_judge_chapters` believes it, by what
@@ -117,12 +97,9 @@ pub extern "C" fn ldvbi_seek_chapter(
     chapter: u32,
     place: &mut FoundField,
 ) -> u32
-    ensures status { result ≡ status_of (setup_of system black white) }
-    ensures seeks { IfOk (setup_of system black white) (λ setup.
-        IsChapterSought (side_in setup bytes.now) chapter place.new) }
-    ensures complete { IfOk (setup_of system black white) (λ setup.
-        IsChapterComplete (side_in setup bytes.now) chapter place.new) }
-    ensures unwritten { result ≢ 0 → place.new ≡ place.old }
+    ensures seeks { Answers (setup_of system black white) result
+        (λ setup. IsChapterSought (side_in setup bytes.now) chapter place.new
+        × IsChapterComplete (side_in setup bytes.now) chapter place.new) (place.new ≡ place.old) }
 {
     match setup_of(system, black, white) {
         Ok(setup) => {
@@ -146,16 +123,10 @@ pub extern "C" fn ldvbi_next_stop(
     most: usize,
     stop: &mut FoundField,
 ) -> u32
-    ensures status { result ≡ status_of (setup_of system black white) }
-    ensures finds { IfOk (setup_of system black white) (λ setup.
-        IsNextStop (side_in setup bytes.now) field most stop.new) }
-    ensures unwritten { result ≢ 0 → stop.new ≡ stop.old }
+    ensures finds { Answers (setup_of system black white) result
+        (λ setup. IsNextStop (side_in setup bytes.now) field most stop.new) (stop.new ≡ stop.old) }
 {
-    match setup_of(system, black, white) {
-        Ok(setup) => {
-            *stop = next_stop(setup, bytes, field, most);
-            DONE
-        }
-        Err(refusal) => refusal.status(),
-    }
+    let setup = setup_of(system, black, white);
+    let found = setup.map(|setup| next_stop(setup, bytes, field, most));
+    answer(found, stop)
 }

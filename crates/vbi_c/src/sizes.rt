@@ -2,19 +2,16 @@
 
 ghost use Rattle.std.specs.Prelude.{◌≡◌};
 ghost use Rattle.vbi_words.specs.Geometry.{width_of, height_of, line_bytes, field_bytes};
-ghost use Rattle.vbi_c.specs.Setups.{system_of, of_system};
+ghost use Rattle.vbi_c.specs.Numbers.{system_of, of_system};
 
-use crate::setup::system_of;
+use crate::numbers::system_of;
 
 /// The samples of a line, or 0 if there is no system of that number.
 #[unsafe(no_mangle)]
 pub extern "C" fn ldvbi_line_samples(system: u32) -> usize
     ensures { result ≡ of_system width_of (system_of system) }
 {
-    match system_of(system) {
-        Some(system) => system.width(),
-        None => 0,
-    }
+    system_of(system).map_or(0, |system| system.width())
 }
 
 /// The bytes of a line, or 0 if there is no system of that number.
@@ -22,10 +19,7 @@ pub extern "C" fn ldvbi_line_samples(system: u32) -> usize
 pub extern "C" fn ldvbi_line_bytes(system: u32) -> usize
     ensures { result ≡ of_system line_bytes (system_of system) }
 {
-    match system_of(system) {
-        Some(system) => system.line_bytes(),
-        None => 0,
-    }
+    system_of(system).map_or(0, |system| system.line_bytes())
 }
 
 /// The lines of a field, or 0 if there is no system of that number.
@@ -33,10 +27,7 @@ pub extern "C" fn ldvbi_line_bytes(system: u32) -> usize
 pub extern "C" fn ldvbi_lines(system: u32) -> usize
     ensures { result ≡ of_system height_of (system_of system) }
 {
-    match system_of(system) {
-        Some(system) => system.height(),
-        None => 0,
-    }
+    system_of(system).map_or(0, |system| system.height())
 }
 
 /// The bytes of a field, or 0 if there is no system of that number.
@@ -44,8 +35,5 @@ pub extern "C" fn ldvbi_lines(system: u32) -> usize
 pub extern "C" fn ldvbi_field_bytes(system: u32) -> usize
     ensures { result ≡ of_system field_bytes (system_of system) }
 {
-    match system_of(system) {
-        Some(system) => system.field_bytes(),
-        None => 0,
-    }
+    system_of(system).map_or(0, |system| system.field_bytes())
 }

@@ -18,15 +18,19 @@ ghost use Rattle.vbi_side.specs.Truth.{IsNear};
 ghost use Rattle.vbi_c.specs.declared.whole_side.LdvbiSideRule.{LdvbiSideRule};
 ghost use Rattle.vbi_c.specs.declared.whole_side.Siding.{Siding};
 ghost use Rattle.vbi_seek.specs.declared.asked.Asked.{Asked};
+ghost use Rattle.vbi_c.specs.CalledWhole.{Called, IsCalledWhole, AreClearEnds, AreFewLost};
+ghost use Rattle.vbi_c.specs.CleanSides.{IsJudgedClean, AsksVideo, AreChaptersRead, IsFirstPicture};
 ghost use Rattle.vbi_c.specs.DrawnSides.{drawn_numbers};
+ghost use Rattle.vbi_c.specs.Numbers.{clock_given, both_by};
+ghost use Rattle.vbi_c.specs.WholeSides.{siding_by};
 ghost use Rattle.vbi_seek.specs.declared.number_search.Sought.{Sought};
 ghost use Rattle.vbi_seek.specs.NumberLeads.{IsCompleteIn, number_spots};
 ghost use Rattle.vbi_seek.specs.Spots.{Leads};
 ghost use Rattle.vbi_seek.specs.NumberSearch.{Numbers, shown_of};
-ghost use Rattle.vbi_c.specs.Clocks.{clock_given};
-ghost use Rattle.vbi_c.specs.WholeSides.{siding_by, both_by};
-ghost use Rattle.vbi_c.specs.CalledWhole.{Called, IsCalledWhole, AreClearEnds, AreFewLost};
-ghost use Rattle.vbi_c.specs.CleanSides.{IsJudgedClean, AsksVideo};
+ghost use Rattle.vbi_seek.specs.declared.side_bytes.FoundField.{FoundField};
+ghost use Rattle.vbi_seek.specs.FieldLines.{Side};
+ghost use Rattle.vbi_seek.specs.ChapterLeads.{IsChapterComplete, chapter_spots};
+ghost use Rattle.vbi_seek.specs.ChapterSearch.{chapters_from};
 
 /// A call that isn't refused judges by the clock of its rule, and by none if the rule has none.
 pub fn clock_asked()
@@ -98,4 +102,17 @@ pub fn clean_leads()
 pub fn worked_leads()
     ensures { (system : System) (levels : Slicing) (asked : Asked) → levels.black < levels.white
         → Leads (number_spots (drawn_numbers system levels asked)) 2 2 0 2 }
+{}
+
+/// What the fields of a run of chapters tell leads a search to each of them, if the run has three fields more than a
+/// sixteenth of the side. So on a side of at most a million fields each is found in its first picture.
+pub fn chapters_read_lead()
+    ensures leads { (side : Side) (chapter : ℕ → ℕ) (begin last p : ℕ)
+        → AreChaptersRead chapter (chapters_from side 0 side.count) begin last → side.count + 16 ≤ 32 * last → p ≤ last
+        → IsFirstPicture chapter p
+        → Leads (chapter_spots side) (chapter p) (begin + 2 * p) (begin - 21) (begin + 2 * last - 2) }
+    ensures found { (side : Side) (chapter : ℕ → ℕ) (begin last p : ℕ)
+        (place : FoundField) → AreChaptersRead chapter (chapters_from side 0 side.count) begin last
+        → side.count + 16 ≤ 32 * last → p ≤ last → IsFirstPicture chapter p → side.count ≤ 1000000
+        → IsChapterComplete side (chapter p) place → place.field ≡ begin + 2 * p }
 {}

@@ -1,26 +1,26 @@
 //! The gaps of a side, the clock to which its numbers keep, and the verdict whether its capture is whole.
 
-ghost use Rattle.std.specs.Prelude.{◌≡◌, ◌≢◌, ◌≤◌, length, IfOk};
+ghost use Rattle.std.specs.Prelude.{◌≡◌, ◌≤◌, ◌-◌, ◌==◌, length};
 ghost use Rattle.vbi_side.specs.declared.clock.Clock as clocks;
 ghost use Rattle.vbi_side.specs.declared.pace.Pace as paces;
 ghost use Rattle.vbi_whole.specs.declared.verdict.Finding.{Finding};
-ghost use Rattle.vbi_whole.specs.Verdicts.{IsFinding};
-ghost use Rattle.vbi_c.specs.Clocks.{clock_for_c, IsClockFound};
-ghost use Rattle.vbi_c.specs.Judging.{are_as_long};
-ghost use Rattle.vbi_c.specs.WholeSides.{pace_given, siding_by, siding_with, numbering_of, both_by};
-ghost use Rattle.vbi_c.specs.WholeSides.{both_for_c, slack_by, may_end_by, judged_by};
-ghost use Rattle.vbi_c.specs.WholeSides.{verdict_for_c, reason, reasons_for_c, side_for_c};
-ghost use Rattle.vbi_c.specs.Statuses.{status_of};
+ghost use Rattle.vbi_whole.specs.AsideNumbers.{AreLeft};
 ghost use Rattle.vbi_whole.specs.Gaps.{rule_by};
+ghost use Rattle.vbi_whole.specs.Verdicts.{IsFinding, count_of};
+ghost use Rattle.vbi_c.specs.Judging.{are_as_long};
+ghost use Rattle.vbi_c.specs.Numbers.{both_for_c, may_end_by, clock_for_c};
+ghost use Rattle.vbi_c.specs.WholeSides.{siding_by, siding_with, numbering_of, slack_by, judged_by, side_for_c};
+ghost use Rattle.vbi_c.specs.WholeSides.{IsClockFound};
+ghost use Rattle.vbi_c.specs.Statuses.{Answers};
 
-use crate::clock::{LdvbiClock, clock_for_c, clock_given};
-use crate::judging::{are_as_long, counted_of, with_lengths};
-use crate::status::{DONE, Refusal};
-use std::mem::size_of;
+use crate::judging::{are_as_long, with_lengths};
+use crate::numbers::{
+    LdvbiClock, both_by, clock_for_c, clock_given, counted_of, pace_given, reasons_for_c, verdict_for_c,
+};
+use crate::status::{DONE, Refusal, Settled, answer};
 use vbi_side::{Clock, Number, Pace, Sightings};
 use vbi_whole::{
-    Finding, Gap, Numbering, Reasons, Rule, Side, Tally, Verdict, find_clock, is_on_both,
-    judge_whole,
+    Finding, Gap, Numbering, Rule, Side, Tally, find_clock, is_on_both, judge_whole, set_aside,
 };
 
 /// The rule by which a side is judged, in C's numbers.
@@ -38,9 +38,6 @@ pub struct LdvbiSideRule {
     /// Which numbers the disc leaves out.
     pub clock: LdvbiClock,
 }
-
-// As include/ldvbi.h has it.
-const _: () = prove!(size_of::<LdvbiSideRule>() == 28);
 
 /// What is said of a side, in C's numbers.
 #[derive(Clone, Copy)]
@@ -62,49 +59,6 @@ pub struct LdvbiSide {
     pub verdict: u32,
     /// Why not: the sum of the numbers of all reasons, each a bit.
     pub reasons: u32,
-}
-
-// As include/ldvbi.h has it.
-const _: () = prove!(size_of::<LdvbiSide>() == 152);
-
-/// The number of a verdict.
-fn verdict_for_c(verdict: Verdict) -> u32
-    ensures { result ≡ verdict_for_c verdict }
-{
-    match verdict {
-        Verdict::CannotTell => 0,
-        Verdict::Yes => 1,
-        Verdict::No => 2,
-    }
-}
-
-/// The number of a reason, if it holds.
-fn reason(bit: u32, holds: bool) -> u32
-    ensures value { result ≡ reason bit holds }
-    ensures range { result ≤ bit }
-{
-    if holds { bit } else { 0 }
-}
-
-/// The sum of the numbers of all reasons.
-fn reasons_for_c(reasons: Reasons) -> u32
-    ensures { result ≡ reasons_for_c reasons }
-{
-    reason(1, reasons.is_lost)
-        + reason(2, reasons.is_held)
-        + reason(4, reasons.goes_back)
-        + reason(8, reasons.is_joined)
-        + reason(16, reasons.begins_late)
-        + reason(32, reasons.is_swapped)
-        + reason(64, reasons.is_off)
-        + reason(128, reasons.no_numbers)
-        + reason(256, reasons.end_unseen)
-        + reason(512, reasons.begin_unseen)
-        + reason(1024, reasons.many_doubtful)
-        + reason(2048, reasons.is_open)
-        + reason(4096, reasons.is_inserted)
-        + reason(8192, reasons.is_padded)
-        + reason(16384, reasons.is_blank)
 }
 
 /// What is found of a side, as C sees it.
@@ -130,23 +84,8 @@ pub(crate) struct Siding {
     pub(crate) pace: Pace,
 }
 
-/// The pace of this number.
-fn pace_given(number: u32) -> Option<Pace>
-    ensures { result ≡ pace_given number }
-{
-    match number {
-        1 => Some(Pace::Video),
-        2 => Some(Pace::Film),
-        _ => None,
-    }
-}
-
 /// What a rule with this clock asks for, if the lengths of the arrays fit, or why it is refused.
-pub(crate) fn siding_with(
-    rule: &LdvbiSideRule,
-    clock: Option<Clock>,
-    fit: bool,
-) -> Result<Siding, Refusal>
+fn siding_with(rule: &LdvbiSideRule, clock: Option<Clock>, fit: bool) -> Settled<Siding>
     ensures { result ≡ siding_with rule.now clock fit }
 {
     let system = with_lengths(rule.system, fit)?;
@@ -164,21 +103,10 @@ pub(crate) fn siding_with(
 }
 
 /// What a rule asks for, if the lengths of the arrays fit, or why it is refused.
-pub(crate) fn siding_by(rule: &LdvbiSideRule, fit: bool) -> Result<Siding, Refusal>
+fn siding_by(rule: &LdvbiSideRule, fit: bool) -> Settled<Siding>
     ensures { result ≡ siding_by rule.now fit }
 {
     siding_with(rule, clock_given(&rule.clock), fit)
-}
-
-/// Whether the disc has its numbers on both fields of a picture: by what is said, or, of 3, by what is found.
-fn both_by(both: u32, numbers: &[Number]) -> bool
-    ensures { result ≡ both_by both numbers.now }
-{
-    match both {
-        0 => false,
-        3 => is_on_both(numbers),
-        _ => true,
-    }
 }
 
 /// Whether the believed numbers of a side show that its disc has them on both fields of a picture: 1 if they do, else
@@ -228,19 +156,13 @@ pub extern "C" fn ldvbi_find_clock(
     numbers: &[Number],
     clock: &mut LdvbiClock,
 ) -> u32
-    ensures status { result ≡ status_of (numbering_of rule.now) }
-    ensures finds { IfOk (numbering_of rule.now) (λ siding. (found : clocks.Clock)
+    ensures finds { Answers (numbering_of rule.now) result (λ siding. (found : clocks.Clock)
         × IsClockFound siding.pace (slack_by siding.pace rule.now.both numbers.now) siding.numbering numbers.now found
-        × (clock.new ≡ clock_for_c found)) }
-    ensures unwritten { result ≢ 0 → clock.new ≡ clock.old }
+        × (clock.new ≡ clock_for_c found)) (clock.new ≡ clock.old) }
 {
-    match siding_with(rule, Some(Clock::Plain), true) {
-        Ok(siding) => {
-            *clock = clock_for_c(siding.clock(rule.both, numbers));
-            DONE
-        }
-        Err(refusal) => refusal.status(),
-    }
+    let siding = siding_with(rule, Some(Clock::Plain), true);
+    let found = siding.map(|siding| clock_for_c(siding.clock(rule.both, numbers)));
+    answer(found, clock)
 }
 
 /// Where the numbers and the fields of a side don't go on together by a rule, and whether its capture is whole: by what
@@ -256,12 +178,10 @@ pub extern "C" fn ldvbi_judge_side(
     gaps: &mut [Gap],
     side: &mut LdvbiSide,
 ) -> u32
-    ensures status { result ≡ status_of (siding_by rule.now
-        (are_as_long (length seen.now) (length numbers.now) (length ends.now))) }
-    ensures judges { IfOk (siding_by rule.now (are_as_long (length seen.now) (length numbers.now) (length ends.now)))
+    ensures judges { Answers (siding_by rule.now
+        (are_as_long (length seen.now) (length numbers.now) (length ends.now))) result
         (λ siding. (found : Finding) × IsFinding (judged_by siding rule.now.both seen.now numbers.now ends.now)
-        (may_end_by may_end) found gaps.old gaps.new × (side.new ≡ side_for_c found)) }
-    ensures unwritten { result ≢ 0 → (gaps.new ≡ gaps.old) × (side.new ≡ side.old) }
+        (may_end_by may_end) found gaps.old gaps.new × (side.new ≡ side_for_c found)) ((gaps.new ≡ gaps.old) × (side.new ≡ side.old)) }
 {
     let fit = are_as_long(seen.len(), numbers.len(), ends.len());
     match siding_by(rule, fit) {
@@ -273,6 +193,32 @@ pub extern "C" fn ldvbi_judge_side(
                 ends,
             };
             *side = side_for_c(judge_whole(&judged, may_end != 0, gaps));
+            DONE
+        }
+        Err(refusal) => refusal.status(),
+    }
+}
+
+/// Sets aside the numbers of a side that replace others, where the rows of numbers around them weigh more: `gaps` are
+/// those that were told of these numbers, with fields counted from 0. What is left goes to `left`, and how many were
+/// set aside to `count`. Refused is a rule that `ldvbi_judge_side` refuses, and a `left` that isn't as long as
+/// `numbers`; then nothing is written.
+#[unsafe(no_mangle)]
+pub extern "C" fn ldvbi_set_aside(
+    rule: &LdvbiSideRule,
+    gaps: &[Gap],
+    numbers: &[Number],
+    left: &mut [Number],
+    count: &mut usize,
+) -> u32
+    ensures leaves { Answers (siding_by rule.now (length left.old == length numbers.now)) result
+        (λ siding. AreLeft (rule_by siding.pace (slack_by siding.pace rule.now.both numbers.now) siding.numbering)
+        gaps.now numbers.now left.new × (count.new ≡ count_of 1 numbers.now - count_of 1 left.new))
+        ((left.new ≡ left.old) × (count.new ≡ count.old)) }
+{
+    match siding_by(rule, left.len() == numbers.len()) {
+        Ok(siding) => {
+            *count = set_aside(gaps, numbers, siding.rule(rule.both, numbers), left);
             DONE
         }
         Err(refusal) => refusal.status(),

@@ -1,16 +1,21 @@
-use Rattle.std.proofs.Common.{subst}
+use Rattle.std.proofs.Common.{subst, rules}
 use Rattle.std.specs.Prelude.{IfOk, Result}
 use Rattle.vbi_plan.specs.declared.plan.Layout.{Layout}
 use Rattle.vbi_c.specs.declared.status.Refusal.{Refusal}
 use Rattle.vbi_c.specs.Plans.{IsChecked}
 use Rattle.vbi_c.proofs.plan.ldvbi_check_plan.Goals as goal
 
-pub returns-in-Ok-clause-checks : goal.returns-in-Ok-clause-checks
-returns-in-Ok-clause-checks c =
-    subst (λ (asked : Result Layout Refusal). IfOk asked (λ layout. IsChecked (record {
+pub returns-in-Ok : goal.returns-in-Ok
+returns-in-Ok c = record {
+  checks = record {
+    status_is = search rules;
+    does = subst (λ (asked : Result Layout Refusal). IfOk asked (λ layout. IsChecked (record {
       layout = layout;
       numbers = c.args.numbers.now;
       captures = c.args.captures.now;
       stretches = c.args.plan.now;
     }) c.checked_for_c.result)) c.in-Ok.ensures
-    (c.check_plan.result, c.checked_for_c.ensures, c.check_plan.ensures.done, c.check_plan.ensures.fault)
+        (c.check_plan.result, c.checked_for_c.ensures, c.check_plan.ensures.done, c.check_plan.ensures.fault);
+    refused = search rules;
+  };
+}

@@ -1,7 +1,7 @@
 use Rattle.std.proofs.Common.{◌≡◌, ◌∙◌, ℕ, List, Bool, ap, subst}
-use Rattle.vbi_c.specs.declared.fields.LdvbiFieldReadings.{LdvbiFieldReadings}
+use Rattle.vbi_c.specs.declared.reading.LdvbiFieldReadings.{LdvbiFieldReadings}
 use Rattle.vbi_c.specs.Erased.{erased_of}
-use Rattle.vbi_c.specs.Fields.{field_in}
+use Rattle.vbi_c.specs.Readings.{field_in}
 use Rattle.vbi_c.specs.Recovering.{AreRecovered, code_bytes}
 use Rattle.vbi_c.proofs.Placed.{each_set}
 use Rattle.vbi_c.proofs.recovering.recover_all.Goals as goal
