@@ -1,6 +1,6 @@
 -- Sides that are called whole by the calls: the laws of vbi_side, of what C hands over.
 use Rattle.std.proofs.Common.{◌≡◌, ◌∙◌, ℕ, Bool, ap, arith, refl, sym, subst}
-use Rattle.std.specs.Prelude.{if◌then◌else◌}
+use Rattle.std.specs.Prelude.{Option, if◌then◌else◌}
 use Rattle.vbi_side.specs.declared.pace.Pace.{Pace}
 use Rattle.vbi_side.specs.declared.pace.Pace.TheVariants.{Video}
 use Rattle.vbi_side.specs.Numbers.{AreAnswers}
@@ -8,9 +8,10 @@ use Rattle.vbi_whole.specs.declared.verdict.Finding.{Finding}
 use Rattle.vbi_whole.specs.declared.verdict.Reasons.{Reasons}
 use Rattle.vbi_whole.specs.declared.verdict.Verdict.{Verdict}
 use Rattle.vbi_whole.specs.declared.verdict.Verdict.TheVariants.{Yes, No, CannotTell}
+use Rattle.vbi_whole.specs.SaidWhole.{IsSaidWhole}
 use Rattle.vbi_whole.specs.Verdicts.{IsFinding}
 use Rattle.vbi_c.specs.declared.whole_side.LdvbiSide.{LdvbiSide}
-use Rattle.vbi_c.specs.CalledWhole.{Called, Finds, IsAnswered, judged_at, slack_at}
+use Rattle.vbi_c.specs.CalledWhole.{Called, Finds, IsAnswered, IsCalledWhole, judged_at, slack_at}
 use Rattle.vbi_c.specs.Numbers.{both_by, verdict_for_c}
 
 -- what is answered, at the pace that is known
@@ -48,15 +49,27 @@ is_yes CannotTell e = absurd (omega (arith, e))
 is_yes Yes e = refl
 is_yes No e = absurd (omega (arith, e))
 
--- what was found of a side that is called whole
-pub found_whole : (called : Called) (pace : Pace) (slack : ℕ) → Finds called pace slack → called.side.verdict ≡ 1
-    → (reasons : Reasons) × IsFinding (judged_at called pace slack) called.may_end
-    (as_found called.side Yes reasons) called.old called.new
-found_whole called pace slack (found, finds, e) whole =
-    let yes : found.verdict ≡ Yes = is_yes found.verdict (ap (λ (s : LdvbiSide). s.verdict) (sym e) ∙ whole) in (
+-- a side that is called whole is said to be so
+pub said_whole : (disc : ℕ → Option ℕ) (place : ℕ → ℕ) (called : Called) (pace : Pace) (slack : ℕ)
+    → IsCalledWhole disc place called → called.siding.pace ≡ pace → Finds called pace slack
+    → (reasons : Reasons)
+    × IsSaidWhole disc place (judged_at called pace slack) called.seen (as_found called.side Yes reasons)
+said_whole disc place called pace slack is paced (found, finds, e) =
+    let yes : found.verdict ≡ Yes = is_yes found.verdict (ap (λ (s : LdvbiSide). s.verdict) (sym e) ∙ is.whole) in (
       found.reasons,
-      subst (λ (v : Verdict). IsFinding (judged_at called pace slack) called.may_end
-          (as_found called.side v found.reasons) called.old called.new) yes
-          (subst (λ (s : LdvbiSide). IsFinding (judged_at called pace slack) called.may_end
-          (as_found s found.verdict found.reasons) called.old called.new) (sym e) finds),
+      record {
+        rises = is.rises;
+        answers = answers_at called pace is.answered paced;
+        may_end = called.may_end;
+        old = called.old;
+        new = called.new;
+        found = subst (λ (v : Verdict). IsFinding (judged_at called pace slack) called.may_end
+            (as_found called.side v found.reasons) called.old called.new) yes
+            (subst (λ (s : LdvbiSide). IsFinding (judged_at called pace slack) called.may_end
+            (as_found s found.verdict found.reasons) called.old called.new) (sym e) finds);
+        whole = refl;
+        few = is.few;
+        low = is.low;
+        far = is.far;
+      },
     )

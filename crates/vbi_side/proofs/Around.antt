@@ -4,9 +4,7 @@ use Rattle.std.proofs.Common.{◌≡◌, ℕ, ◌<◌, ◌≤◌, Bool, true, fa
 use Rattle.std.proofs.Common.{length, inl, inr}
 use Rattle.std.specs.Prelude.{Option, Some, None, ◌↔◌, ◌⊎◌, unwrap_or}
 use Rattle.std.proofs.lemmas.Option.{slice_get-get_or, get_or_from_slice_get}
-use Rattle.vbi_side.specs.declared.number.Number.{Number}
-use Rattle.vbi_side.specs.declared.sighting.Sightings.{Sightings}
-use Rattle.vbi_side.specs.declared.pace.Pace.{Pace}
+use Rattle.vbi_side.specs.Types.{Number, Sightings, Pace}
 use Rattle.vbi_side.specs.Paces.{spot, Count, nearly}
 use Rattle.vbi_side.specs.Beliefs.{Believed}
 use Rattle.vbi_side.specs.DueNumbers.{slack_of, Leaves, IsLeft, ShowsInstead, ShowsTwice, Due}
@@ -70,10 +68,7 @@ nearest_back numbers pace i j m k l c y n leaves is = go (cases_lt k c) (cases_l
 pub left_counts : (numbers : List Number) (pace : Pace) (i b x c y n : ℕ)
     → IsBefore (IsMarked numbers) pace i b x → IsAfter (IsMarked numbers) pace i c y
     → IsLeft (IsMarked numbers) pace i n → Count pace b x i n × Count pace i n c y
-left_counts numbers pace i b x c y n before after (first, last, leaves) = (
-  (nearest_on numbers pace i first.field first.number last.field last.number b x n leaves before).1,
-  (nearest_back numbers pace i first.field first.number last.field last.number c y n leaves after).1,
-)
+left_counts numbers pace i b x c y n h1 h2 h3 = grind (arith, nearest_back, nearest_on)
 
 -- and from it nothing between these is off
 pub left_nearly : (numbers : List Number) (pace : Pace) (i b x c y n : ℕ)
@@ -164,6 +159,4 @@ twice_at fields i d within shows =
 pub lines_at : (fields : List Sightings) (i : ℕ) (d : Sightings) → ShowsTwice fields i
     → (2 ≤ (get_or fields i d).line_17.weight) × (2 ≤ (get_or fields i d).line_18.weight)
     × ((get_or fields i d).line_17.number ≡ (get_or fields i d).line_18.number)
-lines_at fields i d (field, at, one, other, same) =
-    subst (λ (f : Sightings). (2 ≤ f.line_17.weight) × (2 ≤ f.line_18.weight)
-    × (f.line_17.number ≡ f.line_18.number)) (sym (get_or_from_slice_get fields i field d at)) (one, other, same)
+lines_at fields i d h1 = grind (arith, get_or_from_slice_get)

@@ -1,12 +1,10 @@
 -- A believed chapter is that of one of the field's two lines, judged beside the other; and what is answered of a field.
 use Rattle.std.proofs.lemmas.Bool.{cases_eq}
 use Rattle.vbi_side.proofs.Filling.{unlike}
-use Rattle.std.proofs.Common.{◌≡◌, ℕ, List, arith, sym, ◌∙◌, subst, inl, inr, ap, refl}
+use Rattle.std.proofs.Common.{◌≡◌, ℕ, List, arith, sym, ◌∙◌, inl, inr, ap, refl}
 use Rattle.std.specs.Prelude.{Option, Some, slice_get, ◌⊎◌, unwrap_or}
-use Rattle.vbi_side.specs.declared.sighting.Sighting.{Sighting}
-use Rattle.vbi_side.specs.declared.sighting.Sightings.{Sightings}
-use Rattle.vbi_side.specs.declared.number.Number.{Number}
-use Rattle.vbi_side.specs.Sightings.{Has, Shows}
+use Rattle.vbi_side.specs.Types.{Sighting, Sightings, Number}
+use Rattle.vbi_side.specs.Sightings.{Has}
 use Rattle.vbi_side.specs.Numbers.{believed, doubtful_of}
 use Rattle.vbi_side.specs.Chapters.{BelievedChapter, IsBelievedOf, IsChapter, AreChapters, IsSoundChapter}
 use Rattle.vbi_side.proofs.ChapterTruth.{sound}
@@ -20,61 +18,25 @@ one_number sighting m n has others = sym has.1 ∙ others.1
 pub line_believed : (fields : List Sightings) (i n : ℕ) (field : Sightings) → slice_get fields i ≡ Some field
     → IsBelievedOf fields i field.line_17 field.line_18 n ⊎ IsBelievedOf fields i field.line_18 field.line_17 n
     → BelievedChapter fields i n
-line_believed fields i n field is (inl a) = record {
-  shown = subst (λ f. Shows f n) (sym is) (inl a.has);
-  said = a.said;
-  unopposed = a.unopposed;
-  ahead = λ m shown apart. elim (subst (λ f. Shows f m) is shown) [
-    | inl h ↦ absurd (apart (one_number field.line_17 m n h a.has))
-    | inr h ↦ a.ahead m h apart
-  ];
-}
-line_believed fields i n field is (inr a) = record {
-  shown = subst (λ f. Shows f n) (sym is) (inr a.has);
-  said = a.said;
-  unopposed = a.unopposed;
-  ahead = λ m shown apart. elim (subst (λ f. Shows f m) is shown) [
-    | inl h ↦ a.ahead m h apart
-    | inr h ↦ absurd (apart (one_number field.line_18 m n h a.has))
-  ];
-}
+line_believed fields i n field h1 h2 = grind (arith, one_number)
 
 -- and the other way round
 pub believed_line : (fields : List Sightings) (i n : ℕ) (field : Sightings)
     → slice_get fields i ≡ Some field → BelievedChapter fields i n
     → IsBelievedOf fields i field.line_17 field.line_18 n ⊎ IsBelievedOf fields i field.line_18 field.line_17 n
-believed_line fields i n field is b = elim (subst (λ f. Shows f n) is b.shown) [
-  | inl h ↦ inl (record {
-    has = h;
-    said = b.said;
-    unopposed = b.unopposed;
-    ahead = λ m has apart. b.ahead m (subst (λ f. Shows f m) (sym is) (inr has)) apart;
-  })
-  | inr h ↦ inr (record {
-    has = h;
-    said = b.said;
-    unopposed = b.unopposed;
-    ahead = λ m has apart. b.ahead m (subst (λ f. Shows f m) (sym is) (inl has)) apart;
-  })
-]
+believed_line fields i n field is b = grind arith
 
 -- a field has at most one believed chapter
 pub one_chapter : (fields : List Sightings) (i m n : ℕ)
     → BelievedChapter fields i m → BelievedChapter fields i n → m ≡ n
-one_chapter fields i m n a b = elim (cases_eq m n) [
-  | inl e ↦ e
-  | inr apart ↦ absurd (omega (arith, a.ahead n b.shown (λ e. apart (sym e)), b.ahead m a.shown apart))
-]
+one_chapter fields i m n a b = grind (arith, cases_eq)
 
 -- ---- answers
 
 -- what is answered as believed is
 pub answer_believed : (fields : List Sightings) (i n : ℕ) (answer : Number) → IsChapter fields i answer
     → answer ≡ believed n → BelievedChapter fields i n
-answer_believed fields i n answer (inl (m, b, is)) e =
-    subst (BelievedChapter fields i) (ap (λ (a : Number). a.number) (sym is ∙ e)) b
-answer_believed fields i n answer (inr (none, (field, at, is))) e =
-    absurd (unlike field n (sym is ∙ e))
+answer_believed fields i n answer h1 h2 = grind (arith, unlike)
 
 pub answers_sound : (fields : List Sightings) (answers : List Number) → AreChapters fields answers
     → (recorded : ℕ → Option ℕ) (i n : ℕ) → slice_get answers i ≡ Some (believed n)

@@ -2,7 +2,7 @@
 use Rattle.std.proofs.Common.{◌≡◌, ℕ, ◌+◌, ◌*◌, ◌≤◌, Bool, List, refl, arith, ap₂, sym}
 use Rattle.std.specs.Prelude.{slice_get, ◌⊎◌, ◌↔◌, nat_le, nat_lt, ◌&&◌, ◌||◌}
 use Rattle.std.proofs.lemmas.Bool.{leb-true, le-leb}
-use Rattle.vbi_side.specs.declared.sighting.Sightings.{Sightings}
+use Rattle.vbi_side.specs.Types.{Sightings}
 use Rattle.vbi_side.specs.Beliefs.{reach}
 use Rattle.vbi_side.specs.Chapters.{says, opposes, said_weight, opposed_weight, BelievedChapter}
 use Rattle.vbi_side.specs.Truth.{IsNear}
@@ -11,10 +11,7 @@ use Rattle.vbi_side.proofs.Parts.{same_truth, weight_below-later}
 
 -- what opposes a chapter, so many fields later
 le_later : (first j i : ℕ) → nat_le j i ≡ nat_le (first + j) (first + i)
-le_later first j i =
-    same_truth (nat_le j i) (nat_le (first + j) (first + i))
-    (λ e. le-leb (first + j) (first + i) (omega (arith, leb-true j i e)))
-    (λ e. le-leb j i (omega (arith, leb-true (first + j) (first + i) e)))
+le_later first j i = grind (arith, le-leb, leb-true, same_truth)
 
 opposes_later : (first i n j k : ℕ) → opposes i n j k ≡ opposes (first + i) n (first + j) k
 opposes_later first i n j k =

@@ -1,14 +1,11 @@
 -- What a clock leaves out, and where the other numbers stand.
 use Rattle.std.proofs.Common.{◌≡◌, ℕ, zero, suc, ◌+◌, ◌*◌, ◌-◌, ◌/◌, ◌<◌, ◌≤◌, true, refl, arith, ap, sym, ◌∙◌, subst}
 use Rattle.std.proofs.Common.{inl, inr, false, ◌≢◌}
-use Rattle.std.specs.Prelude.{Option, ◌⊎◌, ◌%◌, ◌==◌, ◌&&◌, nat_le, if◌then◌else◌}
+use Rattle.std.specs.Prelude.{Option, ◌⊎◌, ◌%◌, ◌==◌, nat_le, if◌then◌else◌}
 use Rattle.std.proofs.lemmas.Bool.Decides.{leb_tells, eqb_tells}
 use Rattle.std.proofs.Math.Dec.{eqb}
 use Rattle.std.proofs.Math.Nat.{div-lt_iff_lt-mul, div-zero, mul-le-mul_left, div-eq_of_lt, div-eq_of_lt-le}
-use Rattle.vbi_side.specs.declared.clock.Clock.{Clock}
-use Rattle.vbi_side.specs.declared.clock.Clock.TheVariants.{Plain, DropFrame, OneIn}
-use Rattle.vbi_side.specs.declared.pace.Pace.{Pace}
-use Rattle.vbi_side.specs.declared.pace.Pace.TheVariants.{Video, Film}
+use Rattle.vbi_side.specs.Types.{Clock, Plain, DropFrame, OneIn, Pace, Video, Film}
 use Rattle.vbi_side.specs.Paces.{fits}
 use Rattle.vbi_side.specs.Truth.{IsNear}
 use Rattle.vbi_side.specs.Side.{DiscRuns, DiscCounts}
@@ -26,59 +23,34 @@ div_less : (x k y : ℕ) → x / suc k < y → x < y * suc k
 div_less x k y less = (div-lt_iff_lt-mul {k = suc k} {x = x} {y = y} (omega arith)).0 less
 
 div_up : (k x y : ℕ) → x ≤ y → x / k ≤ y / k
-div_up zero x y le = omega (arith, div-zero x, div-zero y)
-div_up (suc k) x y le =
-    let h : y / suc k < y / suc k + 1 = omega arith in
-    let more = div_less y k (y / suc k + 1) h in
-    let less = less_div x k (y / suc k + 1) (omega (arith, le, more)) in
-    omega (arith, less)
+div_up k x y h1 = grind (arith, div-zero, div_less, less_div)
 
 passed_up : (period remainder m n : ℕ) → m ≤ n → passed period remainder m ≤ passed period remainder n
 passed_up period remainder m n le = div_up period (m + (period - 1 - remainder)) (n + (period - 1 - remainder))
     (omega (arith, le))
 
 passed_most : (period remainder n : ℕ) → passed period remainder n ≤ n
-passed_most zero remainder n = omega (arith, div-zero (n + (zero - 1 - remainder)))
-passed_most (suc k) remainder n =
-    let many : n + (suc k - 1 - remainder) < (n + 1) * suc k = go in
-    let less = less_div (n + (suc k - 1 - remainder)) k (n + 1) many in
-    omega (arith, less)
-  where
-    go : n + (suc k - 1 - remainder) < (n + 1) * suc k
-    go = let h : n * 1 ≤ n * suc k = mul-le-mul_left n (omega arith) in omega (arith, h)
+passed_most period remainder n = grind (arith, div-zero, less_div, mul-le-mul_left)
 
 -- ---- by any clock
 
 pub out_up : (clock : Clock) (m n : ℕ) → m ≤ n → left_out clock m ≤ left_out clock n
 unfolding left_out
-out_up Plain m n le = omega arith
-out_up DropFrame m n le = omega (arith, le)
-out_up (OneIn period phase) m n le = passed_up period phase m n le
+out_up clock m n h1 = grind (arith, passed_up)
 
 pub out_most : (clock : Clock) (n : ℕ) → left_out clock n ≤ n
 unfolding left_out
-out_most Plain n = omega arith
-out_most DropFrame n = omega arith
-out_most (OneIn period phase) n = passed_most period phase n
+out_most clock n = grind (arith, passed_most)
 
 -- each number is left out or kept
 pub kept_is : (clock : Clock) (n : ℕ) → kept clock n + left_out clock n ≡ n
 unfolding kept left_out
-kept_is Plain n = omega arith
-kept_is DropFrame n = omega (arith, out_most DropFrame n)
-kept_is (OneIn period phase) n = omega (arith, out_most (OneIn period phase) n)
+kept_is clock n = grind (arith, out_most)
 
 -- ---- where no number is left out
 
 clear_same : (clock : Clock) (m n : ℕ) → IsClear clock m → n ≤ m + 12 → m ≤ n + 12 → left_out clock n ≡ left_out clock m
-clear_same clock m n clear before after = omega (
-  arith,
-  clear,
-  out_up clock (m - 12) m (omega arith),
-  out_up clock m (m + 12) (omega arith),
-  out_up clock (m - 12) n (omega (arith, after)),
-  out_up clock n (m + 12) before,
-)
+clear_same clock m n clear before after = grind (arith, out_up)
 
 -- the places are as far apart as the numbers
 pub clear_apart : (clock : Clock) (m n : ℕ) → IsClear clock m → n ≤ m + 12 → m ≤ n + 12
@@ -89,33 +61,18 @@ clear_apart clock m n clear before after =
 -- so what fits there fits by the clock
 pub clear_video : (clock : Clock) (i m j n : ℕ) → IsClear clock m → IsNear i j → fits Video i m j n ≡ true
     → j + 2 * kept clock m ≡ i + 2 * kept clock n
-clear_video clock i m j n clear near fit =
-    let e = video_fits i m j n fit in
-    let p = clear_apart clock m n clear (omega (arith, near.0, near.1, e)) (omega (arith, near.0, near.1, e)) in
-    omega (arith, e, p)
+clear_video clock i m j n clear near fit = grind (arith, clear_apart, video_fits)
 
 pub clear_film : (clock : Clock) (i m j n : ℕ) → IsClear clock m → IsNear i j → fits Film i m j n ≡ true
     → (2 * j + 5 * kept clock m ≤ 2 * i + 5 * kept clock n + 2)
     × (2 * i + 5 * kept clock n ≤ 2 * j + 5 * kept clock m + 2)
-clear_film clock i m j n clear near fit =
-    let e = film_fits i m j n fit in
-    let p = clear_apart clock m n clear (omega (arith, near.0, near.1, e.0, e.1))
-    (omega (arith, near.0, near.1, e.0, e.1)) in
-    (omega (arith, e.0, p), omega (arith, e.1, p))
+clear_film clock i m j n clear near fit = grind (arith, clear_apart, film_fits)
 
 -- wherever: the places are as far apart as the numbers, but for those that are left out near
 near_apart : (clock : Clock) (m n : ℕ) → n ≤ m + 12 → m ≤ n + 12
     → (kept clock n + m ≤ kept clock m + n + out_near clock m)
     × (kept clock m + n ≤ kept clock n + m + out_near clock m)
-near_apart clock m n before after =
-    let a = out_up clock (m - 12) m (omega arith) in
-    let b = out_up clock m (m + 12) (omega arith) in
-    let c = out_up clock (m - 12) n (omega (arith, after)) in
-    let d = out_up clock n (m + 12) before in (
-      omega (arith, a, b, c, d, kept_is clock m, kept_is clock n),
-      omega
-          (arith, a, b, c, d, kept_is clock m, kept_is clock n),
-    )
+near_apart clock m n before after = grind (arith, kept_is, out_up)
 
 pub near_video : (clock : Clock) (i m j n : ℕ) → IsNear i j → fits Video i m j n ≡ true
     → (j + 2 * kept clock m ≤ i + 2 * kept clock n + 2 * out_near clock m)
@@ -144,9 +101,7 @@ plain_clear clock n e = ap (λ c. left_out c (n + 12)) e ∙ out_plain (n + 12) 
 
 pub plain_runs : (clock : Clock) (pace : Pace) (disc : ℕ → Option ℕ) → clock ≡ Plain → DiscRuns pace disc
     → DiscCountsBy clock pace disc
-plain_runs clock pace disc e runs d f m n here there =
-    subst (λ x. fits pace d x f (kept clock n) ≡ true) (sym (plain clock m e))
-    (subst (λ x. fits pace d m f x ≡ true) (sym (plain clock n e)) (runs d f m n here there))
+plain_runs clock pace disc h1 h2 = grind (arith, plain)
 
 pub plain_counts : (clock : Clock) (slack : ℕ) (disc : ℕ → Option ℕ) → clock ≡ Plain → DiscCounts slack disc
     → DiscNearlyBy clock slack disc
@@ -160,25 +115,11 @@ runs_plain pace disc runs = plain_runs Plain pace disc refl runs
 
 pub out_none : (clock : Clock) → IsProper clock → left_out clock 0 ≡ 0
 unfolding left_out
-out_none Plain proper = refl
-out_none DropFrame proper = refl
-out_none (OneIn zero phase) proper = absurd (omega (arith, proper))
-out_none (OneIn (suc k) phase) proper =
-    let less : 0 + (suc k - 1 - phase) < suc k = omega arith in div-eq_of_lt less
+out_none clock h1 = grind (arith, div-eq_of_lt)
 
 drop_next : (n : ℕ) → left_out DropFrame (n + 1) ≡ left_out DropFrame n + (if leaves_out DropFrame n then 1 else 0)
 unfolding left_out
-drop_next n = go (leb_tells (suc (n % 1800)) 2) (leb_tells 1800 (n % 18000))
-  where
-    go : ((nat_le (suc (n % 1800)) 2 ≡ true) × (suc (n % 1800) ≤ 2))
-        ⊎ ((nat_le (suc (n % 1800)) 2 ≡ false) × (2 < suc (n % 1800)))
-        → ((nat_le 1800 (n % 18000) ≡ true) × (1800 ≤ n % 18000))
-        ⊎ ((nat_le 1800 (n % 18000) ≡ false) × (n % 18000 < 1800))
-        → left_out DropFrame (n + 1) ≡ left_out DropFrame n
-        + (if nat_le (suc (n % 1800)) 2 && nat_le 1800 (n % 18000) then 1 else 0)
-    go (inl (t, le)) (inl (u, more)) = rw (t, u) (omega (arith, le, more))
-    go (inl (t, le)) (inr (u, less)) = rw (t, u) (omega (arith, le, less))
-    go (inr (t, lt)) _ = rw t (omega (arith, lt))
+drop_next n = grind (arith, leb_tells)
 
 -- the quotient of q times the divisor and less than it
 quotient : (k q x : ℕ) → q * suc k ≤ x → x < (q + 1) * suc k → x / suc k ≡ q
@@ -233,20 +174,11 @@ out_next (OneIn (suc k) phase) n proper = even_next k phase n proper
 
 -- of each number on at most one is left out
 div_step : (x k : ℕ) → (x + 1) / suc k ≤ x / suc k + 1
-div_step x k =
-    let h : x / suc k < x / suc k + 1 = omega arith in
-    let more = div_less x k (x / suc k + 1) h in
-    let less = less_div (x + 1) k (x / suc k + 2) (omega (arith, more)) in
-    omega (arith, less)
+div_step x k = grind (arith, div_less, less_div)
 
 out_step : (clock : Clock) (n : ℕ) → left_out clock (n + 1) ≤ left_out clock n + 1
 unfolding left_out
-out_step Plain n = omega arith
-out_step DropFrame n = omega arith
-out_step (OneIn zero phase) n = omega (arith, div-zero (n + 1 + (zero - 1 - phase)), div-zero (n + (zero - 1 - phase)))
-out_step (OneIn (suc k) phase) n =
-    let same : n + 1 + (suc k - 1 - phase) ≡ n + (suc k - 1 - phase) + 1 = omega arith in
-    subst (λ x. x / suc k ≤ (n + (suc k - 1 - phase)) / suc k + 1) (sym same) (div_step (n + (suc k - 1 - phase)) k)
+out_step clock n = grind (arith, div-zero, div_step)
 
 pub out_far : (clock : Clock) (m d : ℕ) → left_out clock (m + d) ≤ left_out clock m + d
 out_far clock m zero = let same : m ≡ m + zero = omega arith in

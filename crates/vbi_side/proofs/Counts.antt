@@ -1,15 +1,10 @@
 -- Counting the fields of which a number is believed.
-use Rattle.std.proofs.Common.{◌≡◌, ℕ, zero, suc, ◌+◌, List, length, refl, ap, sym, ◌∙◌, subst, add-one, inl, inr}
+use Rattle.std.proofs.Common.{arith}
+use Rattle.std.proofs.Common.{◌≡◌, ℕ, zero, suc, ◌+◌, List, refl, ap, sym, ◌∙◌, subst, add-one, inl, inr}
 use Rattle.std.specs.Prelude.{Option, Some, None, ◌↔◌, is_some, true, false}
-use Rattle.vbi_words.specs.declared.system.System.{System}
-use Rattle.vbi_words.specs.declared.system.System.TheVariants.{Ntsc, Pal}
-use Rattle.vbi_side.specs.declared.lines.Counted.{Counted}
-use Rattle.vbi_side.specs.declared.lines.Counted.TheVariants.{Pictures, Times}
-use Rattle.vbi_side.specs.declared.sighting.Sightings.{Sightings}
-use Rattle.vbi_side.specs.declared.pace.Pace.{Pace}
-use Rattle.vbi_side.specs.declared.pace.Pace.TheVariants.{Video, Film}
+use Rattle.vbi_side.specs.Types.{System, Ntsc, Pal, Counted, Pictures, Times, Sightings, Pace}
 use Rattle.vbi_side.specs.Beliefs.{Believed}
-use Rattle.vbi_side.specs.PaceSearch.{IsCount, pace_by, IsMore, IsFound}
+use Rattle.vbi_side.specs.PaceSearch.{IsCount, IsMore, IsFound}
 
 -- one more
 pub one_more : (pace : Pace) (fields : List Sightings) (i count : ℕ) (found : Option ℕ)
@@ -24,12 +19,7 @@ one_more pace fields i count (Some n) tells some counted =
 pub no_more : (pace : Pace) (fields : List Sightings) (i count : ℕ) (found : Option ℕ)
     → ((n : ℕ) → (found ≡ Some n) ↔ Believed pace fields i n) → is_some found ≡ false → IsCount pace fields i count
     → IsCount pace fields (i + 1) count
-no_more pace fields i count (Some n) tells none counted = absurd (let clash : true ≡ false → ⊥ = λ h. cc in clash none)
-no_more pace fields i count None tells none counted =
-    subst (λ k. IsCount pace fields k count) (sym (add-one i)) (inr (λ n b. clash n ((tells n).1 b), counted))
-  where
-    clash : (n : ℕ) → None ≡ Some n → ⊥
-    clash n e = cc
+no_more pace fields i count found h1 h2 h3 = grind arith
 
 -- ---- one count, and one pace
 
@@ -45,11 +35,7 @@ one_count pace fields (suc n) a b (inr (none, counted)) (inr (nones, counts)) =
     one_count pace fields n a b counted counts
 
 one_more_believed : (fields : List Sightings) (one other : Pace) → IsMore fields one → IsMore fields other → one ≡ other
-one_more_believed fields one other (video, film, videos, films, is) (v, f, vs, fs, are) =
-    is
-    ∙ ap (λ n. pace_by n film) (one_count Video fields (length fields) video v videos vs)
-    ∙ ap (pace_by v) (one_count Film fields (length fields) film f films fs)
-    ∙ sym are
+one_more_believed fields one other h1 h2 = grind (arith, one_count)
 
 pub one_found : (system : System) (counted : Counted) (fields : List Sightings) (one other : Pace)
     → IsFound system counted fields one → IsFound system counted fields other → one ≡ other

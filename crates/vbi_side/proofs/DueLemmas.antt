@@ -2,11 +2,9 @@
 use Rattle.std.proofs.lemmas.Bool.{cases_lt, eqb-true, leb-true, le-leb, and_parts, and_from}
 use Rattle.std.proofs.Common.{eq-eqb, ◌≡◌, ◌≢◌, ℕ, ◌+◌, ◌*◌, ◌-◌, ◌%◌, ◌<◌, ◌≤◌, true, List, arith, sym, ◌∙◌}
 use Rattle.std.proofs.Common.{subst, inl, inr}
-use Rattle.std.specs.Prelude.{Option, Some, slice_get, ◌⊎◌, ◌↔◌, nat_le}
+use Rattle.std.specs.Prelude.{Option, Some, slice_get, ◌⊎◌, ◌↔◌}
 use Rattle.std.proofs.lemmas.Bool.Decides.{leb_tells}
-use Rattle.vbi_side.specs.declared.sighting.Sightings.{Sightings}
-use Rattle.vbi_side.specs.declared.pace.Pace.{Pace}
-use Rattle.vbi_side.specs.declared.pace.Pace.TheVariants.{Video, Film}
+use Rattle.vbi_side.specs.Types.{Sightings, Pace, Video, Film}
 use Rattle.vbi_side.specs.Paces.{spot, Count, nearly}
 use Rattle.vbi_side.specs.Beliefs.{Believed}
 use Rattle.vbi_side.specs.DueNumbers.{slack_of, Leaves, IsLeft, Due}
@@ -19,34 +17,21 @@ use Rattle.vbi_side.proofs.Truth.{film_fits, only_near}
 
 -- a field at most
 pub slack_most : (j k : ℕ) → slack_of j k ≤ 1
-slack_most j k = elim (leb_tells k (j + 8)) [
-  | inl (t, close) ↦ rw t (omega arith)
-  | inr (f, far) ↦ rw f (omega arith)
-]
+slack_most j k = grind (arith, leb_tells)
 
 -- between closer fields not less
 pub slack_grows : (j k b c : ℕ) → j ≤ b → c ≤ k → slack_of j k ≤ slack_of b c
-slack_grows j k b c first last = elim (leb_tells k (j + 8)) [
-  | inl (t, close) ↦ rw t (rw (le-leb c (b + 8) (omega (arith, close, first, last))) (omega arith))
-  | inr (f, far) ↦ rw f (omega arith)
-]
+slack_grows j k b c first last = grind (arith, le-leb, leb_tells)
 
 -- ---- what nearly fits, in numbers
 
 pub video_nearly : (slack i m j n : ℕ) → nearly Video slack (spot i m) (spot j n) ≡ true
     → (j + 2 * m ≤ i + 2 * n + slack) × (i + 2 * n ≤ j + 2 * m + slack)
-video_nearly slack i m j n e =
-    let p = and_parts (nat_le (j + 2 * m) (i + 2 * n + slack)) (nat_le (i + 2 * n) (j + 2 * m + slack)) e in
-    (leb-true (j + 2 * m) (i + 2 * n + slack) p.0, leb-true (i + 2 * n) (j + 2 * m + slack) p.1)
+video_nearly slack i m j n e = grind (arith, and_parts, leb-true)
 
 pub nearly_more : (pace : Pace) (slack more i m j n : ℕ) → slack ≤ more → nearly pace slack (spot i m) (spot j n) ≡ true
     → nearly pace more (spot i m) (spot j n) ≡ true
-nearly_more Video slack more i m j n less e =
-    let p = video_nearly slack i m j n e in
-    and_from (nat_le (j + 2 * m) (i + 2 * n + more)) (nat_le (i + 2 * n) (j + 2 * m + more))
-    (le-leb (j + 2 * m) (i + 2 * n + more) (omega (arith, less, p.0)))
-    (le-leb (i + 2 * n) (j + 2 * m + more) (omega (arith, less, p.1)))
-nearly_more Film slack more i m j n less e = e
+nearly_more pace slack more i m j n h1 h2 = grind (arith, and_from, le-leb, video_nearly)
 
 -- ---- whole pictures
 
@@ -58,17 +43,11 @@ whole_on Film j m i n less e = eq-eqb ((i - j) % 5) 0 (omega (arith, less, e))
 -- numbers of such fields that nearly fit lie whole pictures apart
 pub nearly_on : (pace : Pace) (slack i n j m : ℕ) → slack ≤ 1 → j < i → are_whole pace (i - j) ≡ true
     → nearly pace slack (spot i n) (spot j m) ≡ true → Count pace j m i n
-nearly_on Video slack i n j m few less whole e =
-    let p = video_nearly slack i n j m e in omega (arith, few, less, eqb-true ((i - j) % 2) 0 whole, p.0, p.1)
-nearly_on Film slack i n j m few less whole e =
-    let p = film_fits i n j m e in omega (arith, less, eqb-true ((i - j) % 5) 0 whole, p.0, p.1)
+nearly_on pace slack i n j m h1 h2 h3 h4 = grind (arith, eqb-true, film_fits, video_nearly)
 
 pub nearly_back : (pace : Pace) (slack i n k l : ℕ) → slack ≤ 1 → i < k → are_whole pace (k - i) ≡ true
     → nearly pace slack (spot i n) (spot k l) ≡ true → Count pace i n k l
-nearly_back Video slack i n k l few less whole e =
-    let p = video_nearly slack i n k l e in omega (arith, few, less, eqb-true ((k - i) % 2) 0 whole, p.0, p.1)
-nearly_back Film slack i n k l few less whole e =
-    let p = film_fits i n k l e in omega (arith, less, eqb-true ((k - i) % 5) 0 whole, p.0, p.1)
+nearly_back pace slack i n k l h1 h2 h3 h4 = grind (arith, eqb-true, film_fits, video_nearly)
 
 -- a number counts to one number in another field
 pub one_count : (pace : Pace) (j m i a b : ℕ) → Count pace j m i a → Count pace j m i b → a ≡ b
@@ -145,34 +124,14 @@ one_due pace fields i m n one other =
 pub due_sound : (pace : Pace) (recorded : ℕ → Option ℕ) (fields : List Sightings) (i n : ℕ)
     → IsRegular pace recorded i → ((j k : ℕ) → IsNear i j → Believed pace fields j k → recorded j ≡ Some k)
     → Due pace fields i n → recorded i ≡ Some n
-due_sound pace recorded fields i n regular right due =
-    let (j, k, leaves) = due.left in
-    let near : IsNear i j.field = (leaves.near, omega (arith, leaves.before)) in
-    let far : IsNear i k.field = (omega (arith, leaves.after), leaves.far) in
-    regular j.field j.number k.field k.number n leaves.before leaves.after near far
-    (right j.field j.number near leaves.first) (right k.field k.number far leaves.last) leaves.on leaves.back
+due_sound pace recorded fields i n regular right due = grind arith
 
 -- ---- the same capture around a field
 
 -- what is left by numbers that are the same near the field
 pub left_alike : (P Q : ℕ → ℕ → Type 0) (pace : Pace) (i n : ℕ) → ((j m : ℕ) → IsNear i j → P j m ↔ Q j m)
     → IsLeft P pace i n → IsLeft Q pace i n
-left_alike P Q pace i n same (j, k, leaves) = (
-  j,
-  k,
-  record {
-    before = leaves.before;
-    near = leaves.near;
-    after = leaves.after;
-    far = leaves.far;
-    first = (same j.field j.number (leaves.near, omega (arith, leaves.before))).0 leaves.first;
-    last = (same k.field k.number (omega (arith, leaves.after), leaves.far)).0 leaves.last;
-    on = leaves.on;
-    back = leaves.back;
-    between = λ h x more less has. leaves.between h x more less
-        ((same h x (omega (arith, more, leaves.near), omega (arith, less, leaves.far))).1 has);
-  },
-)
+left_alike P Q pace i n h1 h2 = grind arith
 
 same_field : (fields others : List Sightings) (i : ℕ) (field : Sightings) → slice_get fields i ≡ slice_get others i
     → slice_get others i ≡ Some field → slice_get fields i ≡ Some field

@@ -1,11 +1,9 @@
 -- When lead-out and lead-in are believed, and what was misread then if the disc has none.
-use Rattle.std.proofs.Common.{◌≡◌, ℕ, ◌+◌, ◌≤◌, Bool, true, false, refl, arith, ap, sym, ◌∙◌, inl, inr}
-use Rattle.std.specs.Prelude.{Option, Some, None, ◌⊎◌, ◌==◌, ◌||◌, option_map, if◌then◌else◌}
+use Rattle.std.proofs.Common.{◌≡◌, ℕ, ◌+◌, ◌≤◌, true, refl, arith, inl, inr}
+use Rattle.std.specs.Prelude.{Option, Some, ◌⊎◌, option_map}
 use Rattle.std.proofs.lemmas.Bool.Decides.{eqb_tells}
-use Rattle.vbi_words.specs.declared.code.Code.{Code}
-use Rattle.vbi_words.specs.declared.code.Code.TheVariants.{LeadIn, LeadOut}
+use Rattle.vbi_side.specs.Types.{Code, LeadIn, LeadOut, Shown}
 use Rattle.vbi_words.specs.Codes.{code_of}
-use Rattle.vbi_side.specs.declared.lines.Shown.{Shown}
 use Rattle.vbi_side.specs.Ends.{weight_as_out, weight_as_in, out_weight, in_weight}
 use Rattle.vbi_side.specs.Lines.{code_in, pass_weight}
 use Rattle.vbi_side.specs.Misread.{is_misread, line_weight}
@@ -15,14 +13,7 @@ use Rattle.vbi_side.specs.SoundEnds.{ShowsCode, IsCodeToldSurely, IsSoundCode}
 
 -- a word weighs 2, or 1
 one_or_two : (pass : ℕ) → (pass_weight pass ≡ 1) ⊎ (pass_weight pass ≡ 2)
-one_or_two pass = go ((pass == 2) || (pass == 3))
-  where
-    of : Bool → ℕ
-    of = λ b. if b then 1 else 2
-
-    go : (b : Bool) → (of b ≡ 1) ⊎ (of b ≡ 2)
-    go true = inl refl
-    go false = inr refl
+one_or_two pass = grind arith
 
 -- a line weighs what its word does, if it shows the code, else nothing
 abbrev pub Weighs : Code → Shown → ℕ → Type 0
@@ -49,25 +40,7 @@ in_weighs line = as_in (code_in line) (pass_weight line.pass)
 
 pub two_told : (code : Code) (line_17 line_18 : Shown) (first second : ℕ) → Weighs code line_17 first
     → Weighs code line_18 second → 2 ≤ first + second → IsCodeToldSurely code line_17 line_18
-two_told code line_17 line_18 first second (inl (shown, one)) (inl (also, other)) enough = inr (inr (shown, also))
-two_told code line_17 line_18 first second (inl (shown, one)) (inr (none, other)) enough =
-    inl (
-      shown,
-      elim (one_or_two line_17.pass) [
-        | inl e ↦ absurd (omega (arith, enough, one, other, e))
-        | inr e ↦ e
-      ],
-    )
-two_told code line_17 line_18 first second (inr (none, one)) (inl (shown, other)) enough =
-    inr (inl (
-      shown,
-      elim (one_or_two line_18.pass) [
-        | inl e ↦ absurd (omega (arith, enough, one, other, e))
-        | inr e ↦ e
-      ],
-    ))
-two_told code line_17 line_18 first second (inr (none, one)) (inr (never, other)) enough =
-    absurd (omega (arith, enough, one, other))
+two_told code line_17 line_18 first second h1 h2 h3 = grind (arith, one_or_two)
 
 one_weighs : (code : Code) (line : Shown) (weight : ℕ) → Weighs code line weight → ShowsCode code line
     → weight ≡ pass_weight line.pass
@@ -76,30 +49,13 @@ one_weighs code line weight (inr (none, e)) shown = absurd (none shown)
 
 pub told_two : (code : Code) (line_17 line_18 : Shown) (first second : ℕ) → Weighs code line_17 first
     → Weighs code line_18 second → IsCodeToldSurely code line_17 line_18 → 2 ≤ first + second
-told_two code line_17 line_18 first second one other (inl (shown, sure)) =
-    omega (arith, one_weighs code line_17 first one shown, sure)
-told_two code line_17 line_18 first second one other (inr (inl (shown, sure))) =
-    omega (arith, one_weighs code line_18 second other shown, sure)
-told_two code line_17 line_18 first second one other (inr (inr (shown, also))) =
-    elim (one_or_two line_17.pass) [
-      | inr e ↦ omega (arith, one_weighs code line_17 first one shown, e)
-      | inl e ↦ elim (one_or_two line_18.pass) [
-        | inl f ↦ omega
-            (arith, one_weighs code line_17 first one shown, one_weighs code line_18 second other also, e, f)
-        | inr f ↦ omega (arith, one_weighs code line_18 second other also, f)
-      ]
-    ]
+told_two code line_17 line_18 first second h1 h2 h3 = grind (arith, one_or_two, one_weighs)
 
 -- ---- what was misread
 
 misread : (code : Code) (read word : Option ℕ) → option_map code_of read ≡ Some code
     → (option_map code_of word ≡ Some code → ⊥) → is_misread read word ≡ true
-misread code None word shown never = absurd (let h = shown in cc)
-misread code (Some r) None shown never = refl
-misread code (Some r) (Some w) shown never = elim (eqb_tells r w) [
-  | inl (t, same) ↦ absurd (never (sym (ap (λ (x : ℕ). Some (code_of x)) same) ∙ shown))
-  | inr (f, other) ↦ rw f refl
-]
+misread code read word h1 h2 = grind (arith, eqb_tells)
 
 misread_weighs : (code : Code) (line : Shown) (word : Option ℕ) → ShowsCode code line
     → (option_map code_of word ≡ Some code → ⊥) → line_weight line word ≡ pass_weight line.pass
@@ -107,17 +63,4 @@ misread_weighs code line word shown never = let e = misread code line.word word 
 
 pub told_sound : (code : Code) (line_17 line_18 : Shown) → IsCodeToldSurely code line_17 line_18
     → IsSoundCode code line_17 line_18
-told_sound code line_17 line_18 (inl (shown, sure)) word_17 word_18 never none =
-    omega (arith, misread_weighs code line_17 word_17 shown never, sure)
-told_sound code line_17 line_18 (inr (inl (shown, sure))) word_17 word_18 never none =
-    omega (arith, misread_weighs code line_18 word_18 shown none, sure)
-told_sound code line_17 line_18 (inr (inr (shown, also))) word_17 word_18 never none =
-    let first = misread_weighs code line_17 word_17 shown never in
-    let second = misread_weighs code line_18 word_18 also none in
-    elim (one_or_two line_17.pass) [
-      | inl e ↦ elim (one_or_two line_18.pass) [
-        | inl f ↦ omega (arith, first, second, e, f)
-        | inr f ↦ omega (arith, first, second, e, f)
-      ]
-      | inr e ↦ omega (arith, first, e)
-    ]
+told_sound code line_17 line_18 h1 = grind (arith, misread_weighs, one_or_two)

@@ -1,6 +1,6 @@
 -- Few numbers are left out near each other.
 use Rattle.std.proofs.Common.{◌≡◌, ℕ, ◌+◌, ◌*◌, ◌<◌, ◌≤◌, true, arith}
-use Rattle.vbi_side.specs.declared.clock.Clock.TheVariants.{DropFrame, OneIn}
+use Rattle.vbi_side.specs.Types.{DropFrame, OneIn}
 use Rattle.vbi_side.specs.Clocks.{left_out, kept, clock_fits, out_near}
 use Rattle.vbi_side.specs.Votes.{IsVoter}
 use Rattle.vbi_side.proofs.Truth.{video_fits}
@@ -29,15 +29,11 @@ drop_few i m j n voter fit = drop_close m n (near i (kept DropFrame m) j (kept D
 
 pub thousand_few : (phase i m j n : ℕ) → phase < 1000 → IsVoter i j → clock_fits (OneIn 1000 phase) i m j n ≡ true
     → left_out (OneIn 1000 phase) n ≤ left_out (OneIn 1000 phase) m + 4
-thousand_few phase i m j n less voter fit = thousand_close phase m n less
-    (near i (kept (OneIn 1000 phase) m) j (kept (OneIn 1000 phase) n) voter
-    (video_fits i (kept (OneIn 1000 phase) m) j (kept (OneIn 1000 phase) n) fit))
+thousand_few phase i m j n less voter fit = grind (arith, near, thousand_close, video_fits)
 
 pub more_few : (phase i m j n : ℕ) → phase < 1001 → IsVoter i j → clock_fits (OneIn 1001 phase) i m j n ≡ true
     → left_out (OneIn 1001 phase) n ≤ left_out (OneIn 1001 phase) m + 4
-more_few phase i m j n less voter fit = more_close phase m n less
-    (near i (kept (OneIn 1001 phase) m) j (kept (OneIn 1001 phase) n) voter
-    (video_fits i (kept (OneIn 1001 phase) m) j (kept (OneIn 1001 phase) n) fit))
+more_few phase i m j n less voter fit = grind (arith, more_close, near, video_fits)
 
 pub drop_near : (n : ℕ) → out_near DropFrame n ≤ 2
 unfolding left_out

@@ -1,20 +1,17 @@
 -- How the answers come about: marked first, then filled with what is due, from the first field on.
 use Rattle.std.proofs.lemmas.Bool.{cases_eq}
-use Rattle.std.proofs.Common.{◌≡◌, ◌≢◌, ℕ, ◌+◌, ◌<◌, ◌≤◌, Bool, true, false, List}
+use Rattle.std.proofs.Common.{◌≡◌, ◌≢◌, ℕ, ◌+◌, ◌<◌, ◌≤◌, List}
 use Rattle.std.proofs.Common.{refl, arith, ap, sym, ◌∙◌, subst, inl, inr, get_or}
-use Rattle.std.specs.Prelude.{Option, Some, None, slice_get, slice_set, length}
-use Rattle.std.specs.Prelude.{◌⊎◌, ◌↔◌, unwrap_or, nat_le, if◌then◌else◌}
+use Rattle.std.specs.Prelude.{Option, Some, slice_get, slice_set, length}
+use Rattle.std.specs.Prelude.{◌⊎◌, ◌↔◌, unwrap_or}
 use Rattle.std.proofs.lemmas.List.{length-set, get_or-set_other}
 use Rattle.std.proofs.lemmas.Grind.{get_or-set_at}
 use Rattle.std.proofs.lemmas.Option.{slice_get-get_or, slice_get_within}
-use Rattle.vbi_side.specs.declared.number.Number.{Number}
-use Rattle.vbi_side.specs.declared.sighting.Sightings.{Sightings}
-use Rattle.vbi_side.specs.declared.pace.Pace.{Pace}
-use Rattle.vbi_side.specs.declared.pace.Pace.TheVariants.{Video}
+use Rattle.vbi_side.specs.Types.{Number, Sightings, Pace, Video}
 use Rattle.vbi_side.specs.Sightings.{Shows}
 use Rattle.vbi_side.specs.Beliefs.{Believed}
 use Rattle.vbi_side.specs.DueNumbers.{Due}
-use Rattle.vbi_side.specs.Numbers.{nothing, believed, due, doubtful, doubtful_of, IsMarked, IsMark}
+use Rattle.vbi_side.specs.Numbers.{nothing, believed, due, doubtful_of, IsMarked, IsMark}
 use Rattle.vbi_side.specs.Numbers.{IsAnswer, AreAnswers, AreRight, IsKnown}
 use Rattle.vbi_side.specs.Truth.{IsRegular, IsSound, IsSoundStill}
 use Rattle.vbi_side.proofs.Ahead.{one_believed}
@@ -31,16 +28,7 @@ number_of one other e = ap (λ (n : Number). n.number) e
 
 -- what is in doubt is neither believed nor due
 doubtful_state : (field : Sightings) → ((doubtful_of field).state ≤ 2) × ((doubtful_of field).state ≢ 1)
-doubtful_state field = go (nat_le 1 field.line_17.weight) (nat_le 1 field.line_18.weight)
-  where
-    in_doubt : Bool → Bool → Number
-    in_doubt = λ a b. if a then doubtful field.line_17.number
-        else (if b then doubtful field.line_18.number else nothing)
-
-    go : (a b : Bool) → ((in_doubt a b).state ≤ 2) × ((in_doubt a b).state ≢ 1)
-    go true b = (omega arith, λ e. absurd (omega (arith, e)))
-    go false true = (omega arith, λ e. absurd (omega (arith, e)))
-    go false false = (omega arith, λ e. absurd (omega (arith, e)))
+doubtful_state field = grind arith
 
 pub unlike : (field : Sightings) (n : ℕ) → doubtful_of field ≡ believed n → ⊥
 unlike field n e = (doubtful_state field).1 (state_of (doubtful_of field) (believed n) e)
@@ -59,11 +47,7 @@ some_is a b e = ap (λ o. unwrap_or o a) e
 
 -- a number that is believed is of a field that is there
 pub shown_within : (fields : List Sightings) (i n : ℕ) → Shows (slice_get fields i) n → i < length fields
-shown_within fields i n shown = go (slice_get fields i) refl shown
-  where
-    go : (field : Option Sightings) → slice_get fields i ≡ field → Shows field n → i < length fields
-    go None e shows = absurd shows
-    go (Some field) e shows = slice_get_within fields i field e
+shown_within fields i n shown = grind (arith, slice_get_within)
 
 -- ---- filling
 
@@ -169,19 +153,12 @@ filling_due pace fields numbers field n is_due filling = record {
 -- what is answered as believed is
 pub answer_believed : (pace : Pace) (fields : List Sightings) (i n : ℕ) (answer : Number)
     → IsAnswer pace fields i answer → answer ≡ believed n → Believed pace fields i n
-answer_believed pace fields i n answer (inl (m, b, is)) e =
-    subst (Believed pace fields i) (number_of (believed m) (believed n) (sym is ∙ e)) b
-answer_believed pace fields i n answer (inr (inl (m, d, is))) e = absurd (apart m n (sym is ∙ e))
-answer_believed pace fields i n answer (inr (inr (none, others, (field, at, is)))) e =
-    absurd (unlike field n (sym is ∙ e))
+answer_believed pace fields i n answer h1 h2 = grind (arith, apart, number_of, unlike)
 
 -- what is answered as due is
 pub answer_due : (pace : Pace) (fields : List Sightings) (i n : ℕ) (answer : Number)
     → IsAnswer pace fields i answer → answer ≡ due n → Due pace fields i n
-answer_due pace fields i n answer (inl (m, b, is)) e = absurd (apart n m (sym e ∙ is))
-answer_due pace fields i n answer (inr (inl (m, d, is))) e =
-    subst (Due pace fields i) (number_of (due m) (due n) (sym is ∙ e)) d
-answer_due pace fields i n answer (inr (inr (none, others, (field, at, is)))) e = absurd (not_due field n (sym is ∙ e))
+answer_due pace fields i n answer h1 h2 = grind (arith, apart, not_due, number_of)
 
 -- what is believed or due is what the answer says
 pub known_numbers : (pace : Pace) (fields : List Sightings) (i n : ℕ) (answer : Number) → IsAnswer pace fields i answer

@@ -4,15 +4,8 @@ use Rattle.std.proofs.Common.{sym, ◌∙◌, subst, inl, inr, min}
 use Rattle.std.specs.Prelude.{Option, Some, None, option_map, slice_get, ◌⊎◌, not, nat_le, if◌then◌else◌}
 use Rattle.std.proofs.lemmas.Bool.Decides.{eqb_tells}
 use Rattle.std.proofs.lemmas.Option.{slice_get-map}
-use Rattle.vbi_words.specs.declared.system.System.{System}
-use Rattle.vbi_words.specs.declared.code.Code.{Code}
-use Rattle.vbi_words.specs.declared.code.Code.TheVariants.{Picture, Time, ClvPicture}
+use Rattle.vbi_side.specs.Types.{System, Code, Counted, Pictures, Times, Shown, Pace, Video}
 use Rattle.vbi_words.specs.Codes.{code_of}
-use Rattle.vbi_side.specs.declared.lines.Counted.{Counted}
-use Rattle.vbi_side.specs.declared.lines.Counted.TheVariants.{Pictures, Times}
-use Rattle.vbi_side.specs.declared.lines.Shown.{Shown}
-use Rattle.vbi_side.specs.declared.pace.Pace.{Pace}
-use Rattle.vbi_side.specs.declared.pace.Pace.TheVariants.{Video}
 use Rattle.vbi_side.specs.Sightings.{Shows}
 use Rattle.vbi_side.specs.Paces.{fits}
 use Rattle.vbi_side.specs.Lines.{pass_weight, code_in, number_from, sighting_from, sighting_of}
@@ -28,50 +21,30 @@ use Rattle.vbi_side.proofs.Truth.{sound, on_the_disc, sound_still}
 
 -- a word that wasn't misread is that on the disc, or none was read
 not_misread : (read word : Option ℕ) → is_misread read word ≡ false → (read ≡ None) ⊎ (read ≡ word)
-not_misread None word e = inl refl
-not_misread (Some a) None e = absurd (let clash : true ≡ false → ⊥ = λ h. cc in clash e)
-not_misread (Some a) (Some b) e = elim (eqb_tells a b) [
-  | inl (t, is) ↦ inr (ap Some is)
-  | inr (f, apart) ↦ absurd (let clash : true ≡ false → ⊥ = λ h. cc in clash (subst (λ b. not b ≡ false) f e))
-]
+not_misread read word h1 = grind (arith, eqb_tells)
 
 -- without a word there is no number
 no_word : (system : System) (counted : Counted) (first : Option Code) (n : ℕ)
     → number_from system counted first None ≡ Some n → ⊥
-no_word system Pictures first n e = cc
-no_word system Times None n e = cc
-no_word system Times (Some (ClvPicture a b)) n e = cc
-no_word system Times first n e = cc
+no_word system counted first n h1 = grind arith
 
 no_first : (system : System) (code : Option Code) (n : ℕ) → number_from system Times None code ≡ Some n → ⊥
-no_first system None n e = cc
-no_first system (Some (Time a b)) n e = cc
-no_first system code n e = cc
+no_first system code n h1 = grind arith
 
 -- of pictures line 16 says nothing
 pictures_alone : (system : System) (first other code : Option Code)
     → number_from system Pictures first code ≡ number_from system Pictures other code
-pictures_alone system first other None = refl
-pictures_alone system first other (Some (Picture a)) = refl
-pictures_alone system first other code = refl
+pictures_alone system first other code = grind arith
 
 -- the word was read that is on the disc, if a number was
 word_is : (system : System) (counted : Counted) (first : Option Code) (line : Shown) (word : Option ℕ) (n : ℕ)
     → number_from system counted first (code_in line) ≡ Some n → is_misread line.word word ≡ false → line.word ≡ word
-word_is system counted first line word n e right = elim (not_misread line.word word right) [
-  | inl none ↦ absurd (no_word system counted first n
-      (subst (λ (w : Option ℕ). number_from system counted first (option_map code_of w) ≡ Some n) none e))
-  | inr is ↦ is
-]
+word_is system counted first line word n e right = grind (arith, no_word, not_misread)
 
 first_is : (system : System) (line_16 : Shown) (code : Option Code) (word : Option ℕ) (n : ℕ)
     → number_from system Times (code_in line_16) code ≡ Some n → is_misread line_16.word word ≡ false
     → line_16.word ≡ word
-first_is system line_16 code word n e right = elim (not_misread line_16.word word right) [
-  | inl none ↦ absurd (no_first system code n
-      (subst (λ (w : Option ℕ). number_from system Times (option_map code_of w) code ≡ Some n) none e))
-  | inr is ↦ is
-]
+first_is system line_16 code word n e right = grind (arith, no_first, not_misread)
 
 -- a test that a number doesn't pass gives it no weight
 weighs_none : (wrong : ℕ → Bool) (n weight : ℕ) → wrong n ≡ false
@@ -80,11 +53,7 @@ weighs_none wrong n weight e = rw e refl
 
 weighs_less : (wrong : ℕ → Bool) (n weight : ℕ)
     → sighting_weight wrong (record { number = n; weight = weight }) ≤ weight
-weighs_less wrong n weight = go (wrong n)
-  where
-    go : (b : Bool) → (if b then min weight 2 else 0) ≤ weight
-    go true = omega arith
-    go false = omega arith
+weighs_less wrong n weight = grind arith
 
 -- of pictures, a number that isn't on the disc is a misread word
 picture_misread : (system : System) (line_16 line : Shown) (first word : Option ℕ) (recorded : Option ℕ)
@@ -213,9 +182,7 @@ pub near_read : (pace : Pace) (capture : Capture) (i n : ℕ) → AreTold captur
     → misread_weight capture.counted capture.lines capture.disc i < enough → Believed pace (sightings_in capture) i n
     → (j m : ℕ) × IsNear i j × (capture.recorded j ≡ Some m) × Shows (slice_get (sightings_in capture) j) m
     × (fits pace i n j m ≡ true)
-near_read pace capture i n told runs few b =
-    on_the_disc pace capture.recorded (sightings_in capture) i n runs
-    (omega (arith, few, wrong_misread capture i told)) b
+near_read pace capture i n told runs few b = grind (arith, on_the_disc, wrong_misread)
 
 -- where the player stood still
 pub still_read : (capture : Capture) (i m n : ℕ) → AreTold capture → StandsStill capture.recorded i m

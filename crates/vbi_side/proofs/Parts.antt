@@ -1,13 +1,10 @@
 -- A field is answered the same from a part of its capture.
-use Rattle.std.proofs.Common.{eq-eqb, ◌≡◌, ℕ, zero, suc, ◌+◌, ◌*◌, ◌-◌, ◌%◌, ◌<◌, ◌≤◌, Bool, true, false, List, refl}
+use Rattle.std.proofs.Common.{◌≡◌, ℕ, zero, suc, ◌+◌, ◌*◌, ◌-◌, ◌≤◌, Bool, true, List, refl}
 use Rattle.std.proofs.Common.{arith, ap, sym, ◌∙◌, subst, inl, inr}
-use Rattle.std.specs.Prelude.{Option, slice_get, if◌then◌else◌, ◌⊎◌, ◌↔◌, nat_le, ◌==◌}
+use Rattle.std.specs.Prelude.{Option, slice_get, ◌⊎◌, ◌↔◌}
 use Rattle.std.proofs.lemmas.Bool.{leb-true, le-leb, and_from}
 use Rattle.std.proofs.lemmas.Bool.Decides.{leb_tells}
-use Rattle.vbi_side.specs.declared.number.Number.{Number}
-use Rattle.vbi_side.specs.declared.pace.Pace.{Pace}
-use Rattle.vbi_side.specs.declared.pace.Pace.TheVariants.{Video, Film}
-use Rattle.vbi_side.specs.declared.sighting.Sightings.{Sightings}
+use Rattle.vbi_side.specs.Types.{Number, Pace, Video, Film, Sightings}
 use Rattle.vbi_side.specs.Paces.{spot, fits, stays, Count, nearly}
 use Rattle.vbi_side.specs.Beliefs.{reach, field_weight, weight_at, weight_below, support_of, Believed}
 use Rattle.vbi_side.specs.DueNumbers.{slack_of, Leaves, IsLeft, Due}
@@ -21,75 +18,25 @@ use Rattle.vbi_side.proofs.Truth.{video_fits, film_fits, stays_is, believed_alik
 -- ---- what fits, so many fields later
 
 pub same_truth : (a b : Bool) → (a ≡ true → b ≡ true) → (b ≡ true → a ≡ true) → a ≡ b
-same_truth true b on back = sym (on refl)
-same_truth false true on back = back refl
-same_truth false false on back = refl
+same_truth a b h1 h2 = grind arith
 
 fits_later : (pace : Pace) (first i m j n : ℕ) → fits pace i m j n ≡ fits pace (first + i) m (first + j) n
-fits_later Video first i m j n =
-    same_truth (fits Video i m j n) (fits Video (first + i) m (first + j) n)
-    (λ e. eq-eqb (first + j + 2 * m) (first + i + 2 * n) (omega (arith, video_fits i m j n e)))
-    (λ e. eq-eqb (j + 2 * m) (i + 2 * n) (omega (arith, video_fits (first + i) m (first + j) n e)))
-fits_later Film first i m j n =
-    same_truth (fits Film i m j n) (fits Film (first + i) m (first + j) n)
-    (λ e. let p = film_fits i m j n e in
-    and_from (nat_le (2 * (first + j) + 5 * m) (2 * (first + i) + 5 * n + 2))
-    (nat_le (2 * (first + i) + 5 * n) (2 * (first + j) + 5 * m + 2))
-    (le-leb (2 * (first + j) + 5 * m) (2 * (first + i) + 5 * n + 2) (omega (arith, p.0)))
-    (le-leb (2 * (first + i) + 5 * n) (2 * (first + j) + 5 * m + 2) (omega (arith, p.1))))
-    (λ e. let p = film_fits (first + i) m (first + j) n e in
-    and_from (nat_le (2 * j + 5 * m) (2 * i + 5 * n + 2)) (nat_le (2 * i + 5 * n) (2 * j + 5 * m + 2))
-    (le-leb (2 * j + 5 * m) (2 * i + 5 * n + 2) (omega (arith, p.0)))
-    (le-leb (2 * i + 5 * n) (2 * j + 5 * m + 2) (omega (arith, p.1))))
+fits_later pace first i m j n = grind (arith, and_from, film_fits, le-leb, same_truth, video_fits)
 
 stays_later : (first i m j n : ℕ) → stays i m j n ≡ stays (first + i) m (first + j) n
-stays_later first i m j n =
-    same_truth (stays i m j n) (stays (first + i) m (first + j) n)
-    (λ e. let p = stays_is i m j n e in
-    and_from (n == m) ((first + i + (first + j)) % 2 == 0) (eq-eqb n m p.0)
-    (eq-eqb ((first + i + (first + j)) % 2) 0 (omega (arith, p.1))))
-    (λ e. let p = stays_is (first + i) m (first + j) n e in
-    and_from (n == m) ((i + j) % 2 == 0) (eq-eqb n m p.0)
-    (eq-eqb ((i + j) % 2) 0 (omega (arith, p.1))))
+stays_later first i m j n = grind (arith, and_from, same_truth, stays_is)
 
 -- ---- what is read around a field
 
 field_later : (test later : ℕ → Bool) (field : Option Sightings) → ((n : ℕ) → test n ≡ later n)
     → field_weight test field ≡ field_weight later field
-field_later test later field same = omega (
-  arith,
-  field_narrower test later field (λ n e. sym (same n) ∙ e),
-  field_narrower later test field (λ n e. same n ∙ e),
-)
+field_later test later field same = grind (arith, field_narrower)
 
 weight_at-later : (test later : ℕ → ℕ → Bool) (part whole : List Sightings) (first i k : ℕ) → k ≤ 2 * reach
     → (first ≡ 0) ⊎ (reach ≤ i) → ((j : ℕ) → IsNear i j → slice_get part j ≡ slice_get whole (first + j))
     → ((j n : ℕ) → test j n ≡ later (first + j) n)
     → weight_at test part i k ≡ weight_at later whole (first + i) k
-weight_at-later test later part whole first i k within before agree same =
-    go (leb_tells reach (i + k)) (leb_tells reach (first + i + k))
-  where
-    at : reach ≤ i + k → first + i + k - reach ≡ first + (i + k - reach)
-    at le = omega (arith, le)
-
-    go : ((nat_le reach (i + k) ≡ true) × (reach ≤ i + k)) ⊎ ((nat_le reach (i + k) ≡ false) × (i + k < reach))
-        → ((nat_le reach (first + i + k) ≡ true) × (reach ≤ first + i + k))
-        ⊎ ((nat_le reach (first + i + k) ≡ false) × (first + i + k < reach))
-        → weight_at test part i k ≡ weight_at later whole (first + i) k
-    go (inl (t, le)) (inl (s, more)) =
-        rw t (rw s (
-        field_later (test (i + k - reach)) (later (first + (i + k - reach))) (slice_get part (i + k - reach))
-        (same (i + k - reach))
-        ∙ ap (field_weight (later (first + (i + k - reach))))
-        (agree (i + k - reach) (omega arith, omega (arith, within)))
-        ∙ ap (λ f. field_weight (later f) (slice_get whole f)) (sym (at le))
-        ))
-    go (inl (t, le)) (inr (s, less)) = absurd (omega (arith, le, less))
-    go (inr (t, less)) (inl (s, more)) = elim before [
-      | inl none ↦ absurd (omega (arith, none, less, more))
-      | inr far ↦ absurd (omega (arith, far, less))
-    ]
-    go (inr (t, less)) (inr (s, lesser)) = rw t (rw s refl)
+weight_at-later test later part whole first i k within before agree same = grind (arith, field_later, leb_tells)
 
 pub weight_below-later : (test later : ℕ → ℕ → Bool) (part whole : List Sightings) (first i n : ℕ) → n ≤ 2 * reach + 1
     → (first ≡ 0) ⊎ (reach ≤ i) → ((j : ℕ) → IsNear i j → slice_get part j ≡ slice_get whole (first + j))
@@ -143,24 +90,10 @@ count_later Film first i m j n = (λ e. omega (arith, e), λ e. omega (arith, e)
 
 nearly_later : (pace : Pace) (slack first i m j n : ℕ)
     → nearly pace slack (spot i m) (spot j n) ≡ nearly pace slack (spot (first + i) m) (spot (first + j) n)
-nearly_later Video slack first i m j n =
-    same_truth (nearly Video slack (spot i m) (spot j n)) (nearly Video slack (spot (first + i) m) (spot (first + j) n))
-    (λ e. let p = video_nearly slack i m j n e in
-    and_from (nat_le (first + j + 2 * m) (first + i + 2 * n + slack))
-    (nat_le (first + i + 2 * n) (first + j + 2 * m + slack))
-    (le-leb (first + j + 2 * m) (first + i + 2 * n + slack) (omega (arith, p.0)))
-    (le-leb (first + i + 2 * n) (first + j + 2 * m + slack) (omega (arith, p.1))))
-    (λ e. let p = video_nearly slack (first + i) m (first + j) n e in
-    and_from (nat_le (j + 2 * m) (i + 2 * n + slack)) (nat_le (i + 2 * n) (j + 2 * m + slack))
-    (le-leb (j + 2 * m) (i + 2 * n + slack) (omega (arith, p.0)))
-    (le-leb (i + 2 * n) (j + 2 * m + slack) (omega (arith, p.1))))
-nearly_later Film slack first i m j n = fits_later Film first i m j n
+nearly_later pace slack first i m j n = grind (arith, and_from, fits_later, le-leb, same_truth, video_nearly)
 
 slack_later : (first j k : ℕ) → slack_of j k ≡ slack_of (first + j) (first + k)
-slack_later first j k =
-    ap (λ b. if b then 1 else 0) (same_truth (nat_le k (j + 8)) (nat_le (first + k) (first + j + 8))
-    (λ e. le-leb (first + k) (first + j + 8) (omega (arith, leb-true k (j + 8) e)))
-    (λ e. le-leb k (j + 8) (omega (arith, leb-true (first + k) (first + j + 8) e))))
+slack_later first j k = grind (arith, le-leb, leb-true, same_truth)
 
 -- a field within reach of field i is seen from a part that field i can be judged from
 seen_near : (whole part : List Sightings) (first i j : ℕ) → IsPart Sightings whole part first i → IsNear i j

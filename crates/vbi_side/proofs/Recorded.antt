@@ -3,7 +3,7 @@ use Rattle.std.proofs.Common.{◌≡◌, ℕ, ◌+◌, ◌*◌, ◌-◌, ◌<◌
 use Rattle.std.proofs.Common.{eq-eqb, subst}
 use Rattle.std.specs.Prelude.{Option, Some, None, slice_get, ◌⊎◌, not, ◌&&◌}
 use Rattle.std.proofs.lemmas.Bool.{eqb-true, and_parts, and_from}
-use Rattle.vbi_side.specs.declared.sighting.Sightings.{Sightings}
+use Rattle.vbi_side.specs.Types.{Sightings}
 use Rattle.vbi_side.specs.Sightings.{Shows}
 use Rattle.vbi_side.specs.Beliefs.{reach, field_most, window_weight}
 use Rattle.vbi_side.specs.Truth.{IsNear, is_recorded, wrong_weight}
@@ -19,19 +19,12 @@ not_wrong o n e = subst (λ p. not (is_recorded p n) ≡ false) (sym e) (ap not 
 
 pub wrong_or_right : (recorded : ℕ → Option ℕ) (j m : ℕ)
     → (not (is_recorded (recorded j) m) ≡ true) ⊎ (is_recorded (recorded j) m ≡ true)
-wrong_or_right recorded j m = go (is_recorded (recorded j) m)
-  where
-    go : (b : Bool) → (not b ≡ true) ⊎ (b ≡ true)
-    go true = inr refl
-    go false = inl refl
+wrong_or_right recorded j m = grind arith
 
 -- a number that the disc hasn't there is wrong
 pub wrong_if : (recorded : ℕ → Option ℕ) (j m : ℕ) → (recorded j ≡ Some m → ⊥)
     → not (is_recorded (recorded j) m) ≡ true
-wrong_if recorded j m never = elim (wrong_or_right recorded j m) [
-  | inl is ↦ is
-  | inr is ↦ absurd (never (recorded_is (recorded j) m is))
-]
+wrong_if recorded j m never = grind (arith, recorded_is, wrong_or_right)
 
 -- ---- of what passes a test
 
@@ -47,12 +40,7 @@ right_is recorded test j m e =
 -- it is wrong or right
 pub wrong_and_right : (recorded : ℕ → Option ℕ) (test : ℕ → ℕ → Bool) (fields : List Sightings) (i : ℕ)
     → window_weight test fields i ≤ wrong_weight recorded fields i + window_weight (right_of recorded test) fields i
-wrong_and_right recorded test fields i =
-    weight_below-split test (λ j m. not (is_recorded (recorded j) m)) (right_of recorded test) fields i (2 * reach + 1)
-    (omega arith) (λ j m near e. elim (wrong_or_right recorded j m) [
-      | inl is ↦ inl is
-      | inr is ↦ inr (and_from (test j m) (is_recorded (recorded j) m) e is)
-    ])
+wrong_and_right recorded test fields i = grind (arith, and_from, weight_below-split, wrong_or_right)
 
 -- where one field at most is right, what passes was misread, but for that field
 pub right_once : (recorded : ℕ → Option ℕ) (test : ℕ → ℕ → Bool) (fields : List Sightings) (i : ℕ)

@@ -2,14 +2,12 @@
 use Rattle.std.proofs.Common.{◌≡◌, ◌≢◌, ℕ, zero, suc, ◌+◌, ◌*◌, ◌≤◌, ◌<◌, ◌∙◌, List, length, ap, arith, inl, inr, sym}
 use Rattle.std.proofs.Common.{eq-eqb, Bool, true}
 use Rattle.std.proofs.Math.Nat.{mul-le-mul_left, add-mul-mod_self_left, mod-zero}
-use Rattle.vbi_side.specs.declared.clock.Clock.{Clock}
-use Rattle.vbi_side.specs.declared.pace.Pace.TheVariants.{Video}
+use Rattle.vbi_side.specs.Types.{Clock, Video, Sightings}
 use Rattle.vbi_side.specs.Paces.{fits}
 use Rattle.vbi_side.specs.Clocks.{kept}
 use Rattle.vbi_side.proofs.Counting.{kept_is}
 use Rattle.std.specs.Prelude.{Option, Some, ◌⊎◌, ◌&&◌, ◌/◌, ◌%◌, not}
 use Rattle.std.proofs.lemmas.Bool.{cases_lt, cases_eq, eqb-true, and_parts, and_from}
-use Rattle.vbi_side.specs.declared.sighting.Sightings.{Sightings}
 use Rattle.vbi_side.specs.Truth.{is_recorded}
 use Rattle.vbi_side.specs.Beliefs.{field_most}
 use Rattle.vbi_side.specs.Votes.{votes, votes_as, votes_cast, votes_for, IsElected, IsVotedSoundly, IsVotedRightly}
@@ -21,54 +19,33 @@ use Rattle.vbi_side.proofs.Voting.{first_narrower, first_split, first_apart, vot
 -- no vote is for two numbers
 one_vote : (election : Election) (m n j k : ℕ) → m ≢ n → votes_as election m j k ≡ true
     → votes_as election n j k ≡ true → ⊥
-one_vote election m n j k apart here there =
-    let one : j + 2 * m ≡ election.field + 2 * k = eqb-true _ _ (and_parts _ _ here).1 in
-    let other : j + 2 * n ≡ election.field + 2 * k = eqb-true _ _ (and_parts _ _ there).1 in
-    apart (omega (arith, one, other))
+one_vote election m n j k apart here there = grind (arith, and_parts, eqb-true)
 
 -- so two numbers have no more votes together than there are
 shared : (election : Election) (fields : List Sightings) (m n : ℕ) → m ≢ n
     → votes_for election fields m + votes_for election fields n ≤ votes_cast election fields
-shared election fields m n apart =
-    first_apart (votes_as election m) (votes_as election n) (votes election) fields (length fields)
-    (λ j k e. (and_parts _ _ e).0) (λ j k e. (and_parts _ _ e).0) (λ j k. one_vote election m n j k apart)
+shared election fields m n apart = grind (arith, and_parts, first_apart, one_vote)
 
 pub one_elected : (election : Election) (fields : List Sightings) (m n : ℕ) → IsElected election fields m
     → IsElected election fields n → m ≡ n
-one_elected election fields m n one other = elim (cases_eq m n) [
-  | inl e ↦ e
-  | inr apart ↦ absurd (omega (arith, shared election fields m n apart, one.majority, other.majority))
-]
+one_elected election fields m n one other = grind (arith, cases_eq, shared)
 
 -- where one number has half of the votes, none is elected
 pub half_elects_none : (election : Election) (fields : List Sightings) (n m : ℕ)
     → votes_cast election fields ≡ 2 * votes_for election fields n → IsElected election fields m → ⊥
-half_elects_none election fields n m half elected = elim (cases_eq m n) [
-  | inl e ↦ omega (arith, half, elected.majority, ap (λ k. votes_for election fields k) e)
-  | inr apart ↦ omega (arith, shared election fields m n apart, half, elected.majority)
-]
+half_elects_none election fields n m half elected = grind (arith, cases_eq, shared)
 
 -- where all votes weigh less than elects, none is elected
 pub few_elect_none : (election : Election) (fields : List Sightings) (m : ℕ)
     → votes_cast election fields < field_most → IsElected election fields m → ⊥
-few_elect_none election fields m few elected =
-    omega (
-      arith,
-      few,
-      elected.some,
-      first_narrower (votes_as election m) (votes election) fields (length fields)
-          (λ j k e. (and_parts _ _ e).0),
-    )
+few_elect_none election fields m few elected = grind (arith, and_parts, first_narrower)
 
 -- nor where neither one number has as much, nor all others together
 pub few_for_each : (election : Election) (fields : List Sightings) (n m : ℕ)
     → votes_for election fields n < field_most
     → votes_cast election fields < field_most + votes_for election fields n
     → IsElected election fields m → ⊥
-few_for_each election fields n m few others elected = elim (cases_eq m n) [
-  | inl e ↦ omega (arith, few, elected.some, ap (λ k. votes_for election fields k) e)
-  | inr apart ↦ omega (arith, others, elected.some, shared election fields m n apart)
-]
+few_for_each election fields n m few others elected = grind (arith, cases_eq, shared)
 
 -- ---- where the disc ran on
 
@@ -82,25 +59,7 @@ wrong recorded election j n = votes election j n && not (is_recorded (recorded j
 
 -- two numbers less than k apart that leave the same remainder are one
 one_round : (k a b : ℕ) → a % k ≡ b % k → a < b + k → b < a + k → a ≡ b
-one_round zero a b same less more = absurd (omega (arith, less, more))
-one_round (suc k) a b same less more = go (cases_lt (b / suc k) (a / suc k)) (cases_lt (a / suc k) (b / suc k))
-  where
-    one : suc k * (a / suc k) + a % suc k ≡ a
-    one = omega arith
-
-    other : suc k * (b / suc k) + b % suc k ≡ b
-    other = omega arith
-
-    go : (b / suc k < a / suc k) ⊎ (a / suc k ≤ b / suc k) → (a / suc k < b / suc k) ⊎ (b / suc k ≤ a / suc k) → a ≡ b
-    go (inr le) (inr ge) =
-        let e : a / suc k ≡ b / suc k = omega (arith, le, ge) in
-        omega (arith, one, other, same, ap (λ q. suc k * q) e)
-    go (inl lt) _ =
-        let up : suc k * (b / suc k + 1) ≤ suc k * (a / suc k) = mul-le-mul_left (suc k) (omega (arith, lt)) in
-        absurd (omega (arith, one, other, same, up, less, more))
-    go _ (inl lt) =
-        let up : suc k * (a / suc k + 1) ≤ suc k * (b / suc k) = mul-le-mul_left (suc k) (omega (arith, lt)) in
-        absurd (omega (arith, one, other, same, up, less, more))
+one_round k a b h1 h2 h3 = grind (arith, cases_lt, mul-le-mul_left)
 
 -- a number that goes on with this part of a minute goes on with each number that has it
 same_part : (minute i part m j n : ℕ) → m % minute ≡ part
@@ -141,24 +100,13 @@ right_fits recorded election m j n ran e =
 
 right_for : (recorded : ℕ → Option ℕ) (election : Election) (fields : List Sightings) (m : ℕ)
     → RanAround recorded election m → right_votes recorded election fields ≤ votes_for election fields m
-right_for recorded election fields m runs =
-    first_narrower (right recorded election) (votes_as election m) fields (length fields)
-    (λ j n. right_fits recorded election m j n runs)
+right_for recorded election fields m runs = grind (arith, first_narrower, right_fits)
 
 -- each vote is right or wrong
 all_votes : (recorded : ℕ → Option ℕ) (election : Election) (fields : List Sightings)
     → votes_cast election fields
     ≤ right_votes recorded election fields + wrong_votes recorded election fields
-all_votes recorded election fields =
-    first_split (votes election) (right recorded election) (wrong recorded election) fields
-    (length fields) split
-  where
-    split : (j n : ℕ) → votes election j n ≡ true
-        → (right recorded election j n ≡ true) ⊎ (wrong recorded election j n ≡ true)
-    split j n e = elim (wrong_or_right recorded j n) [
-      | inl is ↦ inr (and_from _ _ e is)
-      | inr is ↦ inl (and_from _ _ e is)
-    ]
+all_votes recorded election fields = grind (arith, and_from, first_split, wrong_or_right)
 
 -- those for another number are wrong
 wrong_for : (recorded : ℕ → Option ℕ) (election : Election) (fields : List Sightings) (m n : ℕ)
@@ -197,13 +145,7 @@ sound_elected recorded election fields m n voted elected = go (cases_eq m n) vot
 
 pub right_elected : (recorded : ℕ → Option ℕ) (election : Election) (fields : List Sightings) (m : ℕ)
     → IsVotedRightly recorded election fields m → IsElected election fields m
-right_elected recorded election fields m voted =
-    let for = right_for recorded election fields m voted.runs in
-    record {
-      part_is = voted.part_is;
-      majority = omega (arith, voted.most, for, all_votes recorded election fields);
-      some = omega (arith, voted.some, for);
-    }
+right_elected recorded election fields m voted = grind (arith, all_votes, right_for)
 
 -- what elects a number rightly elects no other (vbi_c cites it)
 pub rightly_soundly : (recorded : ℕ → Option ℕ) (election : Election) (fields : List Sightings) (m : ℕ)

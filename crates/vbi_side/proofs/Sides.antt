@@ -2,9 +2,7 @@
 use Rattle.std.proofs.lemmas.Bool.{cases_lt}
 use Rattle.std.proofs.Common.{◌≡◌, ℕ, zero, suc, ◌+◌, ◌*◌, ◌-◌, ◌≤◌, true, List, arith, subst, inl, inr}
 use Rattle.std.specs.Prelude.{Option, Some}
-use Rattle.vbi_side.specs.declared.sighting.Sightings.{Sightings}
-use Rattle.vbi_side.specs.declared.pace.Pace.{Pace}
-use Rattle.vbi_side.specs.declared.pace.Pace.TheVariants.{Video, Film}
+use Rattle.vbi_side.specs.Types.{Sightings, Pace, Video, Film}
 use Rattle.vbi_side.specs.Paces.{fits, stays}
 use Rattle.vbi_side.specs.Beliefs.{reach, field_most, window_weight}
 use Rattle.vbi_side.specs.Truth.{IsNear, AreEven, wrong_weight}
@@ -80,18 +78,11 @@ alone_of disc place rises close j k n here there even = elim (cases_lt k j) [
 module _ (pace : Pace) (recorded : ℕ → Option ℕ) (fields : List Sightings) (alone : Alone recorded) where
   -- of the right ones one field's at most is of one still
   right_still : (i n : ℕ) → window_weight (stays i n) fields i ≤ wrong_weight recorded fields i + field_most
-  right_still i n = right_once recorded (stays i n) fields i (λ j k l m near others e f.
-      let a = stays_is i n j l e.0 in
-      let b = stays_is i n k m f.0 in
-      alone j k n (subst (λ x. recorded j ≡ Some x) a.0 e.1) (subst (λ x. recorded k ≡ Some x) b.0 f.1)
-      (omega (arith, a.1, b.1)))
+  right_still i n = grind (arith, right_once, stays_is)
 
   pub near_one : (i n : ℕ) → IsAnchor pace recorded fields i n
       → (j m : ℕ) × IsNear i j × (recorded j ≡ Some m) × (fits pace i n j m ≡ true)
-  near_one i n anchor =
-      let p = right_somewhere recorded (fits pace i n) fields i
-      (omega (arith, anchor.few, anchor.believed.enough, right_still i n)) in
-      (p.0, p.1, p.2, p.3, p.5)
+  near_one i n anchor = grind (arith, right_somewhere, right_still)
 
 -- ---- the theorems
 

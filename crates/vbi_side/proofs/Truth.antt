@@ -3,9 +3,7 @@ use Rattle.std.proofs.Common.{◌≡◌, ◌≢◌, ℕ, ◌+◌, ◌*◌, ◌-�
 use Rattle.std.proofs.Common.{List, arith, sym, ◌∙◌, subst, inl, inr, eq-eqb}
 use Rattle.std.specs.Prelude.{Option, Some, slice_get, ◌⊎◌, nat_le, not, ◌&&◌, ◌==◌}
 use Rattle.std.proofs.lemmas.Bool.{cases_lt, cases_eq, leb-true, le-leb, eqb-true, and_parts, and_from}
-use Rattle.vbi_side.specs.declared.sighting.Sightings.{Sightings}
-use Rattle.vbi_side.specs.declared.pace.Pace.{Pace}
-use Rattle.vbi_side.specs.declared.pace.Pace.TheVariants.{Video, Film}
+use Rattle.vbi_side.specs.Types.{Sightings, Pace, Video, Film}
 use Rattle.vbi_side.specs.Sightings.{Shows}
 use Rattle.vbi_side.specs.Paces.{fits, stays}
 use Rattle.vbi_side.specs.Beliefs.{reach, enough, field_most, window_weight, support_of, Believed}
@@ -21,14 +19,10 @@ video_fits i m j n e = eqb-true (j + 2 * m) (i + 2 * n) e
 
 pub film_fits : (i m j n : ℕ) → fits Film i m j n ≡ true
     → (2 * j + 5 * m ≤ 2 * i + 5 * n + 2) × (2 * i + 5 * n ≤ 2 * j + 5 * m + 2)
-film_fits i m j n e =
-    let p = and_parts (nat_le (2 * j + 5 * m) (2 * i + 5 * n + 2)) (nat_le (2 * i + 5 * n) (2 * j + 5 * m + 2)) e in
-    (leb-true (2 * j + 5 * m) (2 * i + 5 * n + 2) p.0, leb-true (2 * i + 5 * n) (2 * j + 5 * m + 2) p.1)
+film_fits i m j n e = grind (arith, and_parts, leb-true)
 
 pub near_same : (x y : ℕ) → x ≡ y → (nat_le x (y + 0) && nat_le y (x + 0)) ≡ true
-near_same x y e =
-    and_from (nat_le x (y + 0)) (nat_le y (x + 0)) (le-leb x (y + 0) (omega (arith, e)))
-    (le-leb y (x + 0) (omega (arith, e)))
+near_same x y e = grind (arith, and_from, le-leb)
 
 -- the fields of a still
 pub stays_is : (i m j n : ℕ) → stays i m j n ≡ true → (n ≡ m) × AreEven i j
@@ -46,11 +40,7 @@ even_in_step Film i j e = tt {0}
 
 -- no two numbers in one field fit the same number in another
 one_fits : (pace : Pace) (i a b j n : ℕ) → fits pace i a j n ≡ true → fits pace i b j n ≡ true → a ≡ b
-one_fits Video i a b j n first second = omega (arith, video_fits i a j n first, video_fits i b j n second)
-one_fits Film i a b j n first second =
-    let p = film_fits i a j n first in
-    let q = film_fits i b j n second in
-    omega (arith, p.0, p.1, q.0, q.1)
+one_fits pace i a b j n h1 h2 = grind (arith, film_fits, video_fits)
 
 -- no two fields an even number apart have one number that fits
 one_field : (pace : Pace) (j k n : ℕ) → fits pace j n k n ≡ true → AreEven j k → j ≡ k
@@ -91,20 +81,13 @@ wrong_support pace recorded fields i a n runs has wrong =
 
 pub sound : (pace : Pace) (recorded : ℕ → Option ℕ) (fields : List Sightings) (i m n : ℕ)
     → IsSound pace recorded fields i m → Believed pace fields i n → n ≡ m
-sound pace recorded fields i m n (runs, has, few) b = elim (cases_eq n m) [
-  | inl e ↦ e
-  | inr wrong ↦ absurd (omega (arith, few, b.enough, wrong_support pace recorded fields i m n runs has wrong))
-]
+sound pace recorded fields i m n h1 h2 = grind (arith, cases_eq, wrong_support)
 
 pub complete : (pace : Pace) (recorded : ℕ → Option ℕ) (fields : List Sightings) (i m : ℕ)
     → RunsOn pace recorded i → recorded i ≡ Some m → Shows (slice_get fields i) m
     → enough ≤ support_of pace fields i m → wrong_weight recorded fields i < support_of pace fields i m
     → Believed pace fields i m
-complete pace recorded fields i m runs has shown much more = record {
-  shown = shown;
-  enough = much;
-  ahead = λ k other apart. omega (arith, more, wrong_support pace recorded fields i m k runs has apart);
-}
+complete pace recorded fields i m runs has shown much more = grind (arith, wrong_support)
 
 -- ---- whether the field has a number or not
 
@@ -137,10 +120,7 @@ wrong_stays recorded i a n still wrong j m near e = wrong_if recorded j m (λ is
 -- of the right ones, one field's at most fits a wrong number at the pace of video
 wrong_running : (recorded : ℕ → Option ℕ) (fields : List Sightings) (i a n : ℕ) → StandsStill recorded i a
     → window_weight (fits Video i n) fields i ≤ wrong_weight recorded fields i + field_most
-wrong_running recorded fields i a n still = right_once recorded (fits Video i n) fields i (λ j k l m near others e f.
-    let here : l ≡ a = still j l near (fits_in_step Video i n j l e.0) e.1 in
-    let there : m ≡ a = still k m others (fits_in_step Video i n k m f.0) f.1 in
-    omega (arith, video_fits i n j l e.0, video_fits i n k m f.0, here, there))
+wrong_running recorded fields i a n still = grind (arith, fits_in_step, right_once, video_fits)
 
 pub sound_still : (recorded : ℕ → Option ℕ) (fields : List Sightings) (i m n : ℕ)
     → IsSoundStill recorded fields i m → Believed Video fields i n → n ≡ m
@@ -163,29 +143,12 @@ pub believed_alike : (pace : Pace) (fields others : List Sightings) (i j n : ℕ
     → slice_get fields i ≡ slice_get others j
     → ((m : ℕ) → support_of pace fields i m ≡ support_of pace others j m)
     → Believed pace fields i n → Believed pace others j n
-believed_alike pace fields others i j n here same b = record {
-  shown = subst (λ f. Shows f n) here b.shown;
-  enough = subst (λ w. enough ≤ w) (same n) b.enough;
-  ahead = λ m shown apart. omega (
-    arith,
-    same m,
-    same n,
-    b.ahead m (subst (λ f. Shows f m) (sym here) shown) apart,
-  );
-}
+believed_alike pace fields others i j n here same b = grind arith
 
 pub only_near : (pace : Pace) (fields others : List Sightings) (i n : ℕ)
     → ((j : ℕ) → IsNear i j → slice_get fields j ≡ slice_get others j)
     → Believed pace fields i n → Believed pace others i n
-only_near pace fields others i n agree b =
-    let here : slice_get fields i ≡ slice_get others i = agree i (omega arith, omega arith) in
-    let same : (m : ℕ) → support_of pace fields i m ≡ support_of pace others i m
-    = λ m. omega (
-      arith,
-      weight_below-agree (fits pace i m) fields others i (2 * reach + 1) (omega arith) agree,
-      weight_below-agree (stays i m) fields others i (2 * reach + 1) (omega arith) agree,
-    ) in
-    believed_alike pace fields others i i n here same b
+only_near pace fields others i n agree b = grind (arith, believed_alike, weight_below-agree)
 
 -- ---- another field agrees
 
@@ -201,7 +164,4 @@ another test fields i more = elim (spread test fields i reach (2 * reach + 1)) [
 pub never_alone : (pace : Pace) (fields : List Sightings) (i n : ℕ) → Believed pace fields i n
     → (j m : ℕ) × (j ≢ i) × IsNear i j × Shows (slice_get fields j) m
     × ((fits pace i n j m ≡ true) ⊎ (stays i n j m ≡ true))
-never_alone pace fields i n b = elim (cases_lt (window_weight (fits pace i n) fields i) 5) [
-  | inl lt ↦ let p = another (stays i n) fields i (omega (arith, lt, b.enough)) in (p.0, p.1, p.2, p.3, p.4, inr p.5)
-  | inr le ↦ let p = another (fits pace i n) fields i (omega (arith, le)) in (p.0, p.1, p.2, p.3, p.4, inl p.5)
-]
+never_alone pace fields i n b = grind (arith, another, cases_lt)

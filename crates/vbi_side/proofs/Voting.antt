@@ -1,17 +1,15 @@
 -- Sums of votes over the first fields, and who leads.
 use Rattle.std.proofs.Common.{◌≡◌, ℕ, zero, suc, ◌+◌, ◌-◌, ◌<◌, ◌≤◌, Bool, true, false, List, length, refl, arith, ap}
-use Rattle.std.proofs.Common.{subst, ◌*◌, add-one, inl, inr, sym, ◌∙◌, get_or, eq-eqb}
-use Rattle.std.specs.Prelude.{Option, Some, None, slice_get, if◌then◌else◌, ◌⊎◌, min, ◌%◌}
+use Rattle.std.proofs.Common.{◌*◌, add-one, sym, ◌∙◌, get_or}
+use Rattle.std.specs.Prelude.{Option, Some, slice_get, ◌⊎◌, min, ◌%◌}
 use Rattle.std.proofs.lemmas.Option.{slice_get-get_or}
 use Rattle.std.proofs.lemmas.Bool.{cases_lt, cases_eq, leb-true, eqb-true, and_parts, and_from}
-use Rattle.vbi_side.specs.declared.sighting.Sighting.{Sighting}
-use Rattle.vbi_side.specs.declared.sighting.Sightings.{Sightings}
-use Rattle.vbi_side.specs.Sightings.{weight_of}
+use Rattle.vbi_side.specs.Types.{Sighting, Sightings}
 use Rattle.vbi_side.specs.Beliefs.{field_most, sighting_weight, field_weight}
 use Rattle.vbi_side.specs.declared.votes.Count.{Count}
 use Rattle.vbi_side.specs.Votes.{vote_reach, IsVoter, votes, weight_of_first, votes_cast, votes_as, votes_for}
 use Rattle.vbi_side.specs.Votes.{Election, IsElected}
-use Rattle.vbi_side.specs.VoteCounts.{key_of, votes_by, Leads}
+use Rattle.vbi_side.specs.VoteCounts.{votes_by, Leads}
 use Rattle.vbi_side.proofs.Weights.{field_narrower, field_split}
 
 -- a field that shows nothing
@@ -35,17 +33,11 @@ false_true e = cc
 
 sighting_none : (test : ℕ → Bool) (sighting : Sighting) → ((n : ℕ) → test n ≡ true → ⊥)
     → sighting_weight test sighting ≡ 0
-sighting_none test sighting fails = go (test sighting.number) (fails sighting.number)
-  where
-    go : (b : Bool) → (b ≡ true → ⊥) → (if b then weight_of sighting else 0) ≡ 0
-    go false h = refl
-    go true h = absurd (h refl)
+sighting_none test sighting fails = grind arith
 
 field_none : (test : ℕ → Bool) (field : Option Sightings) → ((n : ℕ) → test n ≡ true → ⊥)
     → field_weight test field ≡ 0
-field_none test None fails = refl
-field_none test (Some field) fails =
-    omega (arith, sighting_none test field.line_17 fails, sighting_none test field.line_18 fails)
+field_none test field h1 = grind (arith, sighting_none)
 
 -- fields of which none passes weigh nothing
 pub first_none : (test : ℕ → ℕ → Bool) (fields : List Sightings) (k : ℕ)
@@ -119,31 +111,13 @@ sighting_apart : (one other all : ℕ → Bool) (sighting : Sighting)
     → ((n : ℕ) → one n ≡ true → all n ≡ true) → ((n : ℕ) → other n ≡ true → all n ≡ true)
     → ((n : ℕ) → one n ≡ true → other n ≡ true → ⊥)
     → sighting_weight one sighting + sighting_weight other sighting ≤ sighting_weight all sighting
-sighting_apart one other all sighting here there apart =
-    go (one sighting.number) (other sighting.number) (all sighting.number) (here sighting.number)
-    (there sighting.number) (apart sighting.number)
-  where
-    go : (a b c : Bool) → (a ≡ true → c ≡ true) → (b ≡ true → c ≡ true) → (a ≡ true → b ≡ true → ⊥)
-        → (if a then weight_of sighting else 0) + (if b then weight_of sighting else 0)
-        ≤ (if c then weight_of sighting else 0)
-    go true true c h g f = absurd (f refl refl)
-    go true false true h g f = omega arith
-    go true false false h g f = absurd (false_true (h refl))
-    go false true true h g f = omega arith
-    go false true false h g f = absurd (false_true (g refl))
-    go false false c h g f = omega arith
+sighting_apart one other all sighting here there apart = grind (arith, false_true)
 
 field_apart : (one other all : ℕ → Bool) (field : Option Sightings)
     → ((n : ℕ) → one n ≡ true → all n ≡ true) → ((n : ℕ) → other n ≡ true → all n ≡ true)
     → ((n : ℕ) → one n ≡ true → other n ≡ true → ⊥)
     → field_weight one field + field_weight other field ≤ field_weight all field
-field_apart one other all None here there apart = omega arith
-field_apart one other all (Some field) here there apart =
-    omega (
-      arith,
-      sighting_apart one other all field.line_17 here there apart,
-      sighting_apart one other all field.line_18 here there apart,
-    )
+field_apart one other all field h1 h2 h3 = grind (arith, sighting_apart)
 
 pub first_apart : (one other all : ℕ → ℕ → Bool) (fields : List Sightings) (k : ℕ)
     → ((j n : ℕ) → one j n ≡ true → all j n ≡ true) → ((j n : ℕ) → other j n ≡ true → all j n ≡ true)
@@ -161,31 +135,20 @@ first_apart one other all fields (suc k) here there apart =
 -- ---- who leads
 
 pub leads_alike : (of other : ℕ → ℕ) (count : Count) → ((k : ℕ) → of k ≡ other k) → Leads of count → Leads other count
-leads_alike of other count same leads = record {
-  leading = omega (arith, leads.leading, same count.key);
-  others = λ k apart. omega (arith, leads.others k apart, same k);
-}
+leads_alike of other count same leads = grind arith
 
 -- none leads before the first vote
 pub none_leads : (of : ℕ → ℕ) → ((k : ℕ) → of k ≡ 0) → Leads of (record { key = 0; ahead = 0; all = 0 })
-none_leads of none = record {
-  leading = omega (arith, none 0);
-  others = λ k apart. omega (arith, none k);
-}
+none_leads of none = grind arith
 
 -- who has more than half leads
 pub only_leads : (of : ℕ → ℕ) (count : Count) (k : ℕ) → Leads of count → count.all < 2 * of k → k ≡ count.key
-only_leads of count k leads most = elim (cases_eq k count.key) [
-  | inl e ↦ e
-  | inr apart ↦ absurd (omega (arith, leads.others k apart, most))
-]
+only_leads of count k leads most = grind (arith, cases_eq)
 
 -- ---- which fields vote
 
 pub votes_near : (election : Election) (j n : ℕ) → votes election j n ≡ true → IsVoter election.field j
-votes_near election j n e =
-    let p = and_parts _ _ (and_parts _ _ e).0 in
-    (leb-true election.field (j + vote_reach) p.0, leb-true j (election.field + vote_reach) p.1)
+votes_near election j n e = grind (arith, and_parts, leb-true)
 
 pub votes_by_near : (election : Election) (key j n : ℕ) → votes_by election key j n ≡ true → IsVoter election.field j
 votes_by_near election key j n e = votes_near election j n (and_parts _ _ e).0
@@ -199,47 +162,29 @@ none_before test fields i near =
 pub none_after : (test : ℕ → ℕ → Bool) (fields : List Sightings) (i end : ℕ)
     → ((j n : ℕ) → test j n ≡ true → IsVoter i j) → end ≡ min (length fields) (i + vote_reach + 1)
     → weight_of_first test fields (length fields) ≡ weight_of_first test fields end
-none_after test fields i end near is = elim (cases_lt end (length fields)) [
-  | inl lt ↦ first_after test fields end (length fields) (omega (arith, lt))
-      (λ j n less e. omega (arith, is, lt, less, (near j n e).1))
-  | inr le ↦ let same : length fields ≡ end = omega (arith, is, le) in ap (weight_of_first test fields) same
-]
+none_after test fields i end near is = grind (arith, cases_lt, first_after)
 
 -- a field that is there
 pub first_next : (test : ℕ → ℕ → Bool) (fields : List Sightings) (k : ℕ) → k < length fields
     → weight_of_first test fields (k + 1)
     ≡ weight_of_first test fields k + field_weight (test k) (Some (get_or fields k no_sightings))
-first_next test fields k inside =
-    let at : slice_get fields k ≡ Some (get_or fields k no_sightings) = slice_get-get_or fields k no_sightings inside in
-    first_more test fields k ∙ ap (λ f. weight_of_first test fields k + field_weight (test k) f) at
+first_next test fields k inside = grind (arith, first_more, slice_get-get_or)
 
 -- ---- the number that is elected
 
 fits_key : (election : Election) (m j n : ℕ) → votes_as election m j n ≡ true
     → votes_by election (2 * m + vote_reach) j n ≡ true
-fits_key election m j n e =
-    let p = and_parts _ _ e in
-    let near : IsVoter election.field j = votes_near election j n p.0 in
-    let same : j + 2 * m ≡ election.field + 2 * n = eqb-true _ _ p.1 in
-    let key : key_of election.field j n ≡ 2 * m + vote_reach = omega (arith, near, same) in
-    and_from _ _ p.0 (eq-eqb _ _ key)
+fits_key election m j n e = grind (arith, and_from, and_parts, eqb-true, votes_near)
 
 key_fits : (election : Election) (m j n : ℕ) → votes_by election (2 * m + vote_reach) j n ≡ true
     → votes_as election m j n ≡ true
-key_fits election m j n e =
-    let p = and_parts _ _ e in
-    let near : IsVoter election.field j = votes_near election j n p.0 in
-    let key : key_of election.field j n ≡ 2 * m + vote_reach = eqb-true _ _ p.1 in
-    let same : j + 2 * m ≡ election.field + 2 * n = omega (arith, near, key) in
-    and_from _ _ p.0 (eq-eqb _ _ same)
+key_fits election m j n e = grind (arith, and_from, and_parts, eqb-true, votes_near)
 
 -- the votes for a number are those for its key
 pub votes_for_key : (election : Election) (fields : List Sightings) (m : ℕ)
     → votes_for election fields m
     ≡ weight_of_first (votes_by election (2 * m + vote_reach)) fields (length fields)
-votes_for_key election fields m =
-    first_alike (votes_as election m) (votes_by election (2 * m + vote_reach)) fields (length fields)
-    (fits_key election m) (key_fits election m)
+votes_for_key election fields m = grind (arith, first_alike, fits_key, key_fits)
 
 -- where these are the weights of all votes of each key
 abbrev pub AreCounted : Election → List Sightings → Count → Type 0
@@ -250,9 +195,7 @@ AreCounted election fields count =
 -- an elected number has the leading key
 pub elected_leads : (election : Election) (fields : List Sightings) (count : Count) (m : ℕ)
     → AreCounted election fields count → IsElected election fields m → 2 * m + vote_reach ≡ count.key
-elected_leads election fields count m (all, leads) elected =
-    only_leads _ count (2 * m + vote_reach) leads
-    (omega (arith, all, elected.majority, votes_for_key election fields m))
+elected_leads election fields count m h1 h2 = grind (arith, only_leads, votes_for_key)
 
 -- of all votes these are enough to elect
 abbrev pub AreEnough : ℕ → ℕ → Type 0
@@ -262,23 +205,14 @@ AreEnough all votes = (field_most ≤ votes) × (all < 2 * votes)
 pub elected_enough : (election : Election) (fields : List Sightings) (count : Count) (m : ℕ)
     → AreCounted election fields count → IsElected election fields m
     → AreEnough count.all (weight_of_first (votes_by election count.key) fields (length fields))
-elected_enough election fields count m counted elected =
-    let same = votes_for_key election fields m in
-    subst (λ key. AreEnough count.all (weight_of_first (votes_by election key) fields (length fields)))
-    (elected_leads election fields count m counted elected)
-    (omega (arith, elected.some, same), omega (arith, counted.0, elected.majority, same))
+elected_enough election fields count m counted elected = grind (arith, elected_leads, votes_for_key)
 
 -- the number of a key with enough votes is elected
 pub enough_elected : (election : Election) (fields : List Sightings) (count : Count) (m : ℕ)
     → AreCounted election fields count
     → AreEnough count.all (weight_of_first (votes_by election count.key) fields (length fields))
     → count.key ≡ 2 * m + vote_reach → m % election.minute ≡ election.part → IsElected election fields m
-enough_elected election fields count m (all, leads) enough is has =
-    let same = votes_for_key election fields m in
-    let of : AreEnough count.all (weight_of_first (votes_by election (2 * m + vote_reach)) fields (length fields))
-    = subst (λ key. AreEnough count.all (weight_of_first (votes_by election key) fields (length fields))) is
-    enough in
-    record { part_is = has; majority = omega (arith, all, same, of.1); some = omega (arith, same, of.0) }
+enough_elected election fields count m h1 h2 h3 h4 = grind (arith, votes_for_key)
 
 -- the same where the first of two fields are those that are there
 pub none_first : (test : ℕ → ℕ → Bool) (fields : List Sightings) (i first : ℕ)

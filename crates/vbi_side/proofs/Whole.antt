@@ -1,16 +1,10 @@
 -- The pace of a disc that is read whole is found.
-use Rattle.std.proofs.Common.{◌≡◌, ◌≢◌, ℕ, zero, suc, ◌+◌, ◌*◌, ◌-◌, ◌<◌, ◌≤◌, Bool, true, false, List, length}
+use Rattle.std.proofs.Common.{◌≡◌, ◌≢◌, ℕ, zero, suc, ◌+◌, ◌*◌, ◌-◌, ◌<◌, ◌≤◌, Bool, true, List}
 use Rattle.std.proofs.Common.{refl, arith, ap, sym, ◌∙◌, subst, inl, inr}
 use Rattle.std.specs.Prelude.{Option, Some, slice_get, ◌⊎◌, nat_lt, not, ◌&&◌, ◌==◌}
 use Rattle.std.proofs.lemmas.Bool.{cases_eq, eqb-true, ltb-true, lt-ltb, and_parts, and_from}
 use Rattle.std.proofs.lemmas.Bool.Decides.{eqb_tells}
-use Rattle.vbi_words.specs.declared.system.System.{System}
-use Rattle.vbi_words.specs.declared.system.System.TheVariants.{Ntsc, Pal}
-use Rattle.vbi_side.specs.declared.lines.Counted.{Counted}
-use Rattle.vbi_side.specs.declared.lines.Counted.TheVariants.{Pictures, Times}
-use Rattle.vbi_side.specs.declared.sighting.Sightings.{Sightings}
-use Rattle.vbi_side.specs.declared.pace.Pace.{Pace}
-use Rattle.vbi_side.specs.declared.pace.Pace.TheVariants.{Video, Film}
+use Rattle.vbi_side.specs.Types.{System, Ntsc, Counted, Pictures, Sightings, Pace, Video, Film}
 use Rattle.vbi_side.specs.Sightings.{Shows}
 use Rattle.vbi_side.specs.Paces.{fits}
 use Rattle.vbi_side.specs.Beliefs.{reach, field_most, window_weight, Believed}
@@ -73,27 +67,16 @@ none_misread recorded fields i right = elim (spread wrong fields i (2 * reach + 
 -- so each number that is shown is believed
 all_believed : (pace : Pace) (recorded : ℕ → Option ℕ) (fields : List Sightings) (i n : ℕ)
     → IsWhole pace recorded fields → Shows (slice_get fields i) n → Believed pace fields i n
-all_believed pace recorded fields i n whole shown =
-    let much = whole.much i n shown in
-    complete pace recorded fields i n (whole.runs i) (whole.right i n shown) shown much
-    (omega (arith, none_misread recorded fields i whole.right, much))
+all_believed pace recorded fields i n whole shown = grind (arith, complete, none_misread)
 
 -- ---- video
 
 pub video_most : (video film : ℕ) → film ≤ video → pace_by video film ≡ Video
-video_most video film less = go (nat_lt (11 * video) (10 * film)) refl
-  where
-    go : (b : Bool) → nat_lt (11 * video) (10 * film) ≡ b → pace_by video film ≡ Video
-    go true e = absurd (omega (arith, ltb-true (11 * video) (10 * film) e, less))
-    go false e = rw e refl
+video_most video film less = grind (arith, ltb-true)
 
 pub finds_video : (system : System) (counted : Counted) (recorded : ℕ → Option ℕ) (fields : List Sightings)
     (pace : Pace) → IsWhole Video recorded fields → IsFound system counted fields pace → pace ≡ Video
-finds_video Ntsc Pictures recorded fields pace whole (video, film, videos, films, is) =
-    is ∙ video_most video film (some_most Film Video fields (length fields) film video
-    (λ i m b. all_believed Video recorded fields i m whole b.shown) films videos)
-finds_video Ntsc Times recorded fields pace whole found = found
-finds_video Pal counted recorded fields pace whole found = found
+finds_video system counted recorded fields pace h1 h2 = grind (arith, all_believed, some_most, video_most)
 
 -- ---- film
 
@@ -157,9 +140,5 @@ none_believed recorded fields i n whole turns b =
 pub finds_film : (recorded : ℕ → Option ℕ) (fields : List Sightings) (i n : ℕ) (pace : Pace)
     → IsWhole Film recorded fields → TakesTurns recorded → Shows (slice_get fields i) n
     → IsFound Ntsc Pictures fields pace → pace ≡ Film
-finds_film recorded fields i n pace whole turns shown (video, film, videos, films, is) =
-    let none : video ≡ 0 = none_counted Video fields (length fields) video
-    (λ j m b. none_believed recorded fields j m whole turns b) videos in
-    is ∙ ap (λ v. pace_by v film) none ∙ film_most film
-    (one_counted Film fields (length fields) film i n (all_believed Film recorded fields i n whole shown)
-    (shown_within fields i n shown) films)
+finds_film recorded fields i n pace h1 h2 h3 h4 =
+    grind (arith, all_believed, film_most, none_believed, none_counted, one_counted, shown_within)

@@ -1,7 +1,7 @@
 -- The worked sides, computed.
-use Rattle.std.proofs.Common.{◌≡◌, ℕ, zero, suc, ◌<◌, ◌≤◌, refl, arith, ap, subst, sym, inl, inr}
+use Rattle.std.proofs.Common.{◌≡◌, ℕ, ◌≤◌, refl, arith}
 use Rattle.std.specs.Prelude.{Some, slice_get}
-use Rattle.vbi_side.specs.declared.pace.Pace.TheVariants.{Video, Film}
+use Rattle.vbi_side.specs.Types.{Video, Film}
 use Rattle.vbi_side.specs.Sightings.{Shows}
 use Rattle.vbi_side.specs.Beliefs.{enough, weight_below, support_of, Believed}
 use Rattle.vbi_side.specs.Truth.{IsSound, wrong_weight, video_disc, film_disc}
@@ -11,10 +11,7 @@ use Rattle.vbi_side.proofs.Discs.{video_runs, film_runs}
 
 -- a blank field shows no number
 pub none_shown : (n : ℕ) → Shows (Some blank) n → ⊥
-none_shown n shown = elim shown [
-  | inl h ↦ absurd (omega (arith, h.0))
-  | inr h ↦ absurd (omega (arith, h.0))
-]
+none_shown n shown = grind arith
 
 pub nine : wrong_weight video_disc wrong_by_9 4 ≡ 9
 unfolding weight_below
@@ -40,25 +37,10 @@ unfolding weight_below
 wrong_support = refl
 
 pub right : Believed Video wrong_by_9 4 2
-right = record {
-  shown = inl (omega arith, refl);
-  enough = omega (arith, right_support);
-  ahead = λ m shown apart. elim shown [
-    | inl h ↦ absurd (apart (sym h.1))
-    | inr h ↦ subst (λ k. support_of Video wrong_by_9 4 k < support_of Video wrong_by_9 4 2) h.1
-        (omega (arith, right_support, rival_support))
-  ];
-}
+right = grind (arith, right_support, rival_support)
 
 pub wrong : Believed Video wrong_by_10 4 102
-wrong = record {
-  shown = inr (omega arith, refl);
-  enough = omega (arith, wrong_support);
-  ahead = λ m shown apart. elim shown [
-    | inl h ↦ absurd (omega (arith, h.0))
-    | inr h ↦ absurd (apart (sym h.1))
-  ];
-}
+wrong = grind (arith, wrong_support)
 
 -- ---- a capture of film that is read whole
 
@@ -69,31 +51,13 @@ film_support = (refl, refl, refl)
 
 -- a field shows the number that both of its lines have
 shown_is : (m n weight : ℕ) → Shows (Some (field_of m weight m weight)) n → m ≡ n
-shown_is m n weight shown = elim shown [
-  | inl h ↦ h.1
-  | inr h ↦ h.1
-]
+shown_is m n weight shown = grind arith
 
 film_right : (i n : ℕ) → Shows (slice_get film_side i) n → film_disc i ≡ Some n
-film_right zero n shown = ap Some (shown_is 0 n 2 shown)
-film_right (suc zero) n shown = absurd (none_shown n shown)
-film_right (suc (suc zero)) n shown = ap Some (shown_is 1 n 2 shown)
-film_right (suc (suc (suc zero))) n shown = absurd (none_shown n shown)
-film_right (suc (suc (suc (suc zero)))) n shown = absurd (none_shown n shown)
-film_right (suc (suc (suc (suc (suc zero))))) n shown = ap Some (shown_is 2 n 2 shown)
-film_right (suc (suc (suc (suc (suc (suc k)))))) n shown = absurd shown
+film_right i n h1 = grind (arith, none_shown, shown_is)
 
 film_much : (i n : ℕ) → Shows (slice_get film_side i) n → enough ≤ support_of Film film_side i n
-film_much zero n shown =
-    subst (λ k. enough ≤ support_of Film film_side 0 k) (shown_is 0 n 2 shown) (omega (arith, film_support.0))
-film_much (suc zero) n shown = absurd (none_shown n shown)
-film_much (suc (suc zero)) n shown =
-    subst (λ k. enough ≤ support_of Film film_side 2 k) (shown_is 1 n 2 shown) (omega (arith, film_support.1))
-film_much (suc (suc (suc zero))) n shown = absurd (none_shown n shown)
-film_much (suc (suc (suc (suc zero)))) n shown = absurd (none_shown n shown)
-film_much (suc (suc (suc (suc (suc zero))))) n shown =
-    subst (λ k. enough ≤ support_of Film film_side 5 k) (shown_is 2 n 2 shown) (omega (arith, film_support.2))
-film_much (suc (suc (suc (suc (suc (suc k)))))) n shown = absurd shown
+film_much i n h1 = grind (arith, film_support, none_shown, shown_is)
 
 pub whole_film : IsWhole Film film_disc film_side
 whole_film = record { runs = film_runs; right = film_right; much = film_much }

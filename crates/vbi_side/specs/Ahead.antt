@@ -1,9 +1,6 @@
 -- How the rule is reckoned: weights by how numbers fit, and one sighting of a field judged beside the other.
 use Rattle.std.specs.Prelude.{◌≡◌, ℕ, ◌<◌, ◌≤◌, List, Bool}
-use Rattle.vbi_side.specs.declared.sighting.Sighting.{Sighting}
-use Rattle.vbi_side.specs.declared.sighting.Sightings.{Sightings}
-use Rattle.vbi_side.specs.declared.pace.Pace.{Pace}
-use Rattle.vbi_side.specs.declared.place.Place.{Place}
+use Rattle.vbi_side.specs.Types.{Sighting, Sightings, Pace, Place}
 use Rattle.vbi_side.specs.declared.belief.Fit.{Fit}
 use Rattle.vbi_side.specs.declared.belief.Fit.TheVariants.{Runs, Stays, Says, Opposes}
 use Rattle.vbi_side.specs.Sightings.{Has}

@@ -1,9 +1,7 @@
 -- Which numbers that fields show are believed: those that enough sightings nearby fit. The rule is this project's own.
 use Rattle.std.specs.Prelude.{◌≡◌, ℕ, zero, suc, ◌+◌, ◌*◌, ◌-◌, ◌<◌, ◌≤◌, nat_le, max}
 use Rattle.std.specs.Prelude.{Bool, if◌then◌else◌, List, Option, Some, None, slice_get}
-use Rattle.vbi_side.specs.declared.sighting.Sighting.{Sighting}
-use Rattle.vbi_side.specs.declared.sighting.Sightings.{Sightings}
-use Rattle.vbi_side.specs.declared.pace.Pace.{Pace}
+use Rattle.vbi_side.specs.Types.{Sighting, Sightings, Pace}
 use Rattle.vbi_side.specs.Sightings.{weight_of, Shows}
 use Rattle.vbi_side.specs.Paces.{fits, stays}
 

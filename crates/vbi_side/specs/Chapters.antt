@@ -2,12 +2,7 @@
 -- is this project's own.
 use Rattle.std.specs.Prelude.{◌≡◌, ℕ, ◌<◌, ◌≤◌, ◌==◌, nat_le, nat_lt, ◌&&◌, ◌||◌, Bool, ◌⊎◌, List, length}
 use Rattle.std.specs.Prelude.{Option, Some, None, slice_get}
-use Rattle.vbi_words.specs.declared.code.Code.{Code}
-use Rattle.vbi_words.specs.declared.code.Code.TheVariants.{Chapter}
-use Rattle.vbi_side.specs.declared.lines.Shown.{Shown}
-use Rattle.vbi_side.specs.declared.number.Number.{Number}
-use Rattle.vbi_side.specs.declared.sighting.Sighting.{Sighting}
-use Rattle.vbi_side.specs.declared.sighting.Sightings.{Sightings}
+use Rattle.vbi_side.specs.Types.{Code, Chapter, Shown, Number, Sighting, Sightings}
 use Rattle.vbi_side.specs.Sightings.{Has, Shows}
 use Rattle.vbi_side.specs.Lines.{code_in, pass_weight, sighting_from}
 use Rattle.vbi_side.specs.Beliefs.{enough, window_weight}

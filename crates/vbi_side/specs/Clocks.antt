@@ -1,12 +1,7 @@
 -- Numbers that a disc leaves out to keep to the clock, and where the others stand.
 use Rattle.std.specs.Prelude.{◌%◌, ◌<◌, ◌==◌, ◌&&◌, nat_lt, nat_le, ◌≡◌, ℕ, ◌+◌, ◌*◌, ◌-◌, ◌/◌, ◌≤◌, Bool, true}
 use Rattle.std.specs.Prelude.{false, List, Option, Some, None, if◌then◌else◌}
-use Rattle.vbi_side.specs.declared.clock.Clock.{Clock}
-use Rattle.vbi_side.specs.declared.clock.Clock.TheVariants.{Plain, DropFrame, OneIn}
-use Rattle.vbi_side.specs.declared.pace.Pace.{Pace}
-use Rattle.vbi_side.specs.declared.pace.Pace.TheVariants.{Video}
-use Rattle.vbi_side.specs.declared.number.Number.{Number}
-use Rattle.vbi_side.specs.declared.place.Place.{Place}
+use Rattle.vbi_side.specs.Types.{Clock, Plain, DropFrame, OneIn, Pace, Video, Number, Place}
 use Rattle.vbi_side.specs.Paces.{spot, fits, nearly}
 use Rattle.vbi_side.specs.Numbers.{IsMarked}
 

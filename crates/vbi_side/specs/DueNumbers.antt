@@ -1,8 +1,6 @@
 -- Which number is due in a field that shows none to be believed: the one to which the believed ones around it count.
 use Rattle.std.specs.Prelude.{◌≡◌, ℕ, ◌+◌, ◌<◌, ◌≤◌, nat_le, if◌then◌else◌, true, List, Some, slice_get}
-use Rattle.vbi_side.specs.declared.sighting.Sightings.{Sightings}
-use Rattle.vbi_side.specs.declared.pace.Pace.{Pace}
-use Rattle.vbi_side.specs.declared.place.Place.{Place}
+use Rattle.vbi_side.specs.Types.{Sightings, Pace, Place}
 use Rattle.vbi_side.specs.Paces.{spot, Count, nearly}
 use Rattle.vbi_side.specs.Beliefs.{reach, Believed}
 

@@ -1,9 +1,7 @@
 -- Which fields are believed to be of a side's lead-in or lead-out: those of which one line shows it in pass 1, or two
 -- lines show it. The rule is this project's own.
 use Rattle.std.specs.Prelude.{ℕ, ◌+◌, nat_le, nat_lt, if◌then◌else◌, Option, Some}
-use Rattle.vbi_words.specs.declared.code.Code.{Code}
-use Rattle.vbi_words.specs.declared.code.Code.TheVariants.{LeadIn, LeadOut}
-use Rattle.vbi_side.specs.declared.lines.Shown.{Shown}
+use Rattle.vbi_side.specs.Types.{Code, LeadIn, LeadOut, Shown}
 use Rattle.vbi_side.specs.Lines.{code_in, pass_weight}
 
 -- what is answered of a field: it is of lead-out, of lead-in, of either in doubt, or of none. A caller who knows that a

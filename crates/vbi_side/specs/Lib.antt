@@ -22,3 +22,4 @@ pub mod Votes
 pub mod VoteCounts
 pub mod WorkedVotes
 pub mod SoundEnds
+pub mod Types

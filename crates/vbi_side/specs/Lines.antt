@@ -2,16 +2,9 @@
 -- 60856), a CLV disc the hours and minutes to which the seconds and the picture of line 16 belong.
 use Rattle.std.specs.Prelude.{ℕ, ◌+◌, ◌*◌, ◌==◌, nat_lt, ◌&&◌, ◌||◌, if◌then◌else◌, Bool, true, false, min}
 use Rattle.std.specs.Prelude.{Option, Some, None, option_map}
-use Rattle.vbi_words.specs.declared.system.System.{System}
-use Rattle.vbi_words.specs.declared.system.System.TheVariants.{Ntsc, Pal}
-use Rattle.vbi_words.specs.declared.code.Code.{Code}
-use Rattle.vbi_words.specs.declared.code.Code.TheVariants.{Picture, Time, ClvPicture, Chapter, LeadIn, LeadOut}
+use Rattle.vbi_side.specs.Types.{System, Ntsc, Pal, Code, Picture, Time, ClvPicture, Chapter, LeadIn, LeadOut, Counted}
+use Rattle.vbi_side.specs.Types.{Pictures, Times, Shown, Sighting, Sightings}
 use Rattle.vbi_words.specs.Codes.{code_of}
-use Rattle.vbi_side.specs.declared.lines.Counted.{Counted}
-use Rattle.vbi_side.specs.declared.lines.Counted.TheVariants.{Pictures, Times}
-use Rattle.vbi_side.specs.declared.lines.Shown.{Shown}
-use Rattle.vbi_side.specs.declared.sighting.Sighting.{Sighting}
-use Rattle.vbi_side.specs.declared.sighting.Sightings.{Sightings}
 
 -- the pictures of a second
 abbrev pub rate_of : System → ℕ

@@ -1,13 +1,8 @@
 -- What was misread around a field, counted in words: what its lines 16, 17 and 18 show, beside the words on the disc.
 use Rattle.std.specs.Prelude.{◌≡◌, ℕ, zero, suc, ◌+◌, ◌*◌, ◌-◌, ◌<◌, ◌==◌, not, nat_le, if◌then◌else◌, ◌⊎◌}
 use Rattle.std.specs.Prelude.{Bool, true, false, List, map, Option, Some, None, option_map, slice_get}
-use Rattle.vbi_words.specs.declared.system.System.{System}
+use Rattle.vbi_side.specs.Types.{System, Counted, Pictures, Times, Shown, Sightings, Pace}
 use Rattle.vbi_words.specs.Codes.{code_of}
-use Rattle.vbi_side.specs.declared.lines.Counted.{Counted}
-use Rattle.vbi_side.specs.declared.lines.Counted.TheVariants.{Pictures, Times}
-use Rattle.vbi_side.specs.declared.lines.Shown.{Shown}
-use Rattle.vbi_side.specs.declared.sighting.Sightings.{Sightings}
-use Rattle.vbi_side.specs.declared.pace.Pace.{Pace}
 use Rattle.vbi_side.specs.Lines.{pass_weight, number_from, sightings_of}
 use Rattle.vbi_side.specs.Beliefs.{reach, enough}
 use Rattle.vbi_side.specs.Truth.{RunsOn}

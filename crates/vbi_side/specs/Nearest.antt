@@ -1,8 +1,6 @@
 -- How what is due is reckoned: the numbers nearest to a field that lie whole pictures away from it.
 use Rattle.std.specs.Prelude.{◌≡◌, ℕ, ◌+◌, ◌-◌, ◌%◌, ◌==◌, ◌<◌, ◌≤◌, Bool, true}
-use Rattle.vbi_side.specs.declared.pace.Pace.{Pace}
-use Rattle.vbi_side.specs.declared.place.Place.{Place}
-use Rattle.vbi_side.specs.declared.pace.Pace.TheVariants.{Video, Film}
+use Rattle.vbi_side.specs.Types.{Pace, Place, Video, Film}
 use Rattle.vbi_side.specs.Beliefs.{reach}
 use Rattle.vbi_side.specs.Paces.{spot}
 

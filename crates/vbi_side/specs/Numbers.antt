@@ -1,9 +1,6 @@
 -- What is answered of each field, and where a number is found.
 use Rattle.std.specs.Prelude.{◌≡◌, ℕ, ◌<◌, nat_le, if◌then◌else◌, ◌⊎◌, List, length, Option, Some, None, slice_get}
-use Rattle.vbi_side.specs.declared.sighting.Sighting.{Sighting}
-use Rattle.vbi_side.specs.declared.sighting.Sightings.{Sightings}
-use Rattle.vbi_side.specs.declared.number.Number.{Number}
-use Rattle.vbi_side.specs.declared.pace.Pace.{Pace}
+use Rattle.vbi_side.specs.Types.{Sighting, Sightings, Number, Pace}
 use Rattle.vbi_side.specs.Beliefs.{Believed}
 use Rattle.vbi_side.specs.DueNumbers.{Due}
 use Rattle.vbi_side.specs.Truth.{IsNear}

@@ -1,13 +1,7 @@
 -- The pace that is found: of the pictures of NTSC film if over a tenth more numbers are believed by it than by that
 -- of video, else video.
 use Rattle.std.specs.Prelude.{◌≡◌, ℕ, zero, suc, ◌*◌, nat_lt, if◌then◌else◌, ◌⊎◌, List, length}
-use Rattle.vbi_words.specs.declared.system.System.{System}
-use Rattle.vbi_words.specs.declared.system.System.TheVariants.{Ntsc, Pal}
-use Rattle.vbi_side.specs.declared.lines.Counted.{Counted}
-use Rattle.vbi_side.specs.declared.lines.Counted.TheVariants.{Pictures, Times}
-use Rattle.vbi_side.specs.declared.sighting.Sightings.{Sightings}
-use Rattle.vbi_side.specs.declared.pace.Pace.{Pace}
-use Rattle.vbi_side.specs.declared.pace.Pace.TheVariants.{Video, Film}
+use Rattle.vbi_side.specs.Types.{System, Ntsc, Pal, Counted, Pictures, Times, Sightings, Pace, Video, Film}
 use Rattle.vbi_side.specs.Beliefs.{Believed}
 
 -- so many of the first fields show a number that is believed

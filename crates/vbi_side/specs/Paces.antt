@@ -1,8 +1,6 @@
 -- When two numbers lie as a disc counts that runs on, or stands still.
 use Rattle.std.specs.Prelude.{◌≡◌, ℕ, ◌+◌, ◌*◌, ◌%◌, ◌==◌, nat_le, ◌&&◌, Bool}
-use Rattle.vbi_side.specs.declared.pace.Pace.{Pace}
-use Rattle.vbi_side.specs.declared.pace.Pace.TheVariants.{Video, Film}
-use Rattle.vbi_side.specs.declared.place.Place.{Place}
+use Rattle.vbi_side.specs.Types.{Pace, Video, Film, Place}
 
 -- number n in field i
 abbrev pub spot : ℕ → ℕ → Place

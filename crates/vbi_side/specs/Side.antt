@@ -1,9 +1,7 @@
 -- A capture of a side of which the fields stand in the disc's order: which fields of the disc it has, and which it
 -- lacks.
 use Rattle.std.specs.Prelude.{◌≡◌, ℕ, suc, ◌+◌, ◌*◌, ◌-◌, ◌<◌, ◌≤◌, true, List, Option, Some}
-use Rattle.vbi_side.specs.declared.number.Number.{Number}
-use Rattle.vbi_side.specs.declared.sighting.Sightings.{Sightings}
-use Rattle.vbi_side.specs.declared.pace.Pace.{Pace}
+use Rattle.vbi_side.specs.Types.{Number, Sightings, Pace}
 use Rattle.vbi_side.specs.Paces.{fits}
 use Rattle.vbi_side.specs.Beliefs.{enough, Believed}
 use Rattle.vbi_side.specs.Truth.{wrong_weight}

@@ -1,7 +1,6 @@
 -- The numbers that a field's lines show.
 use Rattle.std.specs.Prelude.{◌≡◌, ℕ, ◌≤◌, ◌==◌, min, nat_le, nat_lt, ◌&&◌, ◌⊎◌, Bool, Option, Some, None}
-use Rattle.vbi_side.specs.declared.sighting.Sighting.{Sighting}
-use Rattle.vbi_side.specs.declared.sighting.Sightings.{Sightings}
+use Rattle.vbi_side.specs.Types.{Sighting, Sightings}
 
 -- the line shows a number
 abbrev pub IsSeen : Sighting → Type 0

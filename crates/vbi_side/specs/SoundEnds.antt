@@ -1,8 +1,7 @@
 -- When a field is answered to be of lead-out or lead-in, in words, and what holds of it then, whatever the disc has.
 use Rattle.std.specs.Prelude.{◌≡◌, ℕ, ◌+◌, ◌≤◌, ◌⊎◌, Option, Some, option_map}
-use Rattle.vbi_words.specs.declared.code.Code.{Code}
+use Rattle.vbi_side.specs.Types.{Code, Shown}
 use Rattle.vbi_words.specs.Codes.{code_of}
-use Rattle.vbi_side.specs.declared.lines.Shown.{Shown}
 use Rattle.vbi_side.specs.Lines.{code_in}
 use Rattle.vbi_side.specs.Misread.{line_weight}
 use Rattle.vbi_side.specs.Stops.{IsSure}

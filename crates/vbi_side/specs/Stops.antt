@@ -1,10 +1,8 @@
 -- Which picture stops that fields show are believed: those that one line shows in pass 1, or that two lines show. A
 -- stop stands on lines 16 and 17 (IEC 60857 and IEC 60856). The rule is this project's own.
 use Rattle.std.specs.Prelude.{◌≡◌, ℕ, ◌+◌, ◌≤◌, ◌↔◌, ◌⊎◌, Option, Some, option_map}
-use Rattle.vbi_words.specs.declared.code.Code.{Code}
-use Rattle.vbi_words.specs.declared.code.Code.TheVariants.{PictureStop}
+use Rattle.vbi_side.specs.Types.{Code, PictureStop, Shown}
 use Rattle.vbi_words.specs.Codes.{code_of}
-use Rattle.vbi_side.specs.declared.lines.Shown.{Shown}
 use Rattle.vbi_side.specs.Lines.{code_in, pass_weight}
 use Rattle.vbi_side.specs.Misread.{line_weight}
 

@@ -1,9 +1,7 @@
 -- What is true of a capture, whatever was read: the number that each field has on the disc, if it has one.
 use Rattle.std.specs.Prelude.{if◌then◌else◌, ◌*◌, ◌/◌, ◌≡◌, ℕ, ◌+◌, ◌%◌, ◌<◌, ◌≤◌, ◌==◌, not, Bool, true, false}
 use Rattle.std.specs.Prelude.{List, Option, Some, None}
-use Rattle.vbi_side.specs.declared.sighting.Sightings.{Sightings}
-use Rattle.vbi_side.specs.declared.pace.Pace.{Pace}
-use Rattle.vbi_side.specs.declared.pace.Pace.TheVariants.{Video, Film}
+use Rattle.vbi_side.specs.Types.{Sightings, Pace, Video, Film}
 use Rattle.vbi_side.specs.Paces.{fits, Count}
 use Rattle.vbi_side.specs.Beliefs.{reach, enough, field_most, window_weight}
 

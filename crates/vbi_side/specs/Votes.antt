@@ -4,16 +4,10 @@
 -- The rule is this project's own.
 use Rattle.std.specs.Prelude.{◌≡◌, ℕ, zero, suc, ◌+◌, ◌*◌, ◌/◌, ◌%◌, ◌<◌, ◌≤◌, ◌==◌, nat_le, nat_lt, not, ◌&&◌, ◌⊎◌}
 use Rattle.std.specs.Prelude.{Bool, true, if◌then◌else◌, List, length, slice_get, Option, Some, None}
-use Rattle.vbi_words.specs.declared.system.System.{System}
-use Rattle.vbi_words.specs.declared.code.Code.{Code}
-use Rattle.vbi_words.specs.declared.code.Code.TheVariants.{ClvPicture}
-use Rattle.vbi_side.specs.declared.lines.Shown.{Shown}
-use Rattle.vbi_side.specs.declared.sighting.Sightings.{Sightings}
-use Rattle.vbi_side.specs.declared.pace.Pace.TheVariants.{Video}
+use Rattle.vbi_side.specs.Types.{System, Code, ClvPicture, Shown, Sightings, Video, Clock}
 use Rattle.vbi_side.specs.Sightings.{Shows}
 use Rattle.vbi_side.specs.Lines.{rate_of, code_in}
 use Rattle.vbi_side.specs.Paces.{fits}
-use Rattle.vbi_side.specs.declared.clock.Clock.{Clock}
 use Rattle.vbi_side.specs.Clocks.{left_out, clock_fits}
 use Rattle.vbi_side.specs.Beliefs.{field_most, field_weight}
 use Rattle.vbi_side.specs.Truth.{is_recorded}

@@ -1,8 +1,6 @@
 -- A capture of a disc that is read whole. Its pace is found.
 use Rattle.std.specs.Prelude.{◌≡◌, ◌≢◌, ℕ, ◌≤◌, true, List, Option, Some, slice_get}
-use Rattle.vbi_side.specs.declared.sighting.Sightings.{Sightings}
-use Rattle.vbi_side.specs.declared.pace.Pace.{Pace}
-use Rattle.vbi_side.specs.declared.pace.Pace.TheVariants.{Video}
+use Rattle.vbi_side.specs.Types.{Sightings, Pace, Video}
 use Rattle.vbi_side.specs.Sightings.{Shows}
 use Rattle.vbi_side.specs.Paces.{fits}
 use Rattle.vbi_side.specs.Beliefs.{enough, support_of}

@@ -1,10 +1,7 @@
 -- Worked fields, by the words of their lines. Worked sides: of video with wrong readings of weight 9 and 10 around
 -- field 4, of two numbers that lie far apart, of a still, and of film.
 use Rattle.std.specs.Prelude.{ℕ, zero, suc, ◌-◌, ◌==◌, if◌then◌else◌, List, [], ◌∷◌, ◌++◌, replicate, Some, None}
-use Rattle.vbi_words.specs.declared.system.System.{System}
-use Rattle.vbi_side.specs.declared.lines.Counted.{Counted}
-use Rattle.vbi_side.specs.declared.lines.Shown.{Shown}
-use Rattle.vbi_side.specs.declared.sighting.Sightings.{Sightings}
+use Rattle.vbi_side.specs.Types.{System, Counted, Shown, Sightings}
 use Rattle.vbi_side.specs.Lines.{sightings_of}
 
 -- a field whose lines 17 and 18 show these numbers with these weights

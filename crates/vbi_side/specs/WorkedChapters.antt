@@ -1,9 +1,7 @@
 -- Worked captures of chapters, at each edge of the rule. A chapter's field shows it on line 17, in pass 1 if nothing
 -- else is said.
 use Rattle.std.specs.Prelude.{ℕ, zero, suc, List, [], ◌∷◌, ◌++◌, Some}
-use Rattle.vbi_side.specs.declared.lines.Shown.{Shown}
-use Rattle.vbi_side.specs.declared.sighting.Sighting.{Sighting}
-use Rattle.vbi_side.specs.declared.sighting.Sightings.{Sightings}
+use Rattle.vbi_side.specs.Types.{Shown, Sighting, Sightings}
 use Rattle.vbi_side.specs.Worked.{field_of, blank}
 use Rattle.vbi_side.specs.Chapters.{BelievedChapter}
 

@@ -1,7 +1,6 @@
 -- Worked elections.
 use Rattle.std.specs.Prelude.{ℕ, List, [], ◌∷◌, ◌++◌, replicate}
-use Rattle.vbi_words.specs.declared.system.System.TheVariants.{Ntsc}
-use Rattle.vbi_side.specs.declared.sighting.Sightings.{Sightings}
+use Rattle.vbi_side.specs.Types.{Ntsc, Sightings}
 use Rattle.vbi_side.specs.Votes.{Election, minute_of}
 use Rattle.vbi_side.specs.Worked.{field_of, blank}
 

@@ -2,8 +2,7 @@
 //! of every capture.
 
 ghost use Rattle.std.specs.Prelude.{◌≡◌, ℕ, ◌<◌, ◌≤◌, List, [], ◌∷◌, map, Option, Some, slice_get};
-ghost use Rattle.vbi_side.specs.declared.number.Number.{Number};
-ghost use Rattle.vbi_side.specs.declared.sighting.Sightings.{Sightings};
+ghost use Rattle.vbi_side.specs.Types.{Number, Sightings};
 ghost use Rattle.vbi_side.specs.Sightings.{Shows};
 ghost use Rattle.vbi_side.specs.Beliefs.{enough};
 ghost use Rattle.vbi_side.specs.Truth.{IsNear, wrong_weight};

@@ -2,8 +2,7 @@
 //! every field.
 
 ghost use Rattle.std.specs.Prelude.{◌≡◌, ◌↔◌, [], ◌∷◌, map};
-ghost use Rattle.vbi_words.specs.declared.code.Code.TheVariants.{LeadIn, LeadOut};
-ghost use Rattle.vbi_side.specs.declared.lines.Shown.{Shown};
+ghost use Rattle.vbi_side.specs.Types.{LeadIn, LeadOut, Shown};
 ghost use Rattle.vbi_side.specs.Ends.{end_of, in_weight, lead_in, lead_out, out_weight};
 ghost use Rattle.vbi_side.specs.SoundEnds.{IsCodeToldSurely, IsSoundCode};
 ghost use Rattle.vbi_side.specs.Worked.{shown_in};

@@ -12,17 +12,8 @@
 
 ghost use Rattle.std.specs.Prelude.{◌≡◌, ◌≢◌, ◌↔◌, ◌⊎◌, ℕ, ◌+◌, ◌<◌, ◌≤◌, true, false, List, [], ◌∷◌, map, Option};
 ghost use Rattle.std.specs.Prelude.{Some, None, slice_get};
-ghost use Rattle.vbi_words.specs.declared.system.System.TheVariants.{Ntsc, Pal};
-ghost use Rattle.vbi_words.specs.declared.code.Code.TheVariants.{Picture, Time, ClvPicture, Chapter, LeadIn, LeadOut};
-ghost use Rattle.vbi_words.specs.declared.code.Code.TheVariants.{ClvMark};
-ghost use Rattle.vbi_side.specs.declared.lines.Counted.TheVariants.{Pictures, Times};
-ghost use Rattle.vbi_words.specs.declared.system.System.{System};
-ghost use Rattle.vbi_side.specs.declared.lines.Counted.{Counted};
-ghost use Rattle.vbi_side.specs.declared.lines.Shown.{Shown};
-ghost use Rattle.vbi_side.specs.declared.number.Number.{Number};
-ghost use Rattle.vbi_side.specs.declared.sighting.Sightings.{Sightings};
-ghost use Rattle.vbi_side.specs.declared.pace.Pace.{Pace};
-ghost use Rattle.vbi_side.specs.declared.pace.Pace.TheVariants.{Video, Film};
+ghost use Rattle.vbi_side.specs.Types.{Ntsc, Pal, Picture, Time, ClvPicture, Chapter, LeadIn, LeadOut, ClvMark};
+ghost use Rattle.vbi_side.specs.Types.{Pictures, Times, System, Counted, Shown, Number, Sightings, Pace, Video, Film};
 ghost use Rattle.vbi_side.specs.Sightings.{Shows};
 ghost use Rattle.vbi_side.specs.Lines.{number_from, code_in, sightings_of, pass_weight, number_weight, is_instead};
 ghost use Rattle.vbi_side.specs.Paces.{spot, fits, stays, nearly};

@@ -1,13 +1,7 @@
 //! Laws of the rules' edges, written down by hand. A function here does nothing: its contract holds each of them.
 
 ghost use Rattle.std.specs.Prelude.{◌≡◌, ℕ, List, [], ◌∷◌, map, true, false};
-ghost use Rattle.vbi_words.specs.declared.system.System.TheVariants.{Ntsc, Pal};
-ghost use Rattle.vbi_side.specs.declared.lines.Counted.{Counted};
-ghost use Rattle.vbi_side.specs.declared.lines.Counted.TheVariants.{Times};
-ghost use Rattle.vbi_side.specs.declared.pace.Pace.{Pace};
-ghost use Rattle.vbi_side.specs.declared.pace.Pace.TheVariants.{Video};
-ghost use Rattle.vbi_side.specs.declared.sighting.Sightings.{Sightings};
-ghost use Rattle.vbi_side.specs.declared.clock.Clock.TheVariants.{DropFrame, OneIn};
+ghost use Rattle.vbi_side.specs.Types.{Ntsc, Pal, Counted, Times, Pace, Video, Sightings, DropFrame, OneIn};
 ghost use Rattle.vbi_side.specs.Clocks.{left_out, leaves_out, place};
 ghost use Rattle.vbi_side.specs.DueNumbers.{ShowsInstead, ShowsTwice};
 ghost use Rattle.vbi_side.specs.PaceSearch.{IsFound};

@@ -2,10 +2,8 @@
 //! every capture of video whose fields stand in the disc's order.
 
 ghost use Rattle.std.specs.Prelude.{◌≡◌, ℕ, ◌+◌, ◌*◌, ◌-◌, ◌≤◌, true, List, Option, Some, ◌/◌, nat_le, if◌then◌else◌};
-ghost use Rattle.vbi_side.specs.declared.number.Number.{Number};
+ghost use Rattle.vbi_side.specs.Types.{Number, Sightings, Video, Film};
 ghost use Rattle.vbi_side.specs.Numbers.{AreAnswers};
-ghost use Rattle.vbi_side.specs.declared.sighting.Sightings.{Sightings};
-ghost use Rattle.vbi_side.specs.declared.pace.Pace.TheVariants.{Video, Film};
 ghost use Rattle.vbi_side.specs.Beliefs.{reach};
 ghost use Rattle.vbi_side.specs.Paces.{fits};
 ghost use Rattle.vbi_side.specs.Truth.{IsNear, video_disc};

@@ -2,7 +2,7 @@
 //! every field.
 
 ghost use Rattle.std.specs.Prelude.{◌≡◌, ◌↔◌, ℕ, List, [], ◌∷◌, map, Option};
-ghost use Rattle.vbi_side.specs.declared.lines.Shown.{Shown};
+ghost use Rattle.vbi_side.specs.Types.{Shown};
 ghost use Rattle.vbi_side.specs.Worked.{shown_in};
 ghost use Rattle.vbi_side.specs.Stops.{stop_weight, BelievedStop, DoubtfulStop, NoStop, ShowsStop, IsSure};
 ghost use Rattle.vbi_side.specs.Stops.{IsToldSurely, IsStopWord, IsSoundStop, IsJudgedStop};

@@ -1,14 +1,9 @@
 //! Laws of the votes. A function here does nothing: its contract is a law, which holds of every capture.
 
 ghost use Rattle.std.specs.Prelude.{◌≡◌, ℕ, ◌/◌, ◌%◌, ◌<◌, List, [], ◌∷◌, map, Option, Some, None, slice_get};
-ghost use Rattle.vbi_words.specs.declared.system.System.{System};
-ghost use Rattle.vbi_words.specs.declared.system.System.TheVariants.{Ntsc, Pal};
-ghost use Rattle.vbi_words.specs.declared.code.Code.TheVariants.{Time};
+ghost use Rattle.vbi_side.specs.Types.{System, Ntsc, Pal, Time, Times, Shown, Sightings};
 ghost use Rattle.vbi_words.specs.Words.{IsWord};
 ghost use Rattle.vbi_words.specs.Codes.{code_of};
-ghost use Rattle.vbi_side.specs.declared.lines.Counted.TheVariants.{Times};
-ghost use Rattle.vbi_side.specs.declared.lines.Shown.{Shown};
-ghost use Rattle.vbi_side.specs.declared.sighting.Sightings.{Sightings};
 ghost use Rattle.vbi_side.specs.Sightings.{Shows};
 ghost use Rattle.vbi_side.specs.Lines.{pass_weight, sighting_of};
 ghost use Rattle.vbi_side.specs.Votes.{minute_of, part_of, votes_cast, votes_for, IsElected, time_word};

@@ -1,13 +1,9 @@
 -- Where fields without a number are no more than a scratch has, and where the first of more are.
-use Rattle.std.proofs.Common.{◌≡◌, ℕ, suc, ◌+◌, ◌*◌, ◌<◌, ◌≤◌, true, List, arith, inl, inr, length}
-use Rattle.std.specs.Prelude.{nat_le}
+use Rattle.std.proofs.Common.{◌≡◌, ℕ, suc, ◌+◌, ◌<◌, ◌≤◌, true, List, arith, inl, inr, length}
 use Rattle.std.proofs.lemmas.Bool.{and_parts, leb-true}
 use Rattle.std.proofs.lemmas.Bool.Decides.{leb_tells}
 use Rattle.std.proofs.lemmas.Option.{slice_get_within}
-use Rattle.vbi_side.specs.declared.number.Number.{Number}
-use Rattle.vbi_side.specs.declared.pace.Pace.{Pace}
-use Rattle.vbi_side.specs.declared.pace.Pace.TheVariants.{Video, Film}
-use Rattle.vbi_whole.specs.declared.gap.Rule.{Rule}
+use Rattle.vbi_whole.specs.Types.{Number, Pace, Rule}
 use Rattle.vbi_whole.specs.BlankFields.{IsBlank, IsBlankTo, IsBlankTold}
 use Rattle.vbi_side.specs.Numbers.{believed}
 use Rattle.vbi_side.specs.Paces.{spot, nearly}
@@ -16,10 +12,7 @@ use Rattle.vbi_side.proofs.Truth.{film_fits}
 -- how far a number lies at most from the next one, if that goes on
 pub near_by : (pace : Pace) (slack i m j n : ℕ) → nearly pace slack (spot i m) (spot j n) ≡ true → n ≤ m + 1
     → j ≤ i + 3 + slack
-near_by Video slack i m j n near next =
-    let p = and_parts (nat_le (j + 2 * m) (i + 2 * n + slack)) (nat_le (i + 2 * n) (j + 2 * m + slack)) near in
-    omega (arith, next, leb-true (j + 2 * m) (i + 2 * n + slack) p.0)
-near_by Film slack i m j n near next = omega (arith, next, film_fits i m j n near)
+near_by pace slack i m j n h1 h2 = grind (arith, and_parts, film_fits, leb-true)
 
 -- so short a side has none
 pub short_side : (rule : Rule) (answers : List Number) → length answers ≤ 102 → (i : ℕ)

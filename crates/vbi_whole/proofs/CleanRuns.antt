@@ -1,19 +1,11 @@
 -- A run of a disc, each number of which was read on both lines: all its numbers are believed.
 use Rattle.std.proofs.Common.{◌≡◌, ℕ, zero, suc, ◌+◌, ◌*◌, ◌-◌, ◌<◌, ◌≤◌, Bool, true, false, List, length}
 use Rattle.std.proofs.Common.{refl, arith, ap, sym, ◌∙◌, subst, inl, inr, eq-eqb}
-use Rattle.std.specs.Prelude.{Option, Some, None, slice_get, nat_le, ◌==◌, ◌&&◌, ◌%◌}
+use Rattle.std.specs.Prelude.{Option, Some, None, slice_get, ◌==◌, ◌&&◌, ◌%◌}
 use Rattle.std.proofs.lemmas.Bool.{le-leb}
 use Rattle.std.proofs.lemmas.Bool.Decides.{eqb_tells}
-use Rattle.vbi_words.specs.declared.system.System.{System}
-use Rattle.vbi_words.specs.declared.system.System.TheVariants.{Ntsc, Pal}
-use Rattle.vbi_side.specs.declared.place.Place.{Place}
-use Rattle.vbi_side.specs.declared.lines.Counted.{Counted}
-use Rattle.vbi_side.specs.declared.lines.Counted.TheVariants.{Pictures, Times}
-use Rattle.vbi_side.specs.declared.number.Number.{Number}
-use Rattle.vbi_side.specs.declared.pace.Pace.{Pace}
-use Rattle.vbi_side.specs.declared.pace.Pace.TheVariants.{Video, Film}
-use Rattle.vbi_side.specs.declared.sighting.Sighting.{Sighting}
-use Rattle.vbi_side.specs.declared.sighting.Sightings.{Sightings}
+use Rattle.vbi_whole.specs.Types.{System, Ntsc, Pal, Place, Counted, Pictures, Times, Number, Pace, Video, Film}
+use Rattle.vbi_whole.specs.Types.{Sighting, Sightings}
 use Rattle.vbi_side.specs.Sightings.{Shows}
 use Rattle.vbi_side.specs.Paces.{fits}
 use Rattle.vbi_side.specs.Beliefs.{reach, sighting_weight, field_weight, weight_at, weight_below, window_weight}
@@ -50,13 +42,7 @@ sighting_full test sighting n is sure passes =
 -- both lines weigh
 pub twice_weighs : (test : ℕ → Bool) (fields : List Sightings) (i n : ℕ) → IsReadTwice fields i n → test n ≡ true
     → 4 ≤ field_weight test (slice_get fields i)
-twice_weighs test fields i n ((field, at, first, second, same), shown) passes =
-    let is = on_17 field n same (subst (λ o. Shows o n) at shown) in
-    subst (λ o. 4 ≤ field_weight test o) (sym at) (omega (
-      arith,
-      sighting_full test field.line_17 n is first passes,
-      sighting_full test field.line_18 n (sym same ∙ is) second passes,
-    ))
+twice_weighs test fields i n h1 h2 = grind (arith, on_17, sighting_full)
 
 -- ---- two and three fields of the window
 
@@ -70,11 +56,7 @@ below_has test fields i k n less = omega (
 
 at_near : (test : ℕ → ℕ → Bool) (fields : List Sightings) (i j : ℕ) → IsNear i j
     → weight_at test fields i (j + reach - i) ≡ field_weight (test j) (slice_get fields j)
-at_near test fields i j near =
-    let is : i + (j + reach - i) - reach ≡ j = omega (arith, near.0) in
-    let inside : nat_le reach (i + (j + reach - i)) ≡ true
-    = le-leb reach (i + (j + reach - i)) (omega (arith, near.0)) in
-    rw inside (ap (λ k. field_weight (test k) (slice_get fields k)) is)
+at_near test fields i j near = grind (arith, le-leb)
 
 pub two_weigh : (test : ℕ → ℕ → Bool) (fields : List Sightings) (i a b : ℕ) → IsNear i a → IsNear i b → a < b
     → 4 ≤ field_weight (test a) (slice_get fields a) → 4 ≤ field_weight (test b) (slice_get fields b)
@@ -110,10 +92,7 @@ three_weigh test fields i a b c near next last less more one two three = omega (
 -- three in a row
 in_row : (number : ℕ → ℕ) (q d : ℕ) → number (q + 1) ≡ number q + 1 → number (q + 2) ≡ number q + 2 → d ≤ 2
     → number (q + d) ≡ number q + d
-in_row number q zero one two few = let e : q + 0 ≡ q = omega arith in omega (arith, ap number e)
-in_row number q (suc zero) one two few = one
-in_row number q (suc (suc zero)) one two few = two
-in_row number q (suc (suc (suc d))) one two few = absurd (omega (arith, few))
+in_row number q d h1 h2 h3 = grind arith
 
 module _ (number : ℕ → ℕ) (fields : List Sightings) (begin last : ℕ)
     (each : (p : ℕ) → p ≤ last → IsReadTwice fields (begin + 2 * p) (number p))

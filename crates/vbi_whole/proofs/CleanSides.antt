@@ -4,17 +4,8 @@ use Rattle.std.proofs.Common.{drop, refl, arith, ap, sym, ◌∙◌, subst, inl,
 use Rattle.std.specs.Prelude.{Some, slice_get, ◌⊎◌, nat_le, nat_lt, ◌==◌, not, count_by}
 use Rattle.std.proofs.lemmas.Bool.{lt-ltb}
 use Rattle.std.proofs.lemmas.Bool.Decides.{leb_tells, eqb_tells}
-use Rattle.vbi_whole.specs.declared.gap.Gap.{Gap}
-use Rattle.vbi_whole.specs.declared.gap.Numbering.{Numbering}
-use Rattle.vbi_whole.specs.declared.tally.Tally.{Tally}
-use Rattle.vbi_side.specs.declared.number.Number.{Number}
-use Rattle.vbi_side.specs.declared.pace.Pace.TheVariants.{Video}
-use Rattle.vbi_side.specs.declared.sighting.Sightings.{Sightings}
-use Rattle.vbi_whole.specs.declared.verdict.Finding.{Finding}
-use Rattle.vbi_whole.specs.declared.verdict.Reasons.{Reasons}
-use Rattle.vbi_whole.specs.declared.verdict.Verdict.{Verdict}
-use Rattle.vbi_whole.specs.declared.verdict.Verdict.TheVariants.{Yes}
-use Rattle.vbi_side.specs.declared.clock.Clock.TheVariants.{Plain}
+use Rattle.vbi_whole.specs.Types.{Gap, Numbering, Tally, Number, Video, Sightings, Finding, Reasons, Yes}
+use Rattle.vbi_whole.specs.Types.{Plain, Place}
 use Rattle.vbi_side.specs.Sightings.{Shows}
 use Rattle.vbi_side.specs.Clocks.{kept, nearly_by}
 use Rattle.vbi_whole.specs.BlankFields.{IsBlank, IsBlankTold}
@@ -36,7 +27,6 @@ use Rattle.vbi_whole.proofs.NoReason.{false_true, both_false, not_less, more_not
 use Rattle.vbi_whole.proofs.NoReason.{stray_shows}
 use Rattle.vbi_side.proofs.Truth.{near_same}
 use Rattle.vbi_side.specs.Paces.{spot}
-use Rattle.vbi_side.specs.declared.place.Place.{Place}
 use Rattle.vbi_whole.proofs.GapLaws.{not_on}
 
 -- ---- records
@@ -44,22 +34,7 @@ use Rattle.vbi_whole.proofs.GapLaws.{not_on}
 same_finding : (finding : Finding) (first last : ℕ) → finding.tally ≡ tally_of Plain [] 0
     → finding.first ≡ first → finding.last ≡ last → finding.swap ≡ 0 → finding.padded ≡ 0 → finding.blank ≡ 0
     → finding.verdict ≡ Yes → finding.reasons ≡ no_reason → finding ≡ found_whole first last
-same_finding finding first last a b c d e f g h = go finding.tally finding.first finding.last finding.swap
-    finding.padded finding.blank finding.verdict finding.reasons a b c d e f g h
-  where
-    go : (tally : Tally) (from to swap padded blank : ℕ) (verdict : Verdict) (reasons : Reasons)
-        → tally ≡ tally_of Plain [] 0 → from ≡ first → to ≡ last → swap ≡ 0 → padded ≡ 0 → blank ≡ 0
-        → verdict ≡ Yes → reasons ≡ no_reason → record {
-          tally = tally;
-          first = from;
-          last = to;
-          swap = swap;
-          padded = padded;
-          blank = blank;
-          verdict = verdict;
-          reasons = reasons;
-        } ≡ found_whole first last
-    go tally from to swap padded blank verdict reasons a b c d e f g h = cc
+same_finding finding first last a b c d e f g h = grind arith
 
 -- ---- the ends of a side, written out
 
@@ -87,19 +62,7 @@ module _ (numbering : Numbering) (number : ℕ → ℕ) (fields : List Sightings
 
   near : (i m j n : ℕ) → IsMarked answers i m → IsMarked answers j n
       → nearly_by numbering.clock Video 0 (spot i m) (spot j n) ≡ true
-  near i m j n here there =
-      let (p, le, first, from) = at i m here in
-      let (r, less, second, to) = at j n there in
-      near_same (j + 2 * kept numbering.clock m) (i + 2 * kept numbering.clock n)
-      (omega (
-        arith,
-        first,
-        second,
-        ap (kept numbering.clock) from,
-        ap (kept numbering.clock) to,
-        steps p le,
-        steps r less,
-      ))
+  near i m j n here there = grind (arith, at, near_same)
 
   no_drift : (j : ℕ) → IsDrift (rule_by Video 0 numbering) answers j → ⊥
   no_drift j drift = let h : true ≡ false = sym (near drift.i drift.m j drift.n drift.here drift.there) ∙ drift.apart in

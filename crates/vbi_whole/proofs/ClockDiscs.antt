@@ -1,11 +1,9 @@
 -- Discs that count by a clock.
-use Rattle.std.proofs.Common.{◌≡◌, ◌≢◌, ℕ, ◌+◌, ◌*◌, ◌/◌, ◌<◌, true, false, refl, arith, ap, sym, ◌∙◌, inl, inr, eq-eqb}
-use Rattle.std.specs.Prelude.{Some, None, ◌⊎◌, ◌%◌}
+use Rattle.std.proofs.Common.{◌≡◌, ℕ, ◌*◌, ◌<◌, refl, arith}
+use Rattle.std.specs.Prelude.{Some}
 use Rattle.std.proofs.lemmas.Bool.Decides.{eqb_tells}
 use Rattle.std.proofs.Math.Dec.{eqb}
-use Rattle.vbi_side.specs.declared.clock.Clock.{Clock}
-use Rattle.vbi_side.specs.declared.clock.Clock.TheVariants.{DropFrame, OneIn}
-use Rattle.vbi_side.specs.declared.pace.Pace.TheVariants.{Video}
+use Rattle.vbi_whole.specs.Types.{Clock, DropFrame, OneIn, Video}
 use Rattle.vbi_side.specs.Side.{DiscRuns}
 use Rattle.vbi_side.specs.Clocks.{left_out, kept, numbered, drop_number, thousand_number, more_number, DiscCountsBy}
 use Rattle.vbi_side.proofs.Truth.{video_fits}
@@ -13,25 +11,11 @@ use Rattle.vbi_whole.proofs.Telling.{some_is}
 
 -- a field with a number is the first of its picture
 pub numbered_is : (number : ℕ → ℕ) (d m : ℕ) → numbered number d ≡ Some m → (p : ℕ) × (d ≡ 2 * p) × (m ≡ number p)
-numbered_is number d m e = go (eqb_tells (d % 2) 0)
-  where
-    go : ((eqb (d % 2) 0 ≡ true) × (d % 2 ≡ 0)) ⊎ ((eqb (d % 2) 0 ≡ false) × (d % 2 ≢ 0))
-        → (p : ℕ) × (d ≡ 2 * p) × (m ≡ number p)
-    go (inl (t, even)) =
-        let is : numbered number d ≡ Some (number (d / 2)) = rw t refl in
-        (d / 2, omega (arith, even), sym (some_is (number (d / 2)) m (sym is ∙ e)))
-    go (inr (f, odd)) =
-        let is : numbered number d ≡ None = rw f refl in
-        absurd (let clash : None ≡ Some m = sym is ∙ e in let no : None ≡ Some m → ⊥ = λ h. cc in no clash)
+numbered_is number d m e = grind (arith, eqb, eqb_tells, some_is)
 
 counts_by : (clock : Clock) (number : ℕ → ℕ) → ((p : ℕ) → kept clock (number p) ≡ p)
     → DiscCountsBy clock Video (numbered number)
-counts_by clock number is d e m n here there =
-    let p = numbered_is number d m here in
-    let q = numbered_is number e n there in
-    let first : kept clock m ≡ p.0 = ap (kept clock) p.2 ∙ is p.0 in
-    let last : kept clock n ≡ q.0 = ap (kept clock) q.2 ∙ is q.0 in
-    eq-eqb (e + 2 * kept clock m) (d + 2 * kept clock n) (omega (arith, p.1, q.1, first, last))
+counts_by clock number h1 = grind (arith, numbered_is)
 
 pub drop_kept : (p : ℕ) → kept DropFrame (drop_number p) ≡ p
 unfolding kept left_out

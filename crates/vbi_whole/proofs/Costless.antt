@@ -1,29 +1,18 @@
 -- What gaps of replaced numbers cost: nothing is lost by them, and no verdict is no by them; and that inserted fields
 -- and padding cost a no.
-use Rattle.std.proofs.Common.{◌≡◌, ◌≢◌, ℕ, suc, ◌+◌, ◌*◌, ◌-◌, ◌<◌, ◌≤◌, Bool, true, false, List, [], ◌∷◌, refl, arith}
+use Rattle.std.proofs.Common.{◌≡◌, ◌≢◌, ℕ, suc, ◌-◌, ◌<◌, Bool, true, false, List, [], ◌∷◌, refl, arith}
 use Rattle.std.proofs.Common.{ap, sym, ◌∙◌, subst, inl, inr}
-use Rattle.std.specs.Prelude.{Some, ◌⊎◌, ◌||◌, ◌==◌, ◌/◌, ◌%◌, nat_lt, min, slice_get, sum_by, if◌then◌else◌}
+use Rattle.std.specs.Prelude.{Some, ◌⊎◌, ◌==◌, nat_lt, slice_get, sum_by, if◌then◌else◌}
 use Rattle.std.proofs.lemmas.Bool.{lt-ltb}
-use Rattle.std.proofs.lemmas.Bool.Decides.{eqb_tells}
 use Rattle.std.proofs.lemmas.List.Sums.{sum_by-cons}
-use Rattle.std.proofs.Math.Dec.{eqb}
-use Rattle.vbi_side.specs.declared.clock.Clock.{Clock}
-use Rattle.vbi_whole.specs.declared.gap.Gap.{Gap}
-use Rattle.vbi_whole.specs.declared.tally.Tally.{Tally}
-use Rattle.vbi_whole.specs.declared.verdict.Finding.{Finding}
-use Rattle.vbi_whole.specs.declared.verdict.Reasons.{Reasons}
-use Rattle.vbi_whole.specs.declared.verdict.Verdict.TheVariants.{No}
-use Rattle.vbi_side.specs.Clocks.{kept, by_clock}
+use Rattle.vbi_whole.specs.Types.{Clock, Gap, Finding, Reasons, No}
+use Rattle.vbi_side.specs.Clocks.{kept}
 use Rattle.vbi_whole.specs.Detours.{detoured}
-use Rattle.vbi_whole.specs.Gaps.{lost, held, back, joined, open_gap, inserted, replaced, skipped, since_end, Judged}
+use Rattle.vbi_whole.specs.Gaps.{lost, replaced, skipped, since_end, Judged}
 use Rattle.vbi_side.specs.Numbers.{IsMarked}
-use Rattle.vbi_whole.specs.Told.{capped, fields_if, one_if, lost_of, undecided_of, shown_most, tally_of}
-use Rattle.vbi_whole.specs.Verdicts.{are_seen, verdict_of, too_few, is_off, is_end_unseen, AreReasons, is_begin_unseen}
-use Rattle.vbi_whole.specs.Verdicts.{are_doubtful, padded_in, reasons_of, HasNone, IsFinding, found_by}
-use Rattle.vbi_whole.proofs.NoReason.{false_true, not_less}
-use Rattle.vbi_side.specs.Paces.{spot}
-use Rattle.vbi_side.specs.declared.place.Place.{Place}
-use Rattle.vbi_whole.specs.declared.verdict.Found.{Found}
+use Rattle.vbi_whole.specs.Told.{fields_if, one_if, lost_of, undecided_of, shown_most, tally_of}
+use Rattle.vbi_whole.specs.Verdicts.{are_seen, verdict_of, too_few, AreReasons}
+use Rattle.vbi_whole.specs.Verdicts.{padded_in, reasons_of, HasNone, IsFinding, found_by}
 
 -- ---- the counts
 
@@ -49,24 +38,14 @@ no_numbers clock gap is =
     subst (λ k. (if k == lost then skipped clock gap.from gap.to - shown_most gap else 0) ≡ 0) (sym is) refl
 
 none_undecided : (clock : Clock) (gap : Gap) → gap.kind ≡ replaced → undecided_of clock gap ≡ 0
-none_undecided clock gap is =
-    subst (λ k. (if k == lost then min (skipped clock gap.from gap.to) (shown_most gap)
-    else (if k == open_gap then skipped clock gap.from gap.to else 0)) ≡ 0) (sym is) refl
+none_undecided clock gap is = grind arith
 
 pub counts_nothing : (clock : Clock) (gaps : List Gap) (unread : ℕ) → AreReplaced gaps
     → ((tally_of clock gaps unread).lost ≡ 0) × ((tally_of clock gaps unread).held ≡ 0)
     × ((tally_of clock gaps unread).lost_numbers ≡ 0) × ((tally_of clock gaps unread).undecided ≡ 0)
     × ((tally_of clock gaps unread).back ≡ 0) × ((tally_of clock gaps unread).joined ≡ 0)
     × ((tally_of clock gaps unread).inserted ≡ 0)
-counts_nothing clock gaps unread all = (
-  ap capped (zeros (fields_if lost) gaps (no_fields lost refl) all),
-  ap capped (zeros (fields_if held) gaps (no_fields held refl) all),
-  ap capped (zeros (lost_of clock) gaps (no_numbers clock) all),
-  ap capped (zeros (undecided_of clock) gaps (none_undecided clock) all),
-  ap capped (zeros (one_if back) gaps (not_one back refl) all),
-  ap capped (zeros (one_if joined) gaps (not_one joined refl) all),
-  ap capped (zeros (fields_if inserted) gaps (no_fields inserted refl) all),
-)
+counts_nothing clock gaps unread all = grind (arith, no_fields, no_numbers, none_undecided, not_one, zeros)
 
 -- ---- the verdict
 

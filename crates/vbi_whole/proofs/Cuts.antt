@@ -1,12 +1,7 @@
 -- Around a gap the capture isn't one run of the disc.
-use Rattle.std.proofs.Common.{◌≡◌, ℕ, zero, suc, ◌+◌, ◌*◌, ◌-◌, ◌<◌, ◌≤◌, List, subst, arith, eq-eqb}
+use Rattle.std.proofs.Common.{◌≡◌, ℕ, zero, suc, ◌+◌, ◌*◌, ◌-◌, ◌<◌, ◌≤◌, List, subst, arith}
 use Rattle.std.specs.Prelude.{Option, Some}
-use Rattle.vbi_whole.specs.declared.gap.Gap.{Gap}
-use Rattle.vbi_whole.specs.declared.gap.Numbering.{Numbering}
-use Rattle.vbi_side.specs.declared.number.Number.{Number}
-use Rattle.vbi_side.specs.declared.pace.Pace.TheVariants.{Video}
-use Rattle.vbi_side.specs.declared.sighting.Sightings.{Sightings}
-use Rattle.vbi_side.specs.declared.clock.Clock.TheVariants.{Plain}
+use Rattle.vbi_whole.specs.Types.{Gap, Numbering, Number, Video, Sightings, Plain}
 use Rattle.vbi_side.specs.Clocks.{kept, DiscCountsBy, IsClear}
 use Rattle.vbi_side.proofs.Counting.{plain, clear_video}
 use Rattle.vbi_side.proofs.Sides.{alone_of, near_one}
@@ -54,9 +49,7 @@ module _ (disc : ℕ → Option ℕ) (place : ℕ → ℕ) (runs : DiscRuns Vide
 
   -- so the disc ran on around each
   ran_on : (k : ℕ) → first ≤ k → k ≤ last → RunsOn Video (captured disc place) k
-  ran_on k from to p q m n near others step here there =
-      eq-eqb (q + 2 * m) (p + 2 * n) (counts p q m n (omega (arith, from, near.0)) (omega (arith, to, near.1))
-      (omega (arith, from, others.0)) (omega (arith, to, others.1)) here there)
+  ran_on k h1 h2 = grind (arith, counts)
 
 pub gap_not_run : (disc : ℕ → Option ℕ) (place : ℕ → ℕ) (fields : List Sightings) (numbering : Numbering)
     (seen : List Sightings) (answers : List Number) (ends : List ℕ) (gap : Gap) → numbering.clock ≡ Plain

@@ -1,16 +1,12 @@
 -- What detours say of a capture and its disc.
-use Rattle.std.proofs.Common.{◌≡◌, ◌≢◌, ℕ, zero, suc, ◌+◌, ◌*◌, ◌-◌, ◌<◌, ◌≤◌, Bool, true, false, List, [], ◌∷◌, refl}
-use Rattle.std.proofs.Common.{arith, ap, sym, ◌∙◌, subst, inl, inr}
-use Rattle.std.specs.Prelude.{Option, Some, None, ◌&&◌, ◌||◌, ◌==◌, nat_lt, slice_get, if◌then◌else◌}
+use Rattle.std.proofs.Common.{◌≡◌, ◌≢◌, ℕ, zero, suc, ◌+◌, ◌*◌, ◌-◌, ◌<◌, ◌≤◌, true, List, [], ◌∷◌, refl}
+use Rattle.std.proofs.Common.{arith, ap, sym, subst, inl, inr}
+use Rattle.std.specs.Prelude.{Option, Some, None, ◌&&◌, ◌||◌, ◌==◌, nat_lt, slice_get}
 use Rattle.std.proofs.lemmas.Bool.{and_parts, ltb-true}
 use Rattle.std.proofs.lemmas.Option.{slice_get_within}
-use Rattle.vbi_whole.specs.declared.gap.Gap.{Gap}
-use Rattle.vbi_whole.specs.declared.gap.Numbering.{Numbering}
-use Rattle.vbi_side.specs.declared.number.Number.{Number}
-use Rattle.vbi_side.specs.declared.pace.Pace.TheVariants.{Video}
-use Rattle.vbi_side.specs.declared.sighting.Sightings.{Sightings}
+use Rattle.vbi_whole.specs.Types.{Gap, Numbering, Number, Video, Sightings, Rule}
 use Rattle.vbi_side.specs.Clocks.{kept, nearly_by, DiscCountsBy}
-use Rattle.vbi_whole.specs.Detours.{may_turn, is_inserted, detour_of, fields_by, turned, detoured_from, detoured}
+use Rattle.vbi_whole.specs.Detours.{is_inserted, detour_of, fields_by, turned, detoured_from, detoured}
 use Rattle.vbi_whole.specs.Detours.{IsToldAs, IsLeft, skips, repeats}
 use Rattle.vbi_whole.specs.Gaps.{back, inserted, replaced, IsGap, rule_by, of_video, from_of, to_of}
 use Rattle.vbi_side.specs.Side.{Rises, captured, IsOneRun}
@@ -19,7 +15,6 @@ use Rattle.vbi_whole.proofs.GapLaws.{on_video, gap_is_cut}
 use Rattle.vbi_side.proofs.Sides.{apart}
 use Rattle.vbi_whole.proofs.Telling.{some_is}
 use Rattle.vbi_side.proofs.Truth.{video_fits}
-use Rattle.vbi_whole.specs.declared.gap.Rule.{Rule}
 
 -- ---- what is told
 
@@ -94,52 +89,19 @@ module _ (rule : Rule) where
 
   pub other_told : (gaps : List Gap) (j : ℕ) (told : Gap) → slice_get (detoured rule gaps) j ≡ Some told
       → told.kind ≢ replaced → told.kind ≢ inserted → slice_get gaps j ≡ Some told
-  other_told gaps j told at one other = go (each_told gaps j told at)
-    where
-      none : (a b : Gap) (kind : ℕ) → detour_of rule a b ≡ Some kind → told.kind ≡ kind → ⊥
-      none a b kind is same = elim (detour_kind rule a b kind is) [
-        | inl e ↦ one (same ∙ e)
-        | inr e ↦ other (same ∙ e)
-      ]
-
-      go : IsToldAs rule gaps j told → slice_get gaps j ≡ Some told
-      go (inl it) = it
-      go (inr (inl (kind, are, e))) = absurd (none are.a are.b kind are.is (ap (λ (g : Gap). g.kind) e))
-      go (inr (inr (i, kind, same, are, e))) = absurd (none are.a are.b kind are.is (ap (λ (g : Gap). g.kind) e))
+  other_told gaps j told at one other = grind (arith, detour_kind, each_told)
 
 -- ---- what the disc has between
 
 -- the numbers around replaced ones go on
 goes_over : (numbering : Numbering) (a b : Gap) → detour_of (rule_by Video 0 numbering) a b ≡ Some replaced
     → nearly_by numbering.clock Video 0 (from_of a) (to_of b) ≡ true
-goes_over numbering a b is =
-    (and_parts (may_turn a.kind && may_turn b.kind) (nearly_by numbering.clock Video 0 (from_of a) (to_of b))
-    (go (nat_lt a.from b.to) (may_turn a.kind && may_turn b.kind
-    && nearly_by numbering.clock Video 0 (from_of a) (to_of b))
-    (may_turn a.kind && may_turn b.kind && is_inserted (rule_by Video 0 numbering) a b) is)).1
-  where
-    go : (order over leaves : Bool) → (if order then (if over then Some replaced
-        else (if leaves then Some inserted else None)) else None) ≡ Some replaced → over ≡ true
-    go true true leaves e = refl
-    go true false true e = let h : inserted ≡ replaced = some_is inserted replaced e in absurd (omega (arith, h))
-    go true false false e = absurd cc
-    go false over leaves e = absurd cc
+goes_over numbering a b is = grind (arith, and_parts, some_is)
 
 -- those around inserted fields, as if these weren't there
 goes_without : (numbering : Numbering) (a b : Gap) → detour_of (rule_by Video 0 numbering) a b ≡ Some inserted
     → is_inserted (rule_by Video 0 numbering) a b ≡ true
-goes_without numbering a b is =
-    (and_parts (may_turn a.kind && may_turn b.kind) (is_inserted (rule_by Video 0 numbering) a b)
-    (go (nat_lt a.from b.to) (may_turn a.kind && may_turn b.kind
-    && nearly_by numbering.clock Video 0 (from_of a) (to_of b))
-    (may_turn a.kind && may_turn b.kind && is_inserted (rule_by Video 0 numbering) a b) is)).1
-  where
-    go : (order over leaves : Bool) → (if order then (if over then Some replaced
-        else (if leaves then Some inserted else None)) else None) ≡ Some inserted → leaves ≡ true
-    go true true leaves e = let h : replaced ≡ inserted = some_is replaced inserted e in absurd (omega (arith, h))
-    go true false true e = refl
-    go true false false e = absurd cc
-    go false over leaves e = absurd cc
+goes_without numbering a b is = grind (arith, and_parts, some_is)
 
 -- a step goes on, skips fields or repeats some
 steps : (place : ℕ → ℕ) (i k : ℕ) → place (i + k) + repeats place i k ≡ place i + k + skips place i k
@@ -148,12 +110,6 @@ steps place i zero = let none : i + zero ≡ i = omega arith in omega (arith, ap
 steps place i (suc k) =
     let next : i + suc k ≡ suc (i + k) = omega arith in
     omega (arith, steps place i k, ap place next)
-
--- nothing is repeated in the disc's order
-none_repeated : (place : ℕ → ℕ) (i k : ℕ) → Rises place → repeats place i k ≡ 0
-unfolding repeats
-none_repeated place i zero rises = refl
-none_repeated place i (suc k) rises = omega (arith, none_repeated place i k rises, rises (i + k))
 
 module _ (disc : ℕ → Option ℕ) (place : ℕ → ℕ) (numbering : Numbering) (a b : Gap)
     (runs : DiscCountsBy numbering.clock Video disc)
@@ -170,9 +126,7 @@ module _ (disc : ℕ → Option ℕ) (place : ℕ → ℕ) (numbering : Numberin
   )
 
   pub cancels : skips place a.after (b.before - a.after) ≡ repeats place a.after (b.before - a.after)
-  cancels =
-      let end : a.after + (b.before - a.after) ≡ b.before = omega (arith, order) in
-      omega (arith, steps place a.after (b.before - a.after), ap place end, as_many)
+  cancels = grind (arith, as_many, steps)
 
   pub one_run : Rises place → IsOneRun place a.after b.before
   one_run rises k from to = omega (
@@ -246,13 +200,7 @@ module _ (disc : ℕ → Option ℕ) (place : ℕ → ℕ) (numbering : Numberin
 
   pub is_left : IsLeft (rule_by Video 0 numbering) place a b
   unfolding count
-  is_left = record {
-    apart = as_counted;
-    some = some;
-    outside = omega (arith, few, begin, end);
-    inserts = omega (arith, few, begin, between, end);
-    run = omega (arith, few, begin, between, end);
-  }
+  is_left = grind (arith, apart, as_counted, few, some)
 
   pub out_of_order : Rises place → ⊥
   out_of_order rises = absurd (omega (

@@ -1,16 +1,13 @@
 -- Detours: what gaps are told to be, as they are found one by one.
-use Rattle.std.proofs.Common.{◌≡◌, ℕ, ◌+◌, ◌≤◌, Bool, true, false, List, [], ◌∷◌, ◌++◌, refl, arith, ap, sym, ◌∙◌}
-use Rattle.std.proofs.Common.{subst, inl, inr, length}
-use Rattle.std.specs.Prelude.{Option, Some, None, unwrap_or, ◌⊎◌, ◌&&◌, nat_lt, if◌then◌else◌}
+use Rattle.std.proofs.Common.{◌≡◌, ℕ, ◌+◌, ◌≤◌, List, [], ◌∷◌, ◌++◌, refl, arith, ap, sym, ◌∙◌}
+use Rattle.std.proofs.Common.{subst, length}
+use Rattle.std.specs.Prelude.{Option, Some, None, ◌⊎◌}
 use Rattle.std.proofs.lemmas.List.{append_assoc, append-nil, length-append}
-use Rattle.vbi_whole.specs.declared.gap.Gap.{Gap}
-use Rattle.vbi_whole.specs.declared.tally.Tally.{Tally}
-use Rattle.vbi_side.specs.Clocks.{nearly_by}
-use Rattle.vbi_whole.specs.Gaps.{inserted, replaced, from_of, to_of}
-use Rattle.vbi_whole.specs.Detours.{may_turn, may_replace, is_inserted, detour_of, fields_by, turned, detoured_from}
+use Rattle.vbi_whole.specs.Types.{Gap, Tally, Rule}
+use Rattle.vbi_whole.specs.Gaps.{inserted, replaced}
+use Rattle.vbi_whole.specs.Detours.{detour_of, fields_by, turned, detoured_from}
 use Rattle.vbi_whole.specs.Detours.{detoured}
 use Rattle.vbi_whole.specs.Told.{AreTold, AreTelling, listed, stage}
-use Rattle.vbi_whole.specs.declared.gap.Rule.{Rule}
 
 module _ (rule : Rule) where
   -- ---- two gaps
@@ -35,12 +32,7 @@ module _ (rule : Rule) where
       → AreTelling rule (listed gaps unread) (stage None tally) old new
       → AreTelling rule (listed (gaps ++ gap ∷ []) unread) (stage (Some gap) tally) old new
   unfolding detoured_from
-  one_waits gaps unread tally old new gap telling = record {
-    settled = telling.settled;
-    goes_on = λ more. ap (detoured rule) (append_assoc gaps (gap ∷ []) more)
-        ∙ telling.goes_on (gap ∷ more);
-    told = telling.told;
-  }
+  one_waits gaps unread tally old new gap telling = grind (arith, append_assoc)
 
   -- the one before it is told, and it waits
   pub one_told : (gaps : List Gap) (unread : ℕ) (tally next : Tally) (old new then_new : List Gap)
@@ -48,14 +40,7 @@ module _ (rule : Rule) where
       → (telling : AreTelling rule (listed gaps unread) (stage (Some a) tally) old new)
       → AreTold rule.numbering.clock (listed (telling.settled ++ a ∷ []) unread) next old then_new
       → AreTelling rule (listed (gaps ++ b ∷ []) unread) (stage (Some b) next) old then_new
-  one_told gaps unread tally next old new then_new a b none telling told = record {
-    settled = telling.settled ++ a ∷ [];
-    goes_on = λ more. ap (detoured rule) (append_assoc gaps (b ∷ []) more)
-        ∙ telling.goes_on (b ∷ more)
-        ∙ ap (λ (xs : List Gap). telling.settled ++ xs) (no_detour a b more none)
-        ∙ sym (append_assoc telling.settled (a ∷ []) (detoured_from rule (Some b) more));
-    told = told;
-  }
+  one_told gaps unread tally next old new then_new a b none telling told = grind (arith, append_assoc, no_detour)
 
   -- both are told
   pub two_told : (gaps : List Gap) (unread : ℕ) (tally next : Tally) (old new then_new : List Gap)
@@ -64,20 +49,7 @@ module _ (rule : Rule) where
       → AreTold rule.numbering.clock (listed ((telling.settled ++ turned kind (fields_by rule kind a b) a ∷ [])
       ++ turned kind 0 b ∷ []) unread) next old then_new
       → AreTelling rule (listed (gaps ++ b ∷ []) unread) (stage None next) old then_new
-  two_told gaps unread tally next old new then_new a b kind is telling told =
-      let first = turned kind (fields_by rule kind a b) a in
-      let second = turned kind 0 b in
-      record {
-        settled = (telling.settled ++ first ∷ []) ++ second ∷ [];
-        goes_on = λ more. ap (detoured rule) (append_assoc gaps (b ∷ []) more)
-            ∙ telling.goes_on (b ∷ more)
-            ∙ ap (λ (xs : List Gap). telling.settled ++ xs) (a_detour a b more kind is)
-            ∙ sym (append_assoc telling.settled (first ∷ [])
-            (second ∷ detoured_from rule None more))
-            ∙ sym (append_assoc (telling.settled ++ first ∷ []) (second ∷ [])
-            (detoured_from rule None more));
-        told = told;
-      }
+  two_told gaps unread tally next old new then_new a b kind is telling told = grind (arith, a_detour, append_assoc)
 
   -- ---- the end
 
@@ -142,15 +114,4 @@ module _ (rule : Rule) where
   -- a detour is of one of two kinds
   pub detour_kind : (a b : Gap) (kind : ℕ) → detour_of rule a b ≡ Some kind
       → (kind ≡ replaced) ⊎ (kind ≡ inserted)
-  detour_kind a b kind =
-      go (nat_lt a.from b.to) (may_replace rule.pace a.kind && may_replace rule.pace b.kind
-      && nearly_by rule.numbering.clock rule.pace rule.slack (from_of a) (to_of b))
-      (may_turn a.kind && may_turn b.kind && is_inserted rule a b)
-    where
-      go : (order over leaves : Bool) → (if order then (if over then Some replaced
-          else (if leaves then Some inserted else None)) else None) ≡ Some kind
-          → (kind ≡ replaced) ⊎ (kind ≡ inserted)
-      go true true leaves e = inl (sym (ap (λ o. unwrap_or o 0) e))
-      go true false true e = inr (sym (ap (λ o. unwrap_or o 0) e))
-      go true false false e = absurd cc
-      go false near leaves e = absurd cc
+  detour_kind a b kind h1 = grind arith

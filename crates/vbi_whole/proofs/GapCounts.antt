@@ -1,16 +1,13 @@
 -- How many numbers are lost in a gap, of those that the clock leaves.
-use Rattle.std.proofs.Common.{◌≡◌, ℕ, ◌+◌, ◌*◌, ◌-◌, ◌<◌, ◌≤◌, ◌≢◌, true, false, Bool, refl, arith, subst, inl, inr}
-use Rattle.std.specs.Prelude.{None, ◌⊎◌}
+use Rattle.std.proofs.Common.{◌≡◌, ℕ, ◌+◌, ◌-◌, ◌<◌, ◌≤◌, true, Bool, arith, subst}
+use Rattle.std.specs.Prelude.{None}
 use Rattle.std.proofs.lemmas.Bool.Decides.{eqb_tells}
 use Rattle.std.proofs.Math.Dec.{eqb}
-use Rattle.vbi_side.specs.declared.clock.Clock.{Clock}
-use Rattle.vbi_side.specs.declared.pace.Pace.TheVariants.{Video}
-use Rattle.vbi_side.specs.Clocks.{kept, left_out, clock_fits, out_between}
+use Rattle.vbi_whole.specs.Types.{Clock, Video, Gap, Numbering}
+use Rattle.vbi_side.specs.Clocks.{left_out, clock_fits, out_between}
 use Rattle.vbi_side.proofs.Counting.{kept_is, out_up, out_far}
 use Rattle.vbi_side.proofs.Truth.{near_same, video_fits}
-use Rattle.vbi_whole.specs.declared.gap.Gap.{Gap}
-use Rattle.vbi_whole.specs.declared.gap.Numbering.{Numbering}
-use Rattle.vbi_whole.specs.Gaps.{lost, open_gap, gap_of, skipped, rule_by, amid}
+use Rattle.vbi_whole.specs.Gaps.{gap_of, skipped, rule_by, amid}
 use Rattle.vbi_whole.specs.Told.{lost_of, undecided_of}
 use Rattle.vbi_side.specs.Paces.{spot}
 
@@ -31,22 +28,9 @@ skipped_few clock m n less =
 
 pub few_lost : (clock : Clock) (gap : Gap) → gap.from < gap.to
     → lost_of clock gap + undecided_of clock gap + out_between clock gap.from gap.to ≤ gap.to - gap.from - 1
-few_lost clock gap less = go (eqb_tells gap.kind lost) (eqb_tells gap.kind open_gap)
-  where
-    few : skipped clock gap.from gap.to + out_between clock gap.from gap.to ≤ gap.to - gap.from - 1
-    few = skipped_few clock gap.from gap.to less
-
-    go : ((eqb gap.kind lost ≡ true) × (gap.kind ≡ lost)) ⊎ ((eqb gap.kind lost ≡ false) × (gap.kind ≢ lost))
-        → ((eqb gap.kind open_gap ≡ true) × (gap.kind ≡ open_gap))
-        ⊎ ((eqb gap.kind open_gap ≡ false) × (gap.kind ≢ open_gap))
-        → lost_of clock gap + undecided_of clock gap + out_between clock gap.from gap.to ≤ gap.to - gap.from - 1
-    go (inl (t, e)) _ = rw t (omega (arith, few))
-    go (inr (f, other)) (inl (t, e)) = rw (f, t) (omega (arith, few))
-    go (inr (f, other)) (inr (g, more)) = rw (f, g) (omega (arith, few))
+few_lost clock gap less = grind (arith, eqb, eqb_tells, skipped_few)
 
 pub no_gap : (numbering : Numbering) (ended : Bool) (shown i m k n : ℕ)
     → clock_fits numbering.clock i m k n ≡ true → gap_of (rule_by Video 0 numbering) (amid ended shown) (spot i m)
     (spot k n) ≡ None
-no_gap numbering ended shown i m k n fit =
-    rw (near_same (k + 2 * kept numbering.clock m) (i + 2 * kept numbering.clock n)
-    (video_fits i (kept numbering.clock m) k (kept numbering.clock n) fit)) refl
+no_gap numbering ended shown i m k n fit = grind (arith, near_same, video_fits)

@@ -1,29 +1,22 @@
 -- What the gaps of a capture say of it.
 use Rattle.vbi_side.proofs.Truth.{near_same, video_fits, film_fits}
 use Rattle.std.proofs.Common.{◌-◌, ◌≡◌, ◌≢◌, ℕ, zero, suc, ◌+◌, ◌*◌, ◌<◌, ◌≤◌, Bool, true, false, List, [], ◌∷◌, ◌++◌}
-use Rattle.std.proofs.Common.{arith, ap, sym, ◌∙◌, subst, inl, inr, length, refl}
-use Rattle.std.specs.Prelude.{Option, Some, None, ◌⊎◌, nat_le, nat_lt, if◌then◌else◌, ◌&&◌, not, ◌==◌}
+use Rattle.std.proofs.Common.{arith, ap, sym, ◌∙◌, subst, inl, inr, length}
+use Rattle.std.specs.Prelude.{Option, Some, None, ◌⊎◌, if◌then◌else◌}
 use Rattle.std.proofs.lemmas.Bool.Decides.{leb_tells, eqb_tells}
 use Rattle.std.proofs.lemmas.List.{length_push}
 use Rattle.std.proofs.Math.Dec.{eqb}
-use Rattle.vbi_side.specs.declared.number.Number.{Number}
-use Rattle.vbi_whole.specs.declared.gap.Gap.{Gap}
-use Rattle.vbi_side.specs.declared.pace.Pace.{Pace}
-use Rattle.vbi_side.specs.declared.pace.Pace.TheVariants.{Video, Film}
-use Rattle.vbi_side.specs.Paces.{nearly, fits, stays, spot}
+use Rattle.vbi_whole.specs.Types.{Number, Gap, Pace, Video, Film, Sightings, Numbering, Rule, Place}
+use Rattle.vbi_side.specs.Paces.{nearly, fits, spot}
 use Rattle.vbi_side.specs.Clocks.{kept, DiscCountsBy, by_clock}
 use Rattle.vbi_side.specs.Numbers.{believed, IsMarked}
 use Rattle.vbi_side.specs.Side.{captured, AreLost}
-use Rattle.vbi_side.specs.declared.sighting.Sightings.{Sightings}
-use Rattle.vbi_whole.specs.declared.gap.Numbering.{Numbering}
-use Rattle.vbi_whole.specs.Gaps.{lost, held, back, still, joined, open_gap, has_stills, is_open, lacking_by, gap_as}
+use Rattle.vbi_whole.specs.Gaps.{lost, held, lacking_by, gap_as}
 use Rattle.vbi_whole.specs.Gaps.{kind_of, fields_of, ended_between, shown_between, AreNeighbours, IsGap, AreGaps}
 use Rattle.vbi_whole.specs.Gaps.{CountTo, HasRightEnds, LostAtLeast, HeldAtLeast, lacking, Judged, amid_of, from_of}
 use Rattle.vbi_whole.specs.Gaps.{to_of, goes_on, of_video}
 use Rattle.std.proofs.lemmas.Bool.{and_parts}
 use Rattle.vbi_whole.proofs.Telling.{gap_is, some_is}
-use Rattle.vbi_whole.specs.declared.gap.Rule.{Rule}
-use Rattle.vbi_side.specs.declared.place.Place.{Place}
 
 -- ---- one gap
 
@@ -42,36 +35,13 @@ fields_as judged gap kind =
 
 -- its fields are those of its kind
 gap_fields : (judged : Judged) (gap : Gap) → IsGap judged gap → gap.fields ≡ fields_as judged gap gap.kind
-gap_fields judged gap is =
-    let e = is_made judged gap is in
-    ap (λ (g : Gap). g.fields) e ∙ ap (fields_as judged gap) (sym (ap (λ (g : Gap). g.kind) e))
+gap_fields judged gap is = grind (arith, is_made)
 
 -- between numbers that are told to lack fields some are too few, and none is where too many are told
 kind_tells : (rule : Rule) (ended : Bool) (a b : Place)
     → (kind_of rule ended a b ≡ lost → 0 < lacking_by rule.numbering.clock rule.pace a b)
     × (kind_of rule ended a b ≡ held → lacking_by rule.numbering.clock rule.pace a b ≡ 0)
-kind_tells rule ended x y =
-    go (has_stills rule.numbering && stays x.field x.number y.field y.number) (ended && not (y.number == x.number))
-    (nat_lt y.number x.number) (is_open rule.pace rule.numbering x y) (leb_tells 1 few)
-  where
-    few : ℕ
-    few = lacking_by rule.numbering.clock rule.pace x y
-
-    -- what is told, by the tests before
-    told : Bool → Bool → Bool → Bool → ℕ
-    told a b c d = if a then still else (if b then joined else (if c then back else (if d then open_gap
-        else (if nat_le 1 few then lost else held))))
-
-    go : (a b c d : Bool) → ((nat_le 1 few ≡ true) × (1 ≤ few)) ⊎ ((nat_le 1 few ≡ false) × (few < 1))
-        → (told a b c d ≡ lost → 0 < few) × (told a b c d ≡ held → few ≡ 0)
-    go true b c d l = (λ e. absurd (omega (arith, e)), λ e. absurd (omega (arith, e)))
-    go false true c d l = (λ e. absurd (omega (arith, e)), λ e. absurd (omega (arith, e)))
-    go false false true d l = (λ e. absurd (omega (arith, e)), λ e. absurd (omega (arith, e)))
-    go false false false true l = (λ e. absurd (omega (arith, e)), λ e. absurd (omega (arith, e)))
-    go false false false false (inl (t, le)) =
-        (λ e. le, λ e. let h : lost ≡ held = rw t at e in absurd (omega (arith, h)))
-    go false false false false (inr (f, lt)) =
-        (λ e. let h : held ≡ lost = rw f at e in absurd (omega (arith, h)), λ e. omega (arith, lt))
+kind_tells rule ended x y = grind (arith, leb_tells)
 
 -- of a gap with lost fields so many are too few between its numbers, and some are
 lost_lacks : (judged : Judged) (gap : Gap) → IsGap judged gap → gap.kind ≡ lost
@@ -102,10 +72,7 @@ gap_exact disc place numbering seen answers ends gap runs is kind (first, last) 
 least_by : (pace : Pace) (slack lost : ℕ) (place : ℕ → ℕ) (i m j n : ℕ) → i < j
     → (lost ≡ lacking pace (spot i m) (spot j n) - slack) × (0 < lacking pace (spot i m) (spot j n))
     → fits pace (place i) m (place j) n ≡ true → LostAtLeast place i j lost
-least_by Video slack lost place i m j n order (is, some) runs =
-    omega (arith, is, some, video_fits (place i) m (place j) n runs, order)
-least_by Film slack lost place i m j n order (is, some) runs =
-    let on = film_fits (place i) m (place j) n runs in omega (arith, is, some, on.0, on.1, order)
+least_by pace slack lost place i m j n h1 h2 h3 = grind (arith, film_fits, video_fits)
 
 pub gap_least : (judged : Judged) (disc : ℕ → Option ℕ) (place : ℕ → ℕ) (gap : Gap)
     → DiscCountsBy judged.rule.numbering.clock judged.rule.pace disc → IsGap judged gap → gap.kind ≡ lost
@@ -123,10 +90,7 @@ none_found false one gap e found = absurd (let h : false ≡ true = e in cc)
 
 -- the numbers of a gap don't go on
 pub not_on : (judged : Judged) (gap : Gap) → IsGap judged gap → goes_on judged.rule (from_of gap) (to_of gap) ≡ true → ⊥
-not_on judged gap is near =
-    none_found (goes_on judged.rule (from_of gap) (to_of gap))
-    (gap_as judged.rule (kind_of judged.rule (ended_between judged.ends gap.after gap.before) (from_of gap) (to_of gap))
-    (shown_between judged.seen (from_of gap) (to_of gap)) (from_of gap) (to_of gap)) gap near is.found
+not_on judged gap is near = grind (arith, none_found)
 
 -- of a gap with too many fields so many are too many between its numbers, and none is too few
 held_holds : (judged : Judged) (gap : Gap) → IsGap judged gap → gap.kind ≡ held
@@ -141,25 +105,14 @@ held_holds judged gap is kind = (
 -- numbers of film that don't fit and don't lack a field have one too many
 film_apart : (i m k n : ℕ) → (fits Film i m k n ≡ true → ⊥) → lacking Film (spot i m) (spot k n) ≡ 0
     → 2 * i + 5 * n + 2 < 2 * k + 5 * m
-film_apart i m k n apart none =
-    elim (leb_tells (2 * k + 5 * m) (2 * i + 5 * n + 2)) [
-      | inr (f, more) ↦ more
-      | inl (t, le) ↦ elim (leb_tells (2 * i + 5 * n) (2 * k + 5 * m + 2)) [
-        | inl (u, few) ↦ absurd (apart (rw (t, u) refl))
-        | inr (u, less) ↦ absurd (omega (arith, none, less))
-      ]
-    ]
+film_apart i m k n apart none = grind (arith, leb_tells)
 
 -- so many at least are there in place of the disc's
 more_by : (pace : Pace) (slack held : ℕ) (place : ℕ → ℕ) (i m j n : ℕ) → i < j
     → (nearly pace slack (spot i m) (spot j n) ≡ true → ⊥)
     → (held ≡ lacking pace (spot j n) (spot i m) - slack) × (lacking pace (spot i m) (spot j n) ≡ 0)
     → fits pace (place i) m (place j) n ≡ true → HeldAtLeast place i j held
-more_by Video slack held place i m j n order apart (is, none) runs =
-    omega (arith, is, none, video_fits (place i) m (place j) n runs, order)
-more_by Film slack held place i m j n order apart (is, none) runs =
-    let on = film_fits (place i) m (place j) n runs in
-    omega (arith, is, film_apart i m j n apart none, on.0, on.1, order)
+more_by pace slack held place i m j n h1 h2 h3 h4 = grind (arith, film_apart, film_fits, video_fits)
 
 pub gap_more : (judged : Judged) (disc : ℕ → Option ℕ) (place : ℕ → ℕ) (gap : Gap)
     → DiscCountsBy judged.rule.numbering.clock judged.rule.pace disc → IsGap judged gap → gap.kind ≡ held
@@ -183,13 +136,7 @@ same_number answers i m n one other =
 pub same_before : (answers : List Number) (i m k n h l o : ℕ) → AreNeighbours answers (spot i m) (spot k n)
     → AreNeighbours answers (spot h l) (spot k o)
     → i ≡ h
-same_before answers i m k n h l o one other = go (leb_tells i h) (leb_tells h i)
-  where
-    go : ((nat_le i h ≡ true) × (i ≤ h)) ⊎ ((nat_le i h ≡ false) × (h < i))
-        → ((nat_le h i ≡ true) × (h ≤ i)) ⊎ ((nat_le h i ≡ false) × (i < h)) → i ≡ h
-    go (inl (t, le)) (inl (u, more)) = omega (arith, le, more)
-    go (inr (f, lt)) _ = absurd (other.between i m lt one.order one.here)
-    go _ (inr (f, lt)) = absurd (one.between h l lt other.order other.here)
+same_before answers i m k n h l o one other = grind (arith, leb_tells)
 
 -- ---- all numbers count to each other where there is no gap
 
@@ -197,17 +144,7 @@ no_push : (xs : List Gap) (y : Gap) → [] ≡ xs ++ y ∷ [] → ⊥
 no_push xs y e = absurd (omega (arith, ap (λ (zs : List Gap). length zs) e, length_push xs y))
 
 pub on_video : (i m k n : ℕ) → nearly Video 0 (spot i m) (spot k n) ≡ true → k + 2 * m ≡ i + 2 * n
-on_video i m k n is =
-    let p = and_parts (nat_le (k + 2 * m) (i + 2 * n + 0)) (nat_le (i + 2 * n) (k + 2 * m + 0)) is in
-    let a = leb_tells (k + 2 * m) (i + 2 * n + 0) in
-    let b = leb_tells (i + 2 * n) (k + 2 * m + 0) in
-    elim a [
-      | inl (t, le) ↦ elim b [
-        | inl (u, more) ↦ omega (arith, le, more)
-        | inr (u, less) ↦ absurd (let h : true ≡ false = sym p.1 ∙ u in cc)
-      ]
-      | inr (t, lt) ↦ absurd (let h : true ≡ false = sym p.0 ∙ t in cc)
-    ]
+on_video i m k n is = grind (arith, and_parts, leb_tells)
 
 pub all_count : (numbering : Numbering) (seen : List Sightings) (answers : List Number) (ends : List ℕ) (k unread : ℕ)
     → AreGaps (of_video numbering seen answers ends) k [] unread

@@ -7,7 +7,7 @@ use Rattle.std.proofs.lemmas.List.{length_push, get_or_append_left}
 use Rattle.std.proofs.Math.Seq.{get_or-append_seam}
 use Rattle.std.proofs.Math.Dec.{eqb}
 use Rattle.std.proofs.lemmas.Option.{slice_get-get_or, slice_get_within, get_or_from_slice_get}
-use Rattle.vbi_whole.specs.declared.gap.Gap.{Gap}
+use Rattle.vbi_whole.specs.Types.{Gap}
 use Rattle.vbi_side.specs.Clocks.{nearly_by}
 use Rattle.vbi_side.specs.Numbers.{IsMarked}
 use Rattle.vbi_whole.specs.Gaps.{gap_of, gap_as, kind_of, ended_between, shown_between, AreNeighbours, IsFree, IsGap}

@@ -1,11 +1,11 @@
 -- What is told to be lost is lost, if the numbers at the ends of what is told so are right.
 use Rattle.std.proofs.Common.{◌≡◌, ◌≢◌, ℕ, suc, ◌+◌, ◌-◌, ◌<◌, ◌≤◌, true, false, List, [], ◌∷◌, refl, arith, ap, sym}
-use Rattle.std.proofs.Common.{◌∙◌, subst, inl, inr}
+use Rattle.std.proofs.Common.{subst, inl, inr}
 use Rattle.std.specs.Prelude.{Option, Some, ◌⊎◌, ◌==◌, slice_get, sum_by, if◌then◌else◌}
 use Rattle.std.proofs.lemmas.Bool.Decides.{leb_tells, eqb_tells}
 use Rattle.std.proofs.lemmas.List.Sums.{sum_by-cons}
 use Rattle.std.proofs.Math.Dec.{eqb}
-use Rattle.vbi_whole.specs.declared.gap.Gap.{Gap}
+use Rattle.vbi_whole.specs.Types.{Gap}
 use Rattle.vbi_side.specs.Clocks.{DiscCountsBy}
 use Rattle.vbi_whole.specs.Detours.{detoured, turned, IsToldAs}
 use Rattle.vbi_whole.specs.Gaps.{lost, inserted, replaced, IsGap, AreGaps, HasRightEnds, LostAtLeast, Judged}
@@ -72,10 +72,7 @@ module _ (judged : Judged) (disc : ℕ → Option ℕ) (place : ℕ → ℕ)
 
   no_loss : (kind fields : ℕ) (gap told : Gap) → (kind ≡ replaced) ⊎ (kind ≡ inserted) → told ≡ turned kind fields gap
       → fields_if lost told ≡ 0
-  no_loss kind fields gap told (inl e) is = ap (fields_if lost) is
-      ∙ subst (λ k. fields_if lost (turned k fields gap) ≡ 0) (sym e) refl
-  no_loss kind fields gap told (inr e) is = ap (fields_if lost) is
-      ∙ subst (λ k. fields_if lost (turned k fields gap) ≡ 0) (sym e) refl
+  no_loss kind fields gap told h1 h2 = grind arith
 
   stands : (j : ℕ) (told : Gap) → slice_get (detoured judged.rule gaps) j ≡ Some told → Stands j told
   stands j told at = go (each_told judged.rule gaps j told at)

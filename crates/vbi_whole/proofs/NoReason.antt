@@ -1,19 +1,15 @@
 -- When a reason doesn't hold: tests that fail, and answers that are counted.
 use Rattle.std.proofs.Common.{◌≡◌, ℕ, zero, suc, ◌<◌, ◌≤◌, Bool, true, false}
-use Rattle.std.proofs.Common.{List, [], ◌∷◌, drop, get_or, refl, arith, ap, sym, ◌∙◌, inl, inr}
+use Rattle.std.proofs.Common.{List, [], ◌∷◌, drop, get_or, refl, arith, ap, ◌∙◌, inl, inr}
 use Rattle.std.specs.Prelude.{Option, Some, None, slice_get, ◌⊎◌, nat_le, nat_lt, ◌==◌, ◌&&◌, ◌||◌, count_by}
 use Rattle.std.specs.Prelude.{if◌then◌else◌}
 use Rattle.std.proofs.lemmas.Bool.{ltb-true}
 use Rattle.std.proofs.lemmas.Bool.Decides.{leb_tells}
 use Rattle.std.proofs.lemmas.List.Sums.{get_or-le-sum_by}
 use Rattle.std.proofs.lemmas.Option.{slice_get_within, get_or_from_slice_get}
-use Rattle.vbi_side.specs.declared.clock.Clock.{Clock}
-use Rattle.vbi_side.specs.declared.number.Number.{Number}
-use Rattle.vbi_side.specs.declared.sighting.Sighting.{Sighting}
-use Rattle.vbi_side.specs.declared.sighting.Sightings.{Sightings}
+use Rattle.vbi_whole.specs.Types.{Clock, Number, Sighting, Sightings, Place}
 use Rattle.vbi_side.specs.Ends.{lead_out}
 use Rattle.vbi_side.specs.Sightings.{Shows}
-use Rattle.vbi_side.specs.declared.place.Place.{Place}
 use Rattle.vbi_whole.specs.Swaps.{is_stray, shows_off}
 
 -- ---- tests and lists
@@ -26,17 +22,10 @@ both_false true b e = e
 both_false false b e = refl
 
 pub not_less : (a b : ℕ) → b ≤ a → nat_lt a b ≡ false
-not_less a b le = go (nat_lt a b) refl
-  where
-    go : (x : Bool) → nat_lt a b ≡ x → x ≡ false
-    go false e = refl
-    go true e = absurd (omega (arith, le, ltb-true a b e))
+not_less a b le = grind (arith, ltb-true)
 
 pub more_not_le : (a b : ℕ) → b < a → nat_le a b ≡ false
-more_not_le a b lt = elim (leb_tells a b) [
-  | inl (t, le) ↦ absurd (omega (arith, le, lt))
-  | inr (f, other) ↦ f
-]
+more_not_le a b lt = grind (arith, leb_tells)
 
 pub none_counted : {A : Type 0} (test : A → Bool) (xs : List A)
     → ((i : ℕ) (x : A) → slice_get xs i ≡ Some x → test x ≡ false) → count_by test xs ≡ 0
@@ -64,13 +53,7 @@ follows (x ∷ xs) (suc n) (suc e) le at = follows xs n e (omega (arith, le)) at
 
 off_shows : (clock : Clock) (answers : List Number) (a : Place) (k : ℕ) (sighting : Sighting)
     → shows_off clock answers a k sighting ≡ true → 1 ≤ sighting.weight
-off_shows clock answers a k sighting = go (leb_tells 1 sighting.weight)
-  where
-    go : ((nat_le 1 sighting.weight ≡ true) × (1 ≤ sighting.weight))
-        ⊎ ((nat_le 1 sighting.weight ≡ false) × (sighting.weight < 1))
-        → shows_off clock answers a k sighting ≡ true → 1 ≤ sighting.weight
-    go (inl (t, le)) e = le
-    go (inr (f, lt)) e = absurd (false_true (rw f at e))
+off_shows clock answers a k sighting h1 = grind (arith, false_true, leb_tells)
 
 or_parts : (a b : Bool) → (a || b) ≡ true → (a ≡ true) ⊎ (b ≡ true)
 or_parts true b e = inl refl

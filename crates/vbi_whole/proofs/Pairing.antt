@@ -3,11 +3,9 @@ use Rattle.std.proofs.Common.{◌≡◌, ℕ, zero, suc, ◌+◌, ◌≤◌, ◌
 use Rattle.std.specs.Prelude.{◌⊎◌}
 use Rattle.vbi_side.specs.Numbers.{IsMarked}
 use Rattle.vbi_whole.proofs.GapLaws.{same_before, same_number}
-use Rattle.vbi_side.specs.declared.clock.Clock.{Clock}
+use Rattle.vbi_whole.specs.Types.{Clock, Number, Rule}
 use Rattle.vbi_whole.specs.declared.clock_search.Pairs.{Pairs}
-use Rattle.vbi_side.specs.declared.number.Number.{Number}
 use Rattle.vbi_side.specs.Paces.{spot}
-use Rattle.vbi_whole.specs.declared.gap.Rule.{Rule}
 use Rattle.vbi_whole.specs.ClockSearch.{with_pair, ArePairs, AreEnough, ExplainsMost}
 use Rattle.vbi_whole.specs.Gaps.{AreNeighbours, IsFree}
 
@@ -24,18 +22,13 @@ none_yet clock rule answers = refl
 pub no_pair : (clock : Clock) (rule : Rule) (answers : List Number) (k : ℕ) (pairs : Pairs)
     → IsFree answers k → ArePairs clock rule answers k pairs → ArePairs clock rule answers (k + 1) pairs
 unfolding ArePairs
-no_pair clock rule answers k pairs free before =
-    let next : suc k ≡ k + 1 = omega arith in
-    subst (λ x. ArePairs clock rule answers x pairs) next (inl (free, before))
+no_pair clock rule answers k pairs free before = grind arith
 
 pub one_pair : (clock : Clock) (rule : Rule) (answers : List Number) (i m k n : ℕ) (pairs : Pairs)
     → AreNeighbours answers (spot i m) (spot k n) → ArePairs clock rule answers k pairs
     → ArePairs clock rule answers (k + 1) (with_pair clock rule (spot i m) (spot k n) pairs)
 unfolding ArePairs
-one_pair clock rule answers i m k n pairs neighbours before =
-    let next : suc k ≡ k + 1 = omega arith in
-    subst (λ x. ArePairs clock rule answers x (with_pair clock rule (spot i m) (spot k n) pairs)) next
-    (inr (i, m, n, pairs, neighbours, before, refl))
+one_pair clock rule answers i m k n pairs neighbours before = grind arith
 
 -- the pairs of a clock are told in one way
 pub one_count : (clock : Clock) (rule : Rule) (answers : List Number) (k : ℕ) (a b : Pairs)
@@ -67,17 +60,4 @@ pub most_told : (clock other : Clock) (rule : Rule) (answers : List Number) (pai
     → ArePairs other rule answers (length answers) others
     → (AreEnough others × (less ≡ others.explained)) ⊎ ((AreEnough others → ⊥) × (less ≡ 0))
     → (3 ≤ weight) × (less ≤ weight)
-most_told clock other rule answers pairs others weight less (one, are, enough, most) here told there tells =
-    let same : one ≡ pairs = one_count clock rule answers (length answers) one pairs are here in
-    let much : AreEnough pairs = subst AreEnough same enough in
-    let explained : one.explained ≡ pairs.explained = ap (λ (x : Pairs). x.explained) same in
-    elim told [
-      | inl is ↦ (
-        omega (arith, is.1, much.0),
-        elim tells [
-          | inl more ↦ omega (arith, is.1, more.1, explained, most other others there more.0)
-          | inr none ↦ omega (arith, none.1)
-        ],
-      )
-      | inr is ↦ absurd (is.0 much)
-    ]
+most_told clock other rule answers pairs others weight less h1 h2 h3 h4 h5 = grind (arith, one_count)

@@ -6,11 +6,8 @@ use Rattle.std.proofs.lemmas.Bool.{and_parts, and_from, or_cases, or_left, or_ri
 use Rattle.std.proofs.lemmas.Bool.{eqb-true, eq-eqb, false≢true}
 use Rattle.std.proofs.lemmas.Bool.Decides.{eqb_tells}
 use Rattle.std.proofs.lemmas.Option.{slice_get-get_or, slice_get_within, none-some, same_Some}
-use Rattle.vbi_whole.specs.declared.gap.Gap.{Gap}
-use Rattle.vbi_side.specs.declared.number.Number.{Number}
-use Rattle.vbi_side.specs.declared.place.Place.{Place}
+use Rattle.vbi_whole.specs.Types.{Gap, Number, Place, Rule}
 use Rattle.vbi_side.specs.Paces.{spot}
-use Rattle.vbi_whole.specs.declared.gap.Rule.{Rule}
 use Rattle.vbi_whole.specs.Gaps.{gap_made, replaced}
 use Rattle.vbi_side.specs.Numbers.{nothing, believed, IsMarked}
 use Rattle.vbi_whole.specs.AsideNumbers.{has_of_row, row_weight, is_set_aside, begun, run_before, is_of_run, is_aside}
@@ -26,13 +23,7 @@ pub weight_more : (rule : Rule) (answers : List Number) (a : Place) (k : ℕ) �
     → (if has_of_row rule a k (Some (get_or answers k nothing)) then suc (row_weight rule answers a k)
     else row_weight rule answers a k) ≡ row_weight rule answers a (k + 1)
 unfolding row_weight
-weight_more rule answers a k inside =
-    let next : suc k ≡ k + 1 = omega arith in
-    let at : slice_get answers k ≡ Some (get_or answers k nothing) = slice_get-get_or answers k nothing inside in
-    subst (λ n. (if has_of_row rule a k (Some (get_or answers k nothing)) then suc (row_weight rule answers a k)
-    else row_weight rule answers a k) ≡ row_weight rule answers a n) next
-    (sym (ap (λ o. if has_of_row rule a k o then suc
-    (row_weight rule answers a k) else row_weight rule answers a k) at))
+weight_more rule answers a k inside = grind (arith, slice_get-get_or)
 
 -- ---- fields
 
@@ -54,30 +45,17 @@ gap_at gaps k = get_or gaps k no_gap
 
 pub run_more : (gaps : List Gap) (k : ℕ) → k < length gaps
     → begun (run_before gaps k) (Some (gap_at gaps k)) ≡ run_before gaps (k + 1)
-run_more gaps k inside =
-    let next : suc k ≡ k + 1 = omega arith in
-    let at : slice_get gaps k ≡ Some (gap_at gaps k) = slice_get-get_or gaps k no_gap inside in
-    subst (λ n. begun (run_before gaps k) (Some (gap_at gaps k)) ≡ run_before gaps n) next
-    (sym (ap (begun (run_before gaps k)) at))
+run_more gaps k inside = grind (arith, slice_get-get_or)
 
 pub aside_more : (rule : Rule) (gaps : List Gap) (answers : List Number) (i k : ℕ) → k < length gaps
     → (is_aside rule gaps answers i k || is_of_run rule answers i (run_before gaps k) (Some (gap_at gaps k)))
     ≡ is_aside rule gaps answers i (k + 1)
 unfolding is_aside
-aside_more rule gaps answers i k inside =
-    let next : suc k ≡ k + 1 = omega arith in
-    let at : slice_get gaps k ≡ Some (gap_at gaps k) = slice_get-get_or gaps k no_gap inside in
-    subst (λ n. (is_aside rule gaps answers i k
-    || is_of_run rule answers i (run_before gaps k) (Some (gap_at gaps k))) ≡ is_aside rule gaps answers i n) next
-    (sym (ap (λ g. is_aside rule gaps answers i k || is_of_run rule answers i (run_before gaps k) g) at))
+aside_more rule gaps answers i k inside = grind (arith, slice_get-get_or)
 
 -- what is set aside twice is set aside once
 again : (b : Bool) (answer : Number) → left_of b (left_of true answer) ≡ left_of true answer
-again false answer = refl
-again true answer = elim (eqb_tells answer.state 1) [
-  | inl (t, e) ↦ simp t
-  | inr (f, other) ↦ simp f
-]
+again b answer = grind (arith, eqb_tells)
 
 pub left_twice : (a b : Bool) (answer : Number) → left_of b (left_of a answer) ≡ left_of (a || b) answer
 left_twice false b answer = refl
@@ -87,13 +65,7 @@ left_twice true b answer = again b answer
 
 -- an answer that is left believed was believed
 left_believed : (aside : Bool) (answer : Number) (n : ℕ) → left_of aside answer ≡ believed n → answer ≡ believed n
-left_believed false answer n e = e
-left_believed true answer n e = elim (eqb_tells answer.state 1) [
-  | inl (t, is) ↦
-      let made : (record answer { state = 2 }) ≡ believed n = simp t at e in
-      absurd (omega (arith, ap (λ (one : Number). one.state) made))
-  | inr (f, other) ↦ simp f at e
-]
+left_believed aside answer n h1 = grind (arith, eqb_tells)
 
 pub left_sound : (rule : Rule) (gaps : List Gap) (numbers left : List Number) (i n : ℕ)
     → AreLeft rule gaps numbers left → IsMarked left i n → IsMarked numbers i n
@@ -108,34 +80,18 @@ left_sound rule gaps numbers left i n all at =
 -- a run begins with a gap that replaces others
 begun_is : (first second : Option Gap) (a : Gap) → begun first second ≡ Some a
     → (second ≡ Some a) × (a.kind ≡ replaced)
-begun_is None None a e = absurd (none-some a e)
-begun_is None (Some gap) a e = elim (eqb_tells gap.kind replaced) [
-  | inl (t, is) ↦
-      let same : gap ≡ a = same_Some gap a (simp t at e) in
-      (ap Some same, ap (λ (g : Gap). g.kind) (sym same) ∙ is)
-  | inr (f, other) ↦ absurd (none-some a (simp f at e))
-]
-begun_is (Some one) second a e = absurd (none-some a e)
+begun_is first second a h1 = grind (arith, eqb_tells, none-some, same_Some)
 
 run_is : (gaps : List Gap) (k : ℕ) (a : Gap) → run_before gaps k ≡ Some a
     → (j : ℕ) × (k ≡ suc j) × (slice_get gaps j ≡ Some a) × (a.kind ≡ replaced)
-run_is gaps zero a e = absurd (none-some a e)
-run_is gaps (suc j) a e =
-    let is = begun_is (run_before gaps j) (slice_get gaps j) a e in
-    (j, refl, is.0, is.1)
+run_is gaps k a h1 = grind (arith, begun_is, none-some)
 
 -- the two gaps around a run that has the field
 of_run : (rule : Rule) (numbers : List Number) (i : ℕ) (first second : Option Gap)
     → is_of_run rule numbers i first second ≡ true
     → (a b : Gap) × (first ≡ Some a) × (second ≡ Some b) × (b.kind ≡ replaced)
     × (is_set_aside rule numbers a b ≡ true) × (a.before ≤ i) × (i ≤ b.after)
-of_run rule numbers i None second e = absurd (false≢true e)
-of_run rule numbers i (Some a) None e = absurd (false≢true e)
-of_run rule numbers i (Some a) (Some b) e =
-    let halves = and_parts _ _ e in
-    let ends = and_parts _ _ halves.0 in
-    let kinds = and_parts _ _ halves.1 in
-    (a, b, refl, refl, eqb-true b.kind replaced kinds.0, kinds.1, leb-true a.before i ends.0, leb-true i b.after ends.1)
+of_run rule numbers i first second h1 = grind (arith, and_parts, eqb-true, false≢true, leb-true)
 
 pub aside_run : (rule : Rule) (gaps : List Gap) (numbers : List Number) (i k : ℕ)
     → is_aside rule gaps numbers i k ≡ true

@@ -8,12 +8,8 @@ use Rattle.std.proofs.lemmas.List.Sums.{sum_by_push}
 use Rattle.std.proofs.Math.Seq.{get_or-append_seam}
 use Rattle.std.proofs.lemmas.Option.{slice_get-get_or, slice_get_within, slice_get_past, slice_get_read}
 use Rattle.std.proofs.lemmas.Option.{get_or_from_slice_get}
-use Rattle.vbi_side.specs.declared.number.Number.{Number}
-use Rattle.vbi_whole.specs.declared.gap.Gap.{Gap}
-use Rattle.vbi_whole.specs.declared.tally.Tally.{Tally}
-use Rattle.vbi_side.specs.declared.place.Place.{Place}
-use Rattle.vbi_side.specs.declared.clock.Clock.{Clock}
-use Rattle.vbi_side.specs.Numbers.{believed, IsMarked}
+use Rattle.vbi_whole.specs.Types.{Number, Gap, Tally, Place, Clock, Rule, Amid}
+use Rattle.vbi_side.specs.Numbers.{IsMarked}
 use Rattle.vbi_whole.specs.Told.{capped, one_if, one_if_open, fields_if, lost_of, undecided_of, still_end_of}
 use Rattle.vbi_whole.specs.Told.{begins_still, last_still, stills_of, tally_of, with_gap, AreWritten, AreTold}
 use Rattle.vbi_whole.specs.Told.{AreTelling, IsTelling, listed, Stage}
@@ -21,8 +17,6 @@ use Rattle.vbi_whole.proofs.Detouring.{settled_few}
 use Rattle.vbi_whole.specs.Gaps.{lost, held, back, still, joined, inserted, gap_of, gap_as, kind_of, since_end, is_end}
 use Rattle.vbi_whole.specs.Gaps.{AreNeighbours, IsFree, IsGap, AreGaps, IsLast, skipped, Judged, amid_of, from_of}
 use Rattle.vbi_whole.specs.Gaps.{to_of, goes_on}
-use Rattle.vbi_whole.specs.declared.gap.Rule.{Rule}
-use Rattle.vbi_whole.specs.declared.gap.Amid.{Amid}
 use Rattle.vbi_side.specs.Paces.{spot}
 
 -- ---- lists
@@ -66,11 +60,7 @@ kept xs i j y other = go (leb_tells (length xs) j)
 -- ---- what is written
 
 pub none_written : (old : List Gap) → AreWritten [] old old
-none_written old = record {
-  room = refl;
-  first = λ j gap less at. absurd (omega (arith, slice_get_within {A = Gap} [] j gap at));
-  others = λ j le. refl;
-}
+none_written old = grind (arith, slice_get_within)
 
 written_there : (gaps old new : List Gap) (gap : Gap) (place : ℕ) → place ≡ length gaps → AreWritten gaps old new
     → place < length new → AreWritten (gaps ++ gap ∷ []) old (slice_set new place gap)
@@ -91,14 +81,7 @@ written_there gaps old new gap place is before less = record {
 
 written_full : (gaps old new : List Gap) (gap : Gap) → AreWritten gaps old new → length new ≤ length gaps
     → AreWritten (gaps ++ gap ∷ []) old new
-written_full gaps old new gap before full = record {
-  room = before.room;
-  first = λ j one inside at. elim (pushed gaps gap one j at) [
-    | inl (lt, there) ↦ before.first j one inside there
-    | inr (same, e) ↦ absurd (omega (arith, same, inside, full, before.room))
-  ];
-  others = λ j le. before.others j (omega (arith, le, length_push gaps gap));
-}
+written_full gaps old new gap before full = grind (arith, length_push, pushed)
 
 -- ---- the tally
 
@@ -173,30 +156,14 @@ told_one clock gaps unread tally old new then_new gap told there full = record {
 
 pub gap_is : (rule : Rule) (between : Amid) (a b : Place) (gap : Gap) → gap_of rule between a b ≡ Some gap
     → gap ≡ gap_as rule (kind_of rule between.ended a b) between.shown a b
-gap_is rule between a b gap = go (goes_on rule a b)
-  where
-    one : Gap
-    one = gap_as rule (kind_of rule between.ended a b) between.shown a b
-
-    go : (on : Bool) → (if on then None else Some one) ≡ Some gap → gap ≡ one
-    go true e = absurd cc
-    go false e = sym (some_is one gap e)
+gap_is rule between a b gap h1 = grind (arith, some_is)
 
 -- numbers with no gap between go on
 pub go_on : (rule : Rule) (between : Amid) (a b : Place) → gap_of rule between a b ≡ None → goes_on rule a b ≡ true
-go_on rule between a b = go (goes_on rule a b)
-  where
-    one : Gap
-    one = gap_as rule (kind_of rule between.ended a b) between.shown a b
-
-    go : (on : Bool) → (if on then None else Some one) ≡ None → on ≡ true
-    go true e = refl
-    go false e = absurd (let h = e in cc)
+go_on rule between a b h1 = grind arith
 
 pub moved : (P : ℕ → ℕ → ℕ → ℕ → Type 0) (a f b t i m k n : ℕ) → a ≡ i → f ≡ m → b ≡ k → t ≡ n → P i m k n → P a f b t
-moved P a f b t i m k n first from last to p =
-    subst (λ x. P x f b t) (sym first) (subst (λ x. P i x b t) (sym from)
-    (subst (λ x. P i m x t) (sym last) (subst (λ x. P i m k x) (sym to) p)))
+moved P a f b t i m k n h1 h2 h3 h4 h5 = grind arith
 
 -- what lies between two neighbours is the gap of its ends
 pub gap_between : (judged : Judged) (a b : Place) (gap : Gap)
@@ -222,12 +189,7 @@ gap_between judged a b gap neighbours found =
 pub told_free : (judged : Judged) (k : ℕ) (at : Stage) (old new : List Gap) → IsFree judged.numbers k
     → IsTelling judged k at old new → IsTelling judged (suc k) at old new
 unfolding AreGaps
-told_free judged k at old new free told = record {
-  gaps = told.gaps;
-  unread = told.unread;
-  all = inl (free, told.all);
-  telling = told.telling;
-}
+told_free judged k at old new free told = grind arith
 
 pub told_on : (judged : Judged) (a b : Place) (at next : Stage) (old new : List Gap)
     → AreNeighbours judged.numbers a b → goes_on judged.rule a b ≡ true
@@ -236,20 +198,7 @@ pub told_on : (judged : Judged) (a b : Place) (at next : Stage) (old new : List 
     (listed told.gaps (told.unread + skipped judged.rule.numbering.clock a.number b.number)) next old new
     → IsTelling judged (suc b.field) next old new
 unfolding AreGaps
-told_on judged a b at next old new neighbours near told telling = record {
-  gaps = told.gaps;
-  unread = told.unread + skipped judged.rule.numbering.clock a.number b.number;
-  all = inr (inl (
-    a.field,
-    a.number,
-    b.number,
-    told.unread,
-    record { neighbours = neighbours; near = near },
-    told.all,
-    refl,
-  ));
-  telling = telling;
-}
+told_on judged a b at next old new neighbours near told telling = grind arith
 
 pub told_gap : (judged : Judged) (a b : Place) (gap : Gap) (at next : Stage) (old new then_new : List Gap)
     → AreNeighbours judged.numbers a b
@@ -311,11 +260,7 @@ told_few judged k at old new told =
 since_is : (ends : List ℕ) (k d : ℕ) (b : Bool) → k < length ends → is_end (Some (get_or ends k d)) ≡ b
     → (if b then 0 else suc (since_end ends k)) ≡ since_end ends (k + 1)
 unfolding since_end
-since_is ends k d b inside shown =
-    let next : suc k ≡ k + 1 = omega arith in
-    let shows : is_end (slice_get ends k) ≡ b = ap is_end (slice_get-get_or ends k d inside) ∙ shown in
-    subst (λ n. (if b then 0 else suc (since_end ends k)) ≡ since_end ends n) next
-    (ap (λ c. if c then 0 else suc (since_end ends k)) (sym shows))
+since_is ends k d b inside shown = grind (arith, slice_get-get_or)
 
 pub since_none : (ends : List ℕ) (k d : ℕ) → k < length ends → is_end (Some (get_or ends k d)) ≡ true
     → 0 ≡ since_end ends (k + 1)
@@ -326,16 +271,3 @@ pub since_more : (ends : List ℕ) (k since d : ℕ) → k < length ends → is_
 since_more ends k since d inside shown is =
     let more : since + 1 ≡ suc (since_end ends k) = omega (arith, is) in
     more ∙ since_is ends k d false inside shown
-
--- ---- what is marked
-
-pub unmarked : (answers : List Number) (k n : ℕ) (d : Number) → ((get_or answers k d).state ≡ 1 → ⊥)
-    → IsMarked answers k n → ⊥
-unmarked answers k n d never at = never (ap (λ (x : Number). x.state)
-    (get_or_from_slice_get answers k (believed n) d at))
-
-pub marked_here : (answers : List Number) (k : ℕ) (d : Number) → k < length answers → (get_or answers k d).state ≡ 1
-    → IsMarked answers k (get_or answers k d).number
-marked_here answers k d inside is =
-    slice_get-get_or answers k d inside
-    ∙ ap (λ (s : ℕ). Some (let x : Number = record { number = (get_or answers k d).number; state = s } in x)) is

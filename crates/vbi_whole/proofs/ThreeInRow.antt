@@ -1,10 +1,9 @@
 -- Each number of a run is one of three between which the clock leaves out none.
 use Rattle.std.proofs.Common.{◌≡◌, ◌≢◌, ℕ, ◌+◌, ◌-◌, ◌<◌, ◌≤◌, Bool, true, false, refl, arith, ap, sym, ◌∙◌, inl, inr}
-use Rattle.std.specs.Prelude.{◌%◌, ◌&&◌, nat_lt, nat_le}
+use Rattle.std.specs.Prelude.{◌%◌, ◌&&◌}
 use Rattle.std.proofs.lemmas.Bool.{lt-ltb}
 use Rattle.std.proofs.lemmas.Bool.Decides.{leb_tells, eqb_tells}
-use Rattle.vbi_side.specs.declared.clock.Clock.{Clock}
-use Rattle.vbi_side.specs.declared.clock.Clock.TheVariants.{Plain, DropFrame, OneIn}
+use Rattle.vbi_whole.specs.Types.{Clock, Plain, DropFrame, OneIn}
 use Rattle.vbi_side.specs.Clocks.{left_out, leaves_out, kept}
 use Rattle.vbi_whole.specs.CleanRuns.{IsOneOfThree}
 use Rattle.vbi_side.proofs.Counting.{kept_is, plain, out_up, out_far}
@@ -31,12 +30,7 @@ greater clock m n later = elim (leb_tells m n) [
 -- if none is left out between two, none is left out before the one between
 middle : (clock : Clock) (a b c : ℕ) → kept clock a < kept clock b → kept clock b < kept clock c
     → left_out clock a ≡ left_out clock c → left_out clock a ≡ left_out clock b
-middle clock a b c one two same = omega (
-  arith,
-  same,
-  out_up clock a b (greater clock a b one),
-  out_up clock b c (greater clock b c two),
-)
+middle clock a b c one two same = grind (arith, greater, out_up)
 
 -- of five numbers that a disc has one after the other, the clock leaves out none between the first and the third, or
 -- none between the third and the fifth
@@ -62,14 +56,7 @@ both_true : (a b : Bool) → a ≡ true → b ≡ true → (a && b) ≡ false �
 both_true a b e f none = let h : true ≡ false = rw (e, f) at none in cc
 
 pub drop_rare : IsRare DropFrame
-drop_rare a b c there first last other = elim (leb_tells 2 (b % 1800)) [
-  | inl (t, late) ↦ drop_late a b c late first last other
-  | inr (f, early) ↦ elim (leb_tells 1800 (b % 18000)) [
-    | inr (g, tenth) ↦ drop_tenth a b c tenth first last other
-    | inl (t, after) ↦ absurd (both_true (nat_lt (b % 1800) 2) (nat_le 1800 (b % 18000))
-        (lt-ltb (b % 1800) 2 early) t there)
-  ]
-]
+drop_rare = grind (arith, both_true, drop_late, drop_tenth, leb_tells, lt-ltb)
 
 -- ---- by one number left out in 1,000 or 1,001
 
@@ -104,26 +91,12 @@ module _ (clock : Clock) (number : ℕ → ℕ) (last : ℕ) (rare : IsRare cloc
   -- three between which none is left out
   in_row : (q : ℕ) → q + 2 ≤ last → left_out clock (number q) ≡ left_out clock (number (q + 2))
       → (number (q + 1) ≡ number q + 1) × (number (q + 2) ≡ number q + 2)
-  in_row q inside same =
-      let one = in_steps q (q + 1) (omega arith) (omega (arith, inside)) in
-      let two = in_steps q (q + 2) (omega arith) inside in
-      let between = middle clock (number q) (number (q + 1)) (number (q + 2)) (omega (arith, one))
-      (omega (arith, one, two)) same in (
-        omega (arith, one, between, kept_is clock (number q), kept_is clock (number (q + 1))),
-        omega (arith, two, same, kept_is clock (number q), kept_is clock (number (q + 2))),
-      )
+  in_row q inside same = grind (arith, in_steps, kept_is, middle)
 
   -- two that are two apart have as many left out before them
   same_before : (p q : ℕ) → q ≡ p + 2 → q ≤ last → number q ≡ number p + 2
       → left_out clock (number p) ≡ left_out clock (number q)
-  same_before p q next inside two = omega (
-    arith,
-    two,
-    next,
-    in_steps p q (omega (arith, next)) inside,
-    kept_is clock (number p),
-    kept_is clock (number q),
-  )
+  same_before p q next inside two = grind (arith, in_steps, kept_is)
 
   pub three_in_row : 2 ≤ last → number 2 ≡ number 0 + 2 → number last ≡ number (last - 2) + 2 → (p : ℕ) → p ≤ last
       → IsOneOfThree number last p

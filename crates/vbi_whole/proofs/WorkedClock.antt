@@ -1,8 +1,7 @@
 -- The worked side as one of a disc that counts by a clock.
-use Rattle.std.proofs.Common.{◌≡◌, ◌∙◌, ℕ, ◌*◌, ◌/◌, ◌<◌, true, refl, ap, arith, eq-eqb}
-use Rattle.std.specs.Prelude.{Some, ◌%◌, ◌==◌, slice_get}
-use Rattle.vbi_side.specs.declared.clock.Clock.{Clock}
-use Rattle.vbi_side.specs.declared.clock.Clock.TheVariants.{OneIn}
+use Rattle.std.proofs.Common.{◌≡◌, ℕ, ◌*◌, ◌<◌, arith}
+use Rattle.std.specs.Prelude.{Some, slice_get}
+use Rattle.vbi_whole.specs.Types.{Clock, OneIn}
 use Rattle.vbi_side.specs.Clocks.{left_out, kept, numbered, thousand_number, IsClear, IsClearAt}
 use Rattle.vbi_side.specs.Sightings.{Shows}
 use Rattle.vbi_side.specs.Truth.{wrong_weight}
@@ -26,11 +25,7 @@ pub clear_at : (i : ℕ) → IsClearAt clock worked_answers i
 clear_at i n at = clear n (marked_is i n at).1
 
 has : (i n : ℕ) → n < 25 → i ≡ 2 * n → numbered (thousand_number 500) i ≡ Some n
-has i n less e =
-    let even : (i % 2 == 0) ≡ true = eq-eqb (i % 2) 0 (omega (arith, e)) in
-    let is : numbered (thousand_number 500) i ≡ Some (thousand_number 500 (i / 2)) = rw even refl in
-    let number : thousand_number 500 (i / 2) ≡ n = omega (arith, less, e) in
-    is ∙ ap Some number
+has i n less e = grind arith
 
 right : (i n : ℕ) → Shows (slice_get worked_side i) n → numbered (thousand_number 500) i ≡ Some n
 right i n shown = has i n (omega (arith, shown_less 25 0 i n shown)) (omega (arith, shown_is 25 0 i n shown))

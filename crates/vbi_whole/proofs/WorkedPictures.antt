@@ -4,12 +4,9 @@ use Rattle.std.proofs.Common.{arith, inl, inr, ◌∙◌}
 use Rattle.std.specs.Prelude.{Some, slice_get, ◌⊎◌, nat_le, ◌&&◌}
 use Rattle.std.proofs.lemmas.Bool.{leb-true, and_parts}
 use Rattle.std.proofs.lemmas.Bool.Decides.{eqb_tells, leb_tells}
-use Rattle.vbi_side.specs.declared.number.Number.{Number}
-use Rattle.vbi_whole.specs.declared.gap.Numbering.{Numbering}
-use Rattle.vbi_side.specs.declared.pace.Pace.TheVariants.{Video}
+use Rattle.vbi_whole.specs.Types.{Number, Numbering, Video, Clock}
 use Rattle.vbi_side.specs.Sightings.{Shows}
 use Rattle.vbi_side.specs.Paces.{nearly, spot}
-use Rattle.vbi_side.specs.declared.clock.Clock.{Clock}
 use Rattle.vbi_side.specs.Clocks.{kept}
 use Rattle.vbi_side.specs.Beliefs.{enough, weight_below, support_of, Believed}
 use Rattle.vbi_side.specs.Truth.{wrong_weight, video_disc}
@@ -30,10 +27,7 @@ use Rattle.vbi_whole.proofs.Telling.{some_is}
 -- ---- what the fields show
 
 shown_here : (m n : ℕ) → Shows (Some (field_of m 2 m 2)) n → m ≡ n
-shown_here m n shown = elim shown [
-  | inl h ↦ h.1
-  | inr h ↦ h.1
-]
+shown_here m n shown = grind arith
 
 -- a number that a field shows is its place's
 pub shown_is : (k first i n : ℕ) → Shows (slice_get (pictures_from k first) i) n → i + 2 * first ≡ 2 * n
@@ -198,13 +192,7 @@ near_each i m k n first last = near_same (k + 2 * m) (i + 2 * n) (omega (arith, 
 
 pub no_drift : (numbering : Numbering) → ((n : ℕ) → n < 25 → kept numbering.clock n ≡ n) → (j : ℕ)
     → IsDrift (rule_by Video 0 numbering) worked_answers j → ⊥
-no_drift numbering same j drift =
-    let here = marked_is drift.i drift.m drift.here in
-    let there = marked_is j drift.n drift.there in
-    let near = near_each drift.i (kept numbering.clock drift.m) j (kept numbering.clock drift.n)
-    (omega (arith, here.0, same drift.m here.1)) (omega (arith, there.0, same drift.n there.1)) in
-    let h : true ≡ false = sym near ∙ drift.apart in
-    cc
+no_drift numbering same j drift = grind (arith, marked_is, near_each)
 
 pub no_swap : (clock : Clock) (k : ℕ) → IsSwap clock worked_side worked_answers k → ⊥
 no_swap clock k swap =

@@ -1,15 +1,10 @@
 -- Numbers that are set aside: those of a run that replaces what is due there, if the rows of numbers around weigh more.
 use Rattle.std.specs.Prelude.{◌≡◌, ℕ, zero, suc, ◌+◌, ◌*◌, ◌-◌, ◌/◌, ◌==◌, nat_le, nat_lt, not, ◌&&◌, ◌||◌, Bool, true}
 use Rattle.std.specs.Prelude.{false, if◌then◌else◌, List, [], ◌∷◌, length, slice_get, Option, Some, None}
-use Rattle.vbi_side.specs.declared.number.Number.{Number}
-use Rattle.vbi_side.specs.declared.pace.Pace.{Pace}
-use Rattle.vbi_side.specs.declared.pace.Pace.TheVariants.{Video, Film}
-use Rattle.vbi_side.specs.declared.place.Place.{Place}
+use Rattle.vbi_whole.specs.Types.{Number, Pace, Video, Film, Place, Gap, Rule}
 use Rattle.vbi_side.specs.Clocks.{kept, by_clock}
 use Rattle.vbi_side.specs.Numbers.{believed, nothing}
 use Rattle.vbi_side.specs.Paces.{spot}
-use Rattle.vbi_whole.specs.declared.gap.Gap.{Gap}
-use Rattle.vbi_whole.specs.declared.gap.Rule.{Rule}
 use Rattle.vbi_whole.specs.Gaps.{replaced, gap_made, from_of, to_of}
 
 -- ---- rows

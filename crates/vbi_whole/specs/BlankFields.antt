@@ -1,9 +1,8 @@
 -- More fields without a believed number, between two numbers that go on, than a scratch has: as many may be lost there
 -- as are too many.
 use Rattle.std.specs.Prelude.{ℕ, zero, suc, ◌+◌, ◌<◌, List}
-use Rattle.vbi_side.specs.declared.number.Number.{Number}
+use Rattle.vbi_whole.specs.Types.{Number, Rule}
 use Rattle.vbi_side.specs.Paces.{spot}
-use Rattle.vbi_whole.specs.declared.gap.Rule.{Rule}
 use Rattle.vbi_whole.specs.Gaps.{GoesOn}
 
 -- so many fields without a number may be a scratch

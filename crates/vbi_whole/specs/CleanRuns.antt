@@ -1,7 +1,6 @@
 -- Captures of video that leave nothing to doubt: one run of a disc, each number of which was read.
 use Rattle.std.specs.Prelude.{◌≡◌, ℕ, ◌+◌, ◌*◌, ◌-◌, ◌<◌, ◌≤◌, ◌⊎◌, Bool, true, false, List, Some, slice_get}
-use Rattle.vbi_side.specs.declared.clock.Clock.{Clock}
-use Rattle.vbi_side.specs.declared.sighting.Sightings.{Sightings}
+use Rattle.vbi_whole.specs.Types.{Clock, Sightings}
 use Rattle.vbi_side.specs.Sightings.{Shows}
 use Rattle.vbi_side.specs.Clocks.{kept, leaves_out}
 use Rattle.vbi_side.specs.DueNumbers.{ShowsTwice}

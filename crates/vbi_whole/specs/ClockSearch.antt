@@ -1,12 +1,9 @@
 -- Which clock the believed numbers of a disc tell.
 use Rattle.std.specs.Prelude.{◌≡◌, ℕ, zero, suc, ◌+◌, ◌*◌, ◌≤◌, ◌&&◌, ◌⊎◌, not, Bool, List, length, if◌then◌else◌}
-use Rattle.vbi_side.specs.declared.clock.Clock.{Clock}
-use Rattle.vbi_side.specs.declared.number.Number.{Number}
-use Rattle.vbi_side.specs.declared.place.Place.{Place}
+use Rattle.vbi_whole.specs.Types.{Clock, Number, Place, Rule}
 use Rattle.vbi_side.specs.Paces.{nearly, spot}
 use Rattle.vbi_side.specs.Clocks.{nearly_by}
 use Rattle.vbi_whole.specs.declared.clock_search.Pairs.{Pairs}
-use Rattle.vbi_whole.specs.declared.gap.Rule.{Rule}
 use Rattle.vbi_whole.specs.Gaps.{AreNeighbours, IsFree}
 
 -- the numbers of two places go on without a clock

@@ -2,12 +2,8 @@
 -- read in place of others, or the player left the fields around and came back to them.
 use Rattle.std.specs.Prelude.{◌≡◌, ℕ, zero, suc, ◌+◌, ◌*◌, ◌-◌, ◌/◌, ◌<◌, ◌≤◌, ◌==◌, nat_lt, ◌&&◌, ◌||◌, ◌⊎◌, Bool}
 use Rattle.std.specs.Prelude.{if◌then◌else◌, List, [], ◌∷◌, slice_get, Option, Some, None}
-use Rattle.vbi_side.specs.declared.clock.Clock.{Clock}
-use Rattle.vbi_whole.specs.declared.gap.Gap.{Gap}
-use Rattle.vbi_side.specs.declared.pace.Pace.{Pace}
-use Rattle.vbi_side.specs.declared.pace.Pace.TheVariants.{Video, Film}
+use Rattle.vbi_whole.specs.Types.{Clock, Gap, Pace, Video, Film, Rule}
 use Rattle.vbi_side.specs.Clocks.{kept}
-use Rattle.vbi_whole.specs.declared.gap.Rule.{Rule}
 use Rattle.vbi_whole.specs.Gaps.{lost, held, back, still, open_gap, inserted, replaced, goes_on, from_of, to_of}
 
 -- a gap of this kind may be one of a detour

@@ -1,14 +1,10 @@
 -- Where numbers that go on one by one, each to within a field, don't count to each other over a stretch: of film, and
 -- of numbers on both fields of a picture.
 use Rattle.std.specs.Prelude.{◌≡◌, ℕ, ◌+◌, ◌*◌, ◌<◌, ◌≤◌, nat_le, Bool, true, false, List, Option, Some, None}
-use Rattle.vbi_side.specs.declared.number.Number.{Number}
-use Rattle.vbi_side.specs.declared.pace.Pace.{Pace}
-use Rattle.vbi_side.specs.declared.pace.Pace.TheVariants.{Video, Film}
-use Rattle.vbi_side.specs.declared.place.Place.{Place}
+use Rattle.vbi_whole.specs.Types.{Number, Pace, Video, Film, Place, Rule}
 use Rattle.vbi_side.specs.Numbers.{IsMarked}
 use Rattle.vbi_side.specs.Paces.{spot}
 use Rattle.vbi_whole.specs.declared.drift.Span.{Span}
-use Rattle.vbi_whole.specs.declared.gap.Rule.{Rule}
 use Rattle.vbi_side.specs.Clocks.{by_clock}
 use Rattle.vbi_whole.specs.Gaps.{AreNeighbours, IsLast, goes_on}
 

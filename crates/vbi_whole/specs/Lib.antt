@@ -10,3 +10,5 @@ pub mod NumbersOnBoth
 pub mod WorkedSides
 pub mod Drifts
 pub mod CleanRuns
+pub mod Types
+pub mod SaidWhole

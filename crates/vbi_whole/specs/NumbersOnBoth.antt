@@ -3,8 +3,7 @@
 -- the one before, but for a loss of one field. A number that stays says nothing, as a field may have been frozen.
 use Rattle.std.specs.Prelude.{ℕ, zero, suc, ◌+◌, ◌*◌, ◌%◌, ◌==◌, nat_lt, nat_le, not, ◌&&◌, Bool, false}
 use Rattle.std.specs.Prelude.{if◌then◌else◌, List, length, slice_get, Option, Some, None}
-use Rattle.vbi_side.specs.declared.number.Number.{Number}
-use Rattle.vbi_side.specs.declared.place.Place.{Place}
+use Rattle.vbi_whole.specs.Types.{Number, Place}
 
 -- the place of field k and this answer's number, if that is believed, else another one
 abbrev pub place_or : Option Place → ℕ → Option Number → Option Place

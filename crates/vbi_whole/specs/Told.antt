@@ -1,10 +1,7 @@
 -- What the gaps of a capture come to, and what is told of them.
 use Rattle.std.specs.Prelude.{◌≡◌, ℕ, ◌+◌, ◌-◌, ◌/◌, ◌^◌, ◌<◌, ◌≤◌, ◌==◌, min, max, sum_by, not, ◌&&◌}
 use Rattle.std.specs.Prelude.{if◌then◌else◌, List, [], ◌∷◌, ◌++◌, length, Option, Some, None, slice_get}
-use Rattle.vbi_side.specs.declared.clock.Clock.{Clock}
-use Rattle.vbi_whole.specs.declared.gap.Gap.{Gap}
-use Rattle.vbi_whole.specs.declared.gap.Rule.{Rule}
-use Rattle.vbi_whole.specs.declared.tally.Tally.{Tally}
+use Rattle.vbi_whole.specs.Types.{Clock, Gap, Rule, Tally}
 use Rattle.vbi_whole.specs.declared.detour.Waiting.{Waiting}
 use Rattle.vbi_whole.specs.declared.told.Telling.{Telling}
 use Rattle.vbi_whole.specs.Detours.{detoured, detoured_from}

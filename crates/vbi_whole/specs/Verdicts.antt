@@ -1,19 +1,9 @@
 -- Whether a capture of a side is whole: yes, no, or it can't be told, with the reasons.
 use Rattle.std.specs.Prelude.{◌≡◌, ℕ, ◌+◌, ◌*◌, ◌-◌, ◌==◌, nat_lt, nat_le, not, ◌&&◌, ◌||◌, ◌⊎◌, Bool, false, true}
 use Rattle.std.specs.Prelude.{if◌then◌else◌, List, [], length, count_by, drop}
-use Rattle.vbi_side.specs.declared.number.Number.{Number}
-use Rattle.vbi_whole.specs.declared.gap.Gap.{Gap}
-use Rattle.vbi_whole.specs.declared.tally.Tally.{Tally}
-use Rattle.vbi_whole.specs.declared.verdict.Finding.{Finding}
-use Rattle.vbi_whole.specs.declared.verdict.Found.{Found}
-use Rattle.vbi_whole.specs.declared.verdict.Reasons.{Reasons}
-use Rattle.vbi_whole.specs.declared.verdict.Verdict.{Verdict}
-use Rattle.vbi_whole.specs.declared.verdict.Verdict.TheVariants.{Yes, No, CannotTell}
-use Rattle.vbi_side.specs.declared.pace.Pace.{Pace}
-use Rattle.vbi_side.specs.declared.pace.Pace.TheVariants.{Video, Film}
-use Rattle.vbi_side.specs.declared.place.Place.{Place}
+use Rattle.vbi_whole.specs.Types.{Number, Gap, Tally, Finding, Found, Reasons, Verdict, Yes, No, CannotTell, Pace}
+use Rattle.vbi_whole.specs.Types.{Video, Film, Place, Plain, Rule}
 use Rattle.vbi_side.specs.Paces.{spot, nearly}
-use Rattle.vbi_side.specs.declared.clock.Clock.TheVariants.{Plain}
 use Rattle.vbi_side.specs.Numbers.{IsMarked}
 use Rattle.vbi_side.specs.Side.{AreEnds}
 use Rattle.vbi_side.specs.Clocks.{by_clock}
@@ -23,7 +13,6 @@ use Rattle.vbi_side.specs.Ends.{lead_out, padding}
 use Rattle.vbi_whole.specs.BlankFields.{IsBlankTold}
 use Rattle.vbi_whole.specs.Swaps.{IsSwapTold}
 use Rattle.vbi_whole.specs.Drifts.{IsDriftTold}
-use Rattle.vbi_whole.specs.declared.gap.Rule.{Rule}
 
 -- nothing speaks against a capture
 abbrev pub no_reason : Reasons

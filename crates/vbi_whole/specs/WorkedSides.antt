@@ -1,22 +1,12 @@
 -- Worked sides: what discs count, and gaps and fields written down.
 use Rattle.std.specs.Prelude.{ℕ, zero, suc, List, [], ◌∷◌, replicate, false}
-use Rattle.vbi_words.specs.declared.system.System.TheVariants.{Ntsc, Pal}
-use Rattle.vbi_side.specs.declared.lines.Counted.TheVariants.{Pictures, Times}
-use Rattle.vbi_whole.specs.declared.gap.Numbering.{Numbering}
-use Rattle.vbi_side.specs.declared.clock.Clock.{Clock}
-use Rattle.vbi_side.specs.declared.clock.Clock.TheVariants.{Plain}
-use Rattle.vbi_whole.specs.declared.gap.Gap.{Gap}
-use Rattle.vbi_side.specs.declared.number.Number.{Number}
-use Rattle.vbi_side.specs.declared.sighting.Sightings.{Sightings}
+use Rattle.vbi_whole.specs.Types.{Ntsc, Pal, Pictures, Times, Numbering, Clock, Plain, Gap, Number, Sightings, Video}
+use Rattle.vbi_whole.specs.Types.{Film, Amid, Rule, Found}
 use Rattle.vbi_side.specs.Numbers.{believed, nothing}
-use Rattle.vbi_side.specs.declared.pace.Pace.TheVariants.{Video, Film}
-use Rattle.vbi_whole.specs.declared.gap.Amid.{Amid}
-use Rattle.vbi_whole.specs.declared.gap.Rule.{Rule}
 use Rattle.vbi_side.specs.Worked.{field_of, blank}
 use Rattle.vbi_whole.specs.Told.{tally_of}
 use Rattle.vbi_whole.specs.Gaps.{lost, still, gap_made, to_judge, Judged, rule_by, amid}
 use Rattle.vbi_side.specs.Paces.{spot}
-use Rattle.vbi_whole.specs.declared.verdict.Found.{Found}
 
 -- pictures, and times that keep to a clock or don't
 abbrev pub cav : Numbering

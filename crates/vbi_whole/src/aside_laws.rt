@@ -5,12 +5,9 @@
 //! aside is left out (`aside_all`). The function `worked_aside` has rows written down by hand.
 
 ghost use Rattle.std.specs.Prelude.{◌≡◌, ℕ, ◌≤◌, true, false, List, [], ◌∷◌, Some, None, length, slice_get, map};
-ghost use Rattle.vbi_side.specs.declared.number.Number.{Number};
-ghost use Rattle.vbi_side.specs.declared.pace.Pace.TheVariants.{Video, Film};
+ghost use Rattle.vbi_whole.specs.Types.{Number, Video, Film, Gap, Rule};
 ghost use Rattle.vbi_side.specs.Numbers.{doubtful, IsMarked};
 ghost use Rattle.vbi_side.specs.Paces.{spot};
-ghost use Rattle.vbi_whole.specs.declared.gap.Gap.{Gap};
-ghost use Rattle.vbi_whole.specs.declared.gap.Rule.{Rule};
 ghost use Rattle.vbi_whole.specs.AsideNumbers.{is_in_row, numbers_in, run_before, is_aside, AreLeft, IsAsideAt};
 ghost use Rattle.vbi_whole.specs.AsideNumbers.{shown_by_turns, run_of};
 ghost use Rattle.vbi_whole.specs.Gaps.{rule_by};

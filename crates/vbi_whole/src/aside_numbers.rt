@@ -10,7 +10,7 @@
 //! include/ldvbi.h and docs/SIDES.md.
 
 ghost use Rattle.std.specs.Prelude.{◌≡◌, ℕ, ◌+◌, ◌-◌, ◌<◌, ◌≤◌, ◌^◌, nat_le, ◌&&◌, length, slice_get, Some};
-ghost use Rattle.vbi_side.specs.declared.number.Number.{Number};
+ghost use Rattle.vbi_whole.specs.Types.{Number};
 ghost use Rattle.vbi_whole.specs.AsideNumbers.{are_in_row, is_in_row, has_of_row, row_weight, is_lighter, numbers_in};
 ghost use Rattle.vbi_whole.specs.AsideNumbers.{has_due, is_set_aside, begun, is_of_run, left_of, AreLeft};
 ghost use Rattle.vbi_whole.specs.Gaps.{from_of, to_of};

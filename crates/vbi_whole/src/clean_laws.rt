@@ -4,17 +4,8 @@
 //! of which they speak, by what the judge is handed.
 
 ghost use Rattle.std.specs.Prelude.{◌≡◌, ℕ, ◌+◌, ◌*◌, ◌<◌, ◌≤◌, Bool, true, false, List, [], ◌∷◌, replicate};
-ghost use Rattle.vbi_words.specs.declared.system.System.{System};
-ghost use Rattle.vbi_side.specs.declared.clock.Clock.{Clock};
-ghost use Rattle.vbi_side.specs.declared.clock.Clock.TheVariants.{Plain, DropFrame, OneIn};
-ghost use Rattle.vbi_whole.specs.declared.gap.Gap.{Gap};
-ghost use Rattle.vbi_whole.specs.declared.gap.Numbering.{Numbering};
-ghost use Rattle.vbi_side.specs.declared.lines.Counted.{Counted};
-ghost use Rattle.vbi_side.specs.declared.number.Number.{Number};
-ghost use Rattle.vbi_side.specs.declared.pace.Pace.{Pace};
-ghost use Rattle.vbi_side.specs.declared.pace.Pace.TheVariants.{Video};
-ghost use Rattle.vbi_side.specs.declared.sighting.Sightings.{Sightings};
-ghost use Rattle.vbi_whole.specs.declared.verdict.Finding.{Finding};
+ghost use Rattle.vbi_whole.specs.Types.{System, Clock, Plain, DropFrame, OneIn, Gap, Numbering, Counted, Number, Pace};
+ghost use Rattle.vbi_whole.specs.Types.{Video, Sightings, Finding};
 ghost use Rattle.vbi_whole.specs.NumbersOnBoth.{is_on_both};
 ghost use Rattle.vbi_whole.specs.CleanRuns.{KeepsTo, AreThreeAtEnds, IsReadRun, IsCleanRun, IsCleanSide};
 ghost use Rattle.vbi_whole.specs.CleanRuns.{IsReadTwice, IsOneOfThree, IsBegun, IsEnded};

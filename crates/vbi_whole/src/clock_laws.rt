@@ -3,12 +3,7 @@
 
 ghost use Rattle.std.specs.Prelude.{◌≡◌, ℕ, ◌+◌, ◌-◌, ◌<◌, ◌≤◌, Bool, List, [], ◌∷◌, Option, Some, None, map, true};
 ghost use Rattle.std.specs.Prelude.{false, if◌then◌else◌};
-ghost use Rattle.vbi_side.specs.declared.clock.Clock.{Clock};
-ghost use Rattle.vbi_side.specs.declared.clock.Clock.TheVariants.{Plain, DropFrame, OneIn};
-ghost use Rattle.vbi_whole.specs.declared.gap.Gap.{Gap};
-ghost use Rattle.vbi_whole.specs.declared.gap.Numbering.{Numbering};
-ghost use Rattle.vbi_side.specs.declared.pace.Pace.{Pace};
-ghost use Rattle.vbi_side.specs.declared.pace.Pace.TheVariants.{Video};
+ghost use Rattle.vbi_whole.specs.Types.{Clock, Plain, DropFrame, OneIn, Gap, Numbering, Pace, Video};
 ghost use Rattle.vbi_side.specs.Clocks.{left_out, leaves_out, kept, place, clock_fits, IsProper, IsClear, out_between};
 ghost use Rattle.vbi_side.specs.Clocks.{out_near, DiscCountsBy, IsClearAt, numbered, drop_number, thousand_number};
 ghost use Rattle.vbi_side.specs.Clocks.{more_number};

@@ -13,8 +13,7 @@
 //! Another bound, or a clock more, changes `specs/ClockSearch.antt` and the contract of `find_clock`.
 
 ghost use Rattle.std.specs.Prelude.{◌≡◌, ◌+◌, ◌*◌, ◌<◌, ◌≤◌, ◌^◌, ◌↔◌, ◌⊎◌, true, false, length, List};
-ghost use Rattle.vbi_side.specs.declared.clock.Clock.TheVariants.{DropFrame, OneIn};
-ghost use Rattle.vbi_side.specs.declared.number.Number.{Number};
+ghost use Rattle.vbi_whole.specs.Types.{DropFrame, OneIn, Number};
 ghost use Rattle.vbi_side.specs.Paces.{nearly};
 ghost use Rattle.vbi_side.specs.Clocks.{nearly_by, IsProper};
 ghost use Rattle.vbi_whole.specs.ClockSearch.{explains, opposes, with_pair, ArePairs, AreEnough, IsClockTold};

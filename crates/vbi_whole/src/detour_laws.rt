@@ -6,16 +6,8 @@
 
 ghost use Rattle.std.specs.Prelude.{◌≡◌, ◌≢◌, ℕ, ◌+◌, ◌*◌, ◌-◌, ◌<◌, ◌≤◌, Bool, List, [], ◌∷◌, Option, Some, None};
 ghost use Rattle.std.specs.Prelude.{length, slice_get, map, false};
-ghost use Rattle.vbi_side.specs.declared.clock.Clock.{Clock};
-ghost use Rattle.vbi_side.specs.declared.clock.Clock.TheVariants.{Plain};
-ghost use Rattle.vbi_whole.specs.declared.gap.Gap.{Gap};
-ghost use Rattle.vbi_whole.specs.declared.gap.Numbering.{Numbering};
-ghost use Rattle.vbi_side.specs.declared.number.Number.{Number};
-ghost use Rattle.vbi_side.specs.declared.pace.Pace.{Pace};
-ghost use Rattle.vbi_side.specs.declared.pace.Pace.TheVariants.{Video, Film};
-ghost use Rattle.vbi_side.specs.declared.sighting.Sightings.{Sightings};
-ghost use Rattle.vbi_whole.specs.declared.verdict.Finding.{Finding};
-ghost use Rattle.vbi_whole.specs.declared.verdict.Verdict.TheVariants.{No};
+ghost use Rattle.vbi_whole.specs.Types.{Clock, Plain, Gap, Numbering, Number, Pace, Video, Film, Sightings, Finding};
+ghost use Rattle.vbi_whole.specs.Types.{No, Rule};
 ghost use Rattle.vbi_side.specs.Clocks.{kept, DiscCountsBy};
 ghost use Rattle.vbi_whole.specs.Detours.{detour_of, fields_by, turned, detoured, skips, repeats, IsToldAs, IsLeft};
 ghost use Rattle.vbi_whole.specs.Gaps.{lost, held, back, still, joined, open_gap, inserted, replaced, gap_made};
@@ -25,7 +17,6 @@ ghost use Rattle.vbi_side.specs.Side.{Rises, captured, IsOneRun};
 ghost use Rattle.vbi_whole.specs.Told.{tally_of};
 ghost use Rattle.vbi_whole.specs.Verdicts.{too_few, padded_in, HasNone, IsFinding};
 ghost use Rattle.vbi_side.specs.Paces.{spot};
-ghost use Rattle.vbi_whole.specs.declared.gap.Rule.{Rule};
 ghost use Rattle.vbi_whole.specs.WorkedSides.{cav, by_pictures, by_film};
 
 /// As many gaps are told as there are, each in its place: as it is, or as one of a detour of two neighbours. One that

@@ -12,20 +12,13 @@
 
 ghost use Rattle.std.specs.Prelude.{◌≡◌, ◌≢◌, ℕ, ◌+◌, ◌*◌, ◌-◌, ◌<◌, ◌≤◌, Bool, List, [], ◌∷◌, ◌++◌, Option, Some};
 ghost use Rattle.std.specs.Prelude.{None, slice_get, map, true, false};
-ghost use Rattle.vbi_side.specs.declared.number.Number.{Number};
-ghost use Rattle.vbi_side.specs.declared.sighting.Sightings.{Sightings};
-ghost use Rattle.vbi_whole.specs.declared.gap.Gap.{Gap};
-ghost use Rattle.vbi_whole.specs.declared.verdict.Finding.{Finding};
-ghost use Rattle.vbi_side.specs.declared.pace.Pace.{Pace};
-ghost use Rattle.vbi_side.specs.declared.pace.Pace.TheVariants.{Video, Film};
+ghost use Rattle.vbi_whole.specs.Types.{Number, Sightings, Gap, Finding, Pace, Video, Film, Clock, Plain, DropFrame};
+ghost use Rattle.vbi_whole.specs.Types.{OneIn, Numbering, Yes, CannotTell};
 ghost use Rattle.vbi_side.specs.Beliefs.{reach, enough};
 ghost use Rattle.vbi_side.specs.Truth.{IsNear, wrong_weight, video_disc};
 ghost use Rattle.vbi_side.specs.Numbers.{IsMarked, AreAnswers, believed, doubtful, nothing};
 ghost use Rattle.vbi_side.specs.Side.{DiscRuns, DiscCounts, Rises, captured, AreLost, NoneLost, IsOneRun};
-ghost use Rattle.vbi_side.specs.declared.clock.Clock.{Clock};
-ghost use Rattle.vbi_side.specs.declared.clock.Clock.TheVariants.{Plain, DropFrame, OneIn};
 ghost use Rattle.vbi_side.specs.Clocks.{DiscCountsBy, DiscNearlyBy, IsClear, IsClearAt, out_near};
-ghost use Rattle.vbi_whole.specs.declared.gap.Numbering.{Numbering};
 ghost use Rattle.vbi_whole.specs.Gaps.{lost, held, back, still, joined, open_gap, gap_of, gap_made, since_end};
 ghost use Rattle.vbi_whole.specs.Gaps.{ended_between, shown_between, IsGap, AreGaps, CountTo, HasRightEnds};
 ghost use Rattle.vbi_whole.specs.Gaps.{LostAtLeast, HeldAtLeast, to_judge, Judged, rule_by, amid, of_video};
@@ -35,7 +28,7 @@ ghost use Rattle.vbi_whole.specs.Swaps.{stands_off, is_stray};
 ghost use Rattle.vbi_whole.specs.NumbersOnBoth.{is_on_both};
 ghost use Rattle.vbi_side.specs.Ends.{end_by};
 ghost use Rattle.vbi_whole.specs.Verdicts.{is_end_unseen, too_few, HasNone, IsFinding, found_whole};
-ghost use Rattle.vbi_whole.specs.declared.verdict.Verdict.TheVariants.{Yes, CannotTell};
+ghost use Rattle.vbi_whole.specs.SaidWhole.{IsSaidWhole, AreClearEnds, AreFewLost};
 ghost use Rattle.vbi_whole.specs.Drifts.{leads, IsDriftTold};
 ghost use Rattle.vbi_side.specs.Worked.{field_of};
 ghost use Rattle.vbi_whole.specs.WorkedSides.{cav, cav_pal, clv, clv_pal, two_stills, two_pictures, two_answers};
@@ -111,26 +104,15 @@ pub fn cut_found()
 /// no field of the disc is lost from 24 fields after the first to 24 before the last. Of what was read between the two
 /// nothing is assumed. A disc that leaves out no numbers is the case `plain`.
 pub fn whole_yes()
-    ensures by_clock { (disc : ℕ → Option ℕ) (place : ℕ → ℕ) (fields : List Sightings) (answers : List Number)
-        (numbering : Numbering) (may_end : Bool) (seen : List Sightings) (ends : List ℕ) (finding : Finding)
-        (old new : List Gap) → DiscCountsBy numbering.clock Video disc
-        → Rises place → AreAnswers Video fields answers
-        → IsFinding (of_video numbering seen answers ends) may_end finding old new → finding.verdict
-        ≡ Yes
-        → wrong_weight (captured disc place) fields finding.first < enough
-        → wrong_weight (captured disc place) fields finding.last < enough
-        → IsClearAt numbering.clock answers finding.first → IsClearAt numbering.clock answers finding.last
-        → finding.first + 2 * reach ≤ finding.last
+    ensures by_clock { (disc : ℕ → Option ℕ) (place : ℕ → ℕ) (numbering : Numbering) (seen fields : List Sightings)
+        (answers : List Number) (ends : List ℕ) (finding : Finding)
+        → IsSaidWhole disc place (of_video numbering seen answers ends) fields finding
+        → DiscCountsBy numbering.clock Video disc → AreClearEnds numbering.clock answers finding
         → NoneLost place (finding.first + reach) (finding.last - reach) }
-    ensures plain { (disc : ℕ → Option ℕ) (place : ℕ → ℕ) (fields : List Sightings) (answers : List Number)
-        (numbering : Numbering) (may_end : Bool) (seen : List Sightings) (ends : List ℕ) (finding : Finding)
-        (old new : List Gap) → numbering.clock ≡ Plain → DiscRuns Video disc
-        → Rises place → AreAnswers Video fields answers
-        → IsFinding (of_video numbering seen answers ends) may_end finding old new → finding.verdict
-        ≡ Yes
-        → wrong_weight (captured disc place) fields finding.first < enough
-        → wrong_weight (captured disc place) fields finding.last < enough
-        → finding.first + 2 * reach ≤ finding.last
+    ensures plain { (disc : ℕ → Option ℕ) (place : ℕ → ℕ) (numbering : Numbering) (seen fields : List Sightings)
+        (answers : List Number) (ends : List ℕ) (finding : Finding)
+        → IsSaidWhole disc place (of_video numbering seen answers ends) fields finding
+        → numbering.clock ≡ Plain → DiscRuns Video disc
         → NoneLost place (finding.first + reach) (finding.last - reach) }
 {}
 
@@ -138,61 +120,30 @@ pub fn whole_yes()
 /// fields are lost between two fields of which one is within 24 fields of each end, of film at most four. By a clock,
 /// wherever the ends are, at most twice as many as numbers are left out near them.
 pub fn nearly_whole()
-    ensures both { (slack : ℕ) (disc : ℕ → Option ℕ) (place : ℕ → ℕ) (fields : List Sightings) (answers : List Number)
-        (numbering : Numbering) (may_end : Bool) (seen : List Sightings) (ends : List ℕ) (finding : Finding)
-        (old new : List Gap) → slack ≤ 1
-        → DiscNearlyBy numbering.clock slack disc → Rises place → AreAnswers Video fields answers
-        → IsFinding (to_judge (rule_by Video slack numbering) seen answers ends) may_end finding old new
-        → finding.verdict ≡ Yes
-        → wrong_weight (captured disc place) fields finding.first < enough
-        → wrong_weight (captured disc place) fields finding.last < enough
-        → IsClearAt numbering.clock answers finding.first → IsClearAt numbering.clock answers finding.last
-        → finding.first + 2 * reach ≤ finding.last
-        → (p q some : ℕ) × IsNear finding.first p × IsNear finding.last q × AreLost place p q some
-        × (some ≤ 2 * slack) }
-    ensures film { (disc : ℕ → Option ℕ) (place : ℕ → ℕ) (fields : List Sightings) (answers : List Number) (slack : ℕ)
-        (numbering : Numbering) (may_end : Bool) (seen : List Sightings) (ends : List ℕ) (finding : Finding)
-        (old new : List Gap) → DiscCountsBy numbering.clock Film disc
-        → Rises place → AreAnswers Film fields answers
-        → IsFinding (to_judge (rule_by Film slack numbering) seen answers ends) may_end finding old new
-        → finding.verdict ≡ Yes
-        → wrong_weight (captured disc place) fields finding.first < enough
-        → wrong_weight (captured disc place) fields finding.last < enough
-        → IsClearAt numbering.clock answers finding.first → IsClearAt numbering.clock answers finding.last
-        → finding.first + 2 * reach ≤ finding.last
-        → (p q some : ℕ) × IsNear finding.first p × IsNear finding.last q × AreLost place p q some × (some ≤ 4) }
-    ensures anywhere { (disc : ℕ → Option ℕ) (place : ℕ → ℕ) (fields : List Sightings) (answers : List Number)
-        (numbering : Numbering) (may_end : Bool) (seen : List Sightings) (ends : List ℕ) (finding : Finding)
-        (old new : List Gap) → DiscCountsBy numbering.clock Video disc → Rises place
-        → AreAnswers Video fields answers
-        → IsFinding (of_video numbering seen answers ends) may_end finding old new → finding.verdict
-        ≡ Yes
-        → wrong_weight (captured disc place) fields finding.first < enough
-        → wrong_weight (captured disc place) fields finding.last < enough → finding.first + 2 * reach ≤ finding.last
-        → (m n p q some : ℕ) × IsMarked answers finding.first m × IsMarked answers finding.last n
-        × IsNear finding.first p × IsNear finding.last q × AreLost place p q some
-        × (some ≤ 2 * (out_near numbering.clock m + out_near numbering.clock n)) }
-    ensures both_plain { (slack : ℕ) (disc : ℕ → Option ℕ) (place : ℕ → ℕ) (fields : List Sightings)
-        (answers : List Number) (numbering : Numbering) (may_end : Bool) (seen : List Sightings) (ends : List ℕ)
-        (finding : Finding) (old new : List Gap) → slack ≤ 1 → numbering.clock ≡ Plain
-        → DiscCounts slack disc → Rises place → AreAnswers Video fields answers
-        → IsFinding (to_judge (rule_by Video slack numbering) seen answers ends) may_end finding old new
-        → finding.verdict ≡ Yes
-        → wrong_weight (captured disc place) fields finding.first < enough
-        → wrong_weight (captured disc place) fields finding.last < enough
-        → finding.first + 2 * reach ≤ finding.last
-        → (p q some : ℕ) × IsNear finding.first p × IsNear finding.last q × AreLost place p q some
-        × (some ≤ 2 * slack) }
-    ensures film_plain { (disc : ℕ → Option ℕ) (place : ℕ → ℕ) (fields : List Sightings) (answers : List Number)
-        (slack : ℕ) (numbering : Numbering) (may_end : Bool) (seen : List Sightings) (ends : List ℕ) (finding : Finding)
-        (old new : List Gap) → numbering.clock ≡ Plain → DiscRuns Film disc
-        → Rises place → AreAnswers Film fields answers
-        → IsFinding (to_judge (rule_by Film slack numbering) seen answers ends) may_end finding old new
-        → finding.verdict ≡ Yes
-        → wrong_weight (captured disc place) fields finding.first < enough
-        → wrong_weight (captured disc place) fields finding.last < enough
-        → finding.first + 2 * reach ≤ finding.last
-        → (p q some : ℕ) × IsNear finding.first p × IsNear finding.last q × AreLost place p q some × (some ≤ 4) }
+    ensures both { (disc : ℕ → Option ℕ) (place : ℕ → ℕ) (slack : ℕ) (numbering : Numbering)
+        (seen fields : List Sightings) (answers : List Number) (ends : List ℕ) (finding : Finding)
+        → IsSaidWhole disc place (to_judge (rule_by Video slack numbering) seen answers ends) fields finding
+        → slack ≤ 1 → DiscNearlyBy numbering.clock slack disc → AreClearEnds numbering.clock answers finding
+        → AreFewLost place finding (2 * slack) }
+    ensures film { (disc : ℕ → Option ℕ) (place : ℕ → ℕ) (slack : ℕ) (numbering : Numbering)
+        (seen fields : List Sightings) (answers : List Number) (ends : List ℕ) (finding : Finding)
+        → IsSaidWhole disc place (to_judge (rule_by Film slack numbering) seen answers ends) fields finding
+        → DiscCountsBy numbering.clock Film disc → AreClearEnds numbering.clock answers finding
+        → AreFewLost place finding 4 }
+    ensures anywhere { (disc : ℕ → Option ℕ) (place : ℕ → ℕ) (numbering : Numbering) (seen fields : List Sightings)
+        (answers : List Number) (ends : List ℕ) (finding : Finding)
+        → IsSaidWhole disc place (of_video numbering seen answers ends) fields finding
+        → DiscCountsBy numbering.clock Video disc
+        → (m n : ℕ) × IsMarked answers finding.first m × IsMarked answers finding.last n
+        × AreFewLost place finding (2 * (out_near numbering.clock m + out_near numbering.clock n)) }
+    ensures both_plain { (disc : ℕ → Option ℕ) (place : ℕ → ℕ) (slack : ℕ) (numbering : Numbering)
+        (seen fields : List Sightings) (answers : List Number) (ends : List ℕ) (finding : Finding)
+        → IsSaidWhole disc place (to_judge (rule_by Video slack numbering) seen answers ends) fields finding
+        → slack ≤ 1 → numbering.clock ≡ Plain → DiscCounts slack disc → AreFewLost place finding (2 * slack) }
+    ensures film_plain { (disc : ℕ → Option ℕ) (place : ℕ → ℕ) (slack : ℕ) (numbering : Numbering)
+        (seen fields : List Sightings) (answers : List Number) (ends : List ℕ) (finding : Finding)
+        → IsSaidWhole disc place (to_judge (rule_by Film slack numbering) seen answers ends) fields finding
+        → numbering.clock ≡ Plain → DiscRuns Film disc → AreFewLost place finding 4 }
 {}
 
 /// If fields are said to be lost, the numbers at the ends of the gaps that are told to be such are right, and the

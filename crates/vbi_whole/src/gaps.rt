@@ -11,10 +11,7 @@
 
 ghost use Rattle.std.specs.Prelude.{◌≡◌, ◌≢◌, ℕ, suc, ◌+◌, ◌*◌, ◌<◌, ◌≤◌, ◌^◌, length, slice_set, List, [], Bool};
 ghost use Rattle.std.specs.Prelude.{Option, Some, None, IfSome, true};
-ghost use Rattle.vbi_whole.specs.declared.gap.Gap.{Gap};
-ghost use Rattle.vbi_side.specs.declared.clock.Clock.{Clock};
-ghost use Rattle.vbi_side.specs.declared.number.Number.{Number};
-ghost use Rattle.vbi_side.specs.declared.sighting.Sightings.{Sightings};
+ghost use Rattle.vbi_whole.specs.Types.{Gap, Clock, Number, Sightings};
 ghost use Rattle.vbi_side.specs.Numbers.{IsMarked};
 ghost use Rattle.vbi_whole.specs.Told.{IsTold, IsTelling, waiting, stage_of};
 ghost use Rattle.vbi_whole.specs.Gaps.{gap_of, skipped, ended_between, shown_between, AreNeighbours, IsFree, IsLast};

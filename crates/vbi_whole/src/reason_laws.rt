@@ -3,16 +3,10 @@
 
 ghost use Rattle.std.specs.Prelude.{◌≡◌, ◌≢◌, ◌+◌, ◌-◌, ◌<◌, ◌≤◌, ℕ, Bool, true, false, List, [], ◌∷◌, ◌++◌, map};
 ghost use Rattle.std.specs.Prelude.{replicate, slice_get, Some};
-ghost use Rattle.vbi_side.specs.declared.clock.Clock.TheVariants.{Plain};
-ghost use Rattle.vbi_side.specs.declared.lines.Shown.{Shown};
-ghost use Rattle.vbi_side.specs.declared.number.Number.{Number};
+ghost use Rattle.vbi_whole.specs.Types.{Plain, Shown, Number, Gap, Rule, Finding, Yes, No, CannotTell};
 ghost use Rattle.vbi_side.specs.Ends.{no_end, lead_out, lead_in, padding, end_of};
 ghost use Rattle.vbi_side.specs.Numbers.{believed, doubtful};
 ghost use Rattle.vbi_side.specs.Paces.{spot};
-ghost use Rattle.vbi_whole.specs.declared.gap.Gap.{Gap};
-ghost use Rattle.vbi_whole.specs.declared.gap.Rule.{Rule};
-ghost use Rattle.vbi_whole.specs.declared.verdict.Finding.{Finding};
-ghost use Rattle.vbi_whole.specs.declared.verdict.Verdict.TheVariants.{Yes, No, CannotTell};
 ghost use Rattle.vbi_whole.specs.BlankFields.{IsBlank, IsBlankTo};
 ghost use Rattle.vbi_whole.specs.Gaps.{lost, held, back, still, joined, open_gap, inserted, gap_made, since_end};
 ghost use Rattle.vbi_whole.specs.Gaps.{GoesOn, to_judge, Judged};

@@ -4,7 +4,7 @@
 //! many numbers of it were read: each begins where the one before ended.
 
 ghost use Rattle.std.specs.Prelude.{◌≡◌, ◌+◌, ◌<◌, ◌^◌, []};
-ghost use Rattle.vbi_side.specs.declared.clock.Clock.{Clock};
+ghost use Rattle.vbi_whole.specs.Types.{Clock};
 ghost use Rattle.vbi_whole.specs.Told.{tally_of, with_gap, with_unread, still_end_of, begins_still};
 
 use crate::gap::{BACK, Gap, HELD, INSERTED, JOINED, LOST, OPEN, REPLACED, STILL};

@@ -1,6 +1,6 @@
 use Rattle.std.proofs.Common.{◌≡◌, ℕ, ◌<◌, length, Some}
 use Rattle.std.specs.Prelude.{slice_get}
-use Rattle.vbi_side.specs.declared.number.Number.{Number}
+use Rattle.vbi_side.specs.Types.{Number}
 use Rattle.vbi_side.specs.Chapters.{IsChapter}
 use Rattle.vbi_side.proofs.chapters.judge_chapters.Given as goal
 

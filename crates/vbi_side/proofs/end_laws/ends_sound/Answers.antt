@@ -1,8 +1,7 @@
 use Rattle.std.proofs.Common.{◌≡◌, ◌≢◌, ℕ, ◌+◌, ◌<◌, ◌≤◌, Bool, true, false, refl, arith, sym, ◌∙◌, inl, inr}
 use Rattle.std.specs.Prelude.{◌⊎◌, ◌↔◌, nat_le, nat_lt, if◌then◌else◌}
 use Rattle.std.proofs.lemmas.Bool.Decides.{leb_tells}
-use Rattle.vbi_words.specs.declared.code.Code.TheVariants.{LeadIn, LeadOut}
-use Rattle.vbi_side.specs.declared.lines.Shown.{Shown}
+use Rattle.vbi_side.specs.Types.{LeadIn, LeadOut, Shown}
 use Rattle.vbi_side.specs.Ends.{out_weight, in_weight, end_by, end_of, lead_in, lead_out, doubtful_end, no_end}
 use Rattle.vbi_side.specs.SoundEnds.{IsCodeToldSurely}
 use Rattle.vbi_side.proofs.EndsTold.{two_told, told_two, out_weighs, in_weighs, told_sound}

@@ -1,6 +1,6 @@
 use Rattle.std.proofs.Common.{◌≡◌, ℕ, ◌<◌, Some}
 use Rattle.std.specs.Prelude.{slice_get}
-use Rattle.vbi_side.specs.declared.number.Number.{Number}
+use Rattle.vbi_side.specs.Types.{Number}
 use Rattle.vbi_side.specs.Numbers.{IsKnown}
 use Rattle.vbi_side.proofs.number_search.first_of.Given as goal
 

@@ -1,6 +1,6 @@
 use Rattle.std.proofs.Common.{◌≡◌, ℕ, refl, ap, arith}
 use Rattle.std.specs.Prelude.{Option, unwrap_or}
-use Rattle.vbi_side.specs.declared.sighting.Sightings.{Sightings}
+use Rattle.vbi_side.specs.Types.{Sightings}
 use Rattle.vbi_side.specs.Worked.{blank, field_of, instead_of}
 use Rattle.vbi_side.proofs.rule_laws.worked_rules.Goals as goal
 

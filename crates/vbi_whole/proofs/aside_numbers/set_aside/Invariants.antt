@@ -1,6 +1,6 @@
 use Rattle.std.proofs.Common.{◌≡◌, ℕ, length}
 use Rattle.std.specs.Prelude.{slice_get, Some}
-use Rattle.vbi_side.specs.declared.number.Number.{Number}
+use Rattle.vbi_whole.specs.Types.{Number}
 use Rattle.vbi_whole.specs.AsideNumbers.{run_before, is_aside, left_of}
 use Rattle.vbi_whole.proofs.aside_numbers.set_aside.Given as goal
 

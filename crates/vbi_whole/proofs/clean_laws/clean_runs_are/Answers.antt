@@ -1,7 +1,5 @@
 use Rattle.std.proofs.Common.{ℕ, List, refl}
-use Rattle.vbi_side.specs.declared.clock.Clock.{Clock}
-use Rattle.vbi_side.specs.declared.clock.Clock.TheVariants.{DropFrame, OneIn}
-use Rattle.vbi_side.specs.declared.sighting.Sightings.{Sightings}
+use Rattle.vbi_whole.specs.Types.{Clock, DropFrame, OneIn, Sightings}
 use Rattle.vbi_whole.specs.CleanRuns.{KeepsTo, AreThreeAtEnds, IsReadRun, IsCleanRun}
 use Rattle.vbi_whole.proofs.ThreeInRow.{IsRare, drop_rare, thousand_rare, more_rare, three_in_row, plain_steps}
 use Rattle.vbi_whole.proofs.ThreeInRow.{plain_in_row}

@@ -1,5 +1,5 @@
 use Rattle.std.proofs.Common.{refl}
-use Rattle.vbi_side.specs.declared.clock.Clock.TheVariants.{Plain}
+use Rattle.vbi_whole.specs.Types.{Plain}
 use Rattle.vbi_side.proofs.Counting.{plain, plain_clear, runs_plain}
 use Rattle.vbi_whole.proofs.clock_laws.plain_is.Goals as goal
 

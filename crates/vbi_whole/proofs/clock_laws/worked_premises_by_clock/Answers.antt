@@ -5,7 +5,7 @@ use Rattle.vbi_side.specs.Clocks.{kept, left_out}
 use Rattle.vbi_whole.specs.WorkedSides.{clv_by, worked_ends, worked_answers}
 use Rattle.vbi_whole.specs.Detours.{detoured_from}
 use Rattle.vbi_whole.proofs.ClockDiscs.{thousand_counts}
-use Rattle.vbi_side.specs.declared.pace.Pace.TheVariants.{Video}
+use Rattle.vbi_whole.specs.Types.{Video}
 use Rattle.vbi_whole.proofs.BlankFields.{short_side}
 use Rattle.vbi_whole.proofs.Telling.{none_written}
 use Rattle.vbi_whole.proofs.WorkedPictures.{no_gaps, no_swap, no_drift, ends_are}

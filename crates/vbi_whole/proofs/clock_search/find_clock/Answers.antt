@@ -1,5 +1,5 @@
 use Rattle.std.proofs.Common.{arith}
-use Rattle.vbi_side.specs.declared.clock.Clock.TheVariants.{DropFrame, OneIn}
+use Rattle.vbi_whole.specs.Types.{DropFrame, OneIn}
 use Rattle.vbi_whole.proofs.Pairing.{most_told}
 use Rattle.vbi_whole.proofs.clock_search.find_clock.Goals.{else-drop-gt0-via-then-drop-gt0+then-drop-one+else-drop-two}
 use Rattle.vbi_whole.proofs.clock_search.find_clock.Goals.{else-drop-gt0-via-then-drop-gt0+else-drop-one}

@@ -1,7 +1,6 @@
 use Rattle.std.proofs.Common.{◌≡◌, ℕ, ◌<◌, ◌≤◌, true, List, [], ◌∷◌, refl, sym, subst, arith, inl, inr}
 use Rattle.std.proofs.lemmas.Bool.Decides.{eqb_tells}
-use Rattle.vbi_side.specs.declared.number.Number.{Number}
-use Rattle.vbi_side.specs.declared.pace.Pace.TheVariants.{Video}
+use Rattle.vbi_whole.specs.Types.{Number, Video}
 use Rattle.vbi_side.specs.Paces.{spot, nearly}
 use Rattle.vbi_side.specs.Clocks.{kept}
 use Rattle.vbi_side.specs.Numbers.{believed, IsMarked}

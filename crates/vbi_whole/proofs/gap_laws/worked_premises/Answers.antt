@@ -1,12 +1,11 @@
 use Rattle.std.proofs.Common.{◌≡◌, [], false, refl, arith, inr, length}
 use Rattle.vbi_whole.specs.Gaps.{rule_by, since_end}
 use Rattle.vbi_whole.specs.Told.{stills_of, last_still}
-use Rattle.vbi_side.specs.declared.clock.Clock.TheVariants.{Plain}
+use Rattle.vbi_whole.specs.Types.{Plain, Video}
 use Rattle.vbi_side.specs.Clocks.{kept}
 use Rattle.vbi_whole.specs.Detours.{detoured_from}
 use Rattle.vbi_side.proofs.Counting.{plain}
 use Rattle.vbi_whole.specs.WorkedSides.{cav, worked_ends, worked_answers}
-use Rattle.vbi_side.specs.declared.pace.Pace.TheVariants.{Video}
 use Rattle.vbi_whole.proofs.BlankFields.{short_side}
 use Rattle.vbi_whole.proofs.Telling.{none_written}
 use Rattle.vbi_whole.proofs.WorkedPictures.{answers_are, none_wrong, no_gaps, no_swap, no_drift, ends_are}

@@ -1,14 +1,12 @@
 use Rattle.std.proofs.Common.{◌≡◌, ◌∙◌, ℕ, true, false, [], refl, sym, ap, subst, arith, inl, inr, length}
 use Rattle.std.specs.Prelude.{Option, unwrap_or, slice_get}
 use Rattle.std.proofs.lemmas.Option.{slice_get_within}
-use Rattle.vbi_side.specs.declared.number.Number.{Number}
+use Rattle.vbi_whole.specs.Types.{Number, Video, Plain}
 use Rattle.vbi_side.specs.Numbers.{believed, nothing, IsMarked}
 use Rattle.vbi_whole.specs.Gaps.{AreGaps, rule_by, since_end}
 use Rattle.vbi_whole.specs.Told.{stills_of, last_still}
 use Rattle.vbi_side.specs.Clocks.{kept}
 use Rattle.std.proofs.lemmas.Bool.Decides.{eqb_tells}
-use Rattle.vbi_side.specs.declared.pace.Pace.TheVariants.{Video}
-use Rattle.vbi_side.specs.declared.clock.Clock.TheVariants.{Plain}
 use Rattle.vbi_side.specs.Paces.{nearly, spot}
 use Rattle.vbi_whole.specs.Drifts.{IsDrift}
 use Rattle.vbi_whole.specs.Swaps.{IsSwap, is_stray}

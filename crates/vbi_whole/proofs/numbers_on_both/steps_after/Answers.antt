@@ -1,6 +1,6 @@
 use Rattle.std.proofs.Common.{◌≡◌, ◌∙◌, ℕ, suc, Bool, List, ap, get_or}
 use Rattle.std.specs.Prelude.{Option, Some, ◌&&◌, if◌then◌else◌}
-use Rattle.vbi_side.specs.declared.number.Number.{Number}
+use Rattle.vbi_whole.specs.Types.{Number}
 use Rattle.vbi_side.specs.Numbers.{nothing}
 use Rattle.vbi_whole.specs.NumbersOnBoth.{place_or, is_turn, is_odd}
 use Rattle.vbi_whole.proofs.BothFields.{last_more, turns_more, odd_more}

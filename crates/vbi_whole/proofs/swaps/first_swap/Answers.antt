@@ -3,9 +3,7 @@ use Rattle.std.specs.Prelude.{Option, Some, None, IfSome}
 use Rattle.std.specs.Option.{is_some}
 use Rattle.std.proofs.lemmas.Bool.Decides.{eqb_tells, leb_tells}
 use Rattle.std.proofs.lemmas.Option.{slice_get_within}
-use Rattle.vbi_side.specs.declared.clock.Clock.{Clock}
-use Rattle.vbi_side.specs.declared.number.Number.{Number}
-use Rattle.vbi_side.specs.declared.sighting.Sightings.{Sightings}
+use Rattle.vbi_whole.specs.Types.{Clock, Number, Sightings}
 use Rattle.vbi_side.specs.Numbers.{believed}
 use Rattle.vbi_whole.specs.Swaps.{IsSwap}
 use Rattle.vbi_whole.proofs.swaps.first_swap.Goals as goal

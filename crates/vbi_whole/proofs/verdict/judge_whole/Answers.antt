@@ -1,7 +1,6 @@
 use Rattle.std.proofs.Common.{◌≡◌, ℕ, ◌<◌, List, refl, sym, subst, inl, inr, length}
 use Rattle.std.specs.Prelude.{Option, Some, None, IfSome, unwrap_or}
-use Rattle.vbi_side.specs.declared.number.Number.{Number}
-use Rattle.vbi_side.specs.declared.place.Place.{Place}
+use Rattle.vbi_whole.specs.Types.{Number, Place}
 use Rattle.vbi_side.specs.Numbers.{IsMarked}
 use Rattle.vbi_whole.proofs.verdict.judge_whole.Goals as goal
 

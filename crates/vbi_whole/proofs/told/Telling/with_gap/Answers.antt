@@ -1,7 +1,7 @@
 use Rattle.std.proofs.Common.{List, ◌∙◌, ◌++◌, ◌∷◌, [], sym, subst, ap}
 use Rattle.std.specs.Prelude.{Option}
 use Rattle.vbi_whole.specs.declared.detour.Waiting.{Waiting}
-use Rattle.vbi_whole.specs.declared.gap.Gap.{Gap}
+use Rattle.vbi_whole.specs.Types.{Gap}
 use Rattle.vbi_whole.specs.Detours.{turned, fields_by}
 use Rattle.vbi_whole.specs.Told.{AreTold, AreTelling, waiting, listed, stage}
 use Rattle.vbi_whole.proofs.Detouring.{one_waits, one_told, two_told}
