@@ -1,7 +1,6 @@
 -- What holds between the reads of a call of `fill_line`.
-use Rattle.vbi_line.proofs.Common.{◌≡◌, ℕ, ◌+◌, ◌*◌, ◌<◌, ◌≤◌, List, ◌++◌, length, Option}
+use Rattle.vbi_line.proofs.Common.{◌≡◌, ℕ, ◌+◌, ◌*◌, ◌<◌, ◌≤◌, List, ◌++◌, length, Option, line_bytes}
 use Rattle.std.specs.Io.KnownBytes.{Consumes}
-use Rattle.vbi_words.specs.Geometry.{line_bytes}
 use Rattle.vbi_line.specs.Line.{KeepsPasses}
 use Rattle.vbi_line.specs.Counted.{device_of, failures_of, NoError, IsSameDevice}
 use Rattle.vbi_line.specs.Intake.{counted_of, held_of}

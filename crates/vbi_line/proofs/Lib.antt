@@ -3,7 +3,7 @@ pub mod Changes
 mod Common
 pub mod Ending
 pub mod FillSteps
-pub mod InPlace
+pub mod BytesToLevels
 pub mod Middles
 pub mod OneReading
 pub mod PackedRuns

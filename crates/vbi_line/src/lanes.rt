@@ -6,9 +6,9 @@
 //! enough for both readings.
 //!
 //! There are two slicers. This one goes over a `LineBuf`, which counts each sample that is looked at, and is the one
-//! behind the promise that no sample is looked at more than twice. in_place.rt slices bytes where they lie, for callers
-//! who need no counts; it may look at the last samples twice, as its last block overlaps the one before. Here the
-//! samples after the last whole block (14 of NTSC, 15 of PAL) are taken one by one, so that each counts once.
+//! behind the promise that no sample is looked at more than twice. bytes_to_levels.rt slices bytes where they lie, for
+//! callers who need no counts; it may look at the last samples twice, as its last block overlaps the one before. Here
+//! the samples after the last whole block (14 of NTSC, 15 of PAL) are taken one by one, so that each counts once.
 //!
 //! Sixteen divides 64, the columns of a word of `Packed`, so no block is split between two of them: `Packed::push`
 //! requires it. Another number of lanes changes `LANES`, the arrays in blocks.rt, `LineBuf::next_block` and what

@@ -8,9 +8,9 @@
 #![tactic(auto)]
 
 mod blocks;
+mod bytes_to_levels;
 mod counted;
 mod decoder;
-mod in_place;
 mod intake;
 mod lanes;
 pub mod laws;
@@ -18,16 +18,16 @@ mod line;
 mod outcome;
 mod packed;
 mod reading;
+mod repeated_calls;
 mod store;
 mod straight;
-mod tries;
 
+pub use bytes_to_levels::slice_bytes;
 pub use counted::{Counted, Fail};
-pub use in_place::slice_bytes;
 pub use intake::{Filled, Intake, IntakeFault};
 pub use lanes::slice_lanes;
 pub use line::LineBuf;
 pub use outcome::{read_line, read_packed};
 pub use packed::Packed;
 pub use reading::{read_bytes_twice, read_packed_twice, read_twice, take_reading};
-pub use tries::RETRIES;
+pub use repeated_calls::RETRIES;

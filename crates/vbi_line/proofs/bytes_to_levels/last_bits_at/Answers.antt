@@ -1,5 +1,5 @@
-use Rattle.vbi_line.proofs.InPlace.{last_tells, last-lt}
-use Rattle.vbi_line.proofs.in_place.last_bits_at.Goals as goal
+use Rattle.vbi_line.proofs.BytesToLevels.{last_tells, last-lt}
+use Rattle.vbi_line.proofs.bytes_to_levels.last_bits_at.Goals as goal
 
 pub returns-clause-levels : goal.returns-clause-levels
 returns-clause-levels c =

@@ -1,5 +1,5 @@
 use Rattle.vbi_line.proofs.Common.{◌-◌, ◌^◌, ◌<◌, ◌≤◌, TellsAbove}
-use Rattle.vbi_line.proofs.in_place.bits_at.Given as goal
+use Rattle.vbi_line.proofs.bytes_to_levels.bits_at.Given as goal
 
 abbrev pub invariant-lanes : goal.invariant-lanes
 invariant-lanes l = record {

@@ -1,6 +1,6 @@
 use Rattle.vbi_line.proofs.Common.{◌≡◌, ◌-◌, ◌%◌, ◌≤◌, length, width_of}
 use Rattle.vbi_line.proofs.Slicing.{Sliced}
-use Rattle.vbi_line.proofs.in_place.slice_into.Given as goal
+use Rattle.vbi_line.proofs.bytes_to_levels.slice_into.Given as goal
 
 abbrev pub invariant-loop-column : goal.invariant-loop-column
 invariant-loop-column l = record {

@@ -1,7 +1,7 @@
 use Rattle.vbi_line.proofs.Common.{◌≡◌, ◌+◌, ◌-◌, arith, sym, ap, ◌∙◌, length, subst, width_of, line_bytes-twice}
-use Rattle.vbi_line.proofs.InPlace.{length_with_word, sliced_with_word}
+use Rattle.vbi_line.proofs.BytesToLevels.{length_with_word, sliced_with_word}
 use Rattle.vbi_line.proofs.Slicing.{Sliced, sliced_all}
-use Rattle.vbi_line.proofs.in_place.slice_into.Goals as goal
+use Rattle.vbi_line.proofs.bytes_to_levels.slice_into.Goals as goal
 
 pub loop-column-preserved : goal.loop-column-preserved
 loop-column-preserved c =

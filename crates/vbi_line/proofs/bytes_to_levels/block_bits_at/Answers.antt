@@ -1,5 +1,5 @@
-use Rattle.vbi_line.proofs.InPlace.{block_tells}
-use Rattle.vbi_line.proofs.in_place.block_bits_at.Goals as goal
+use Rattle.vbi_line.proofs.BytesToLevels.{block_tells}
+use Rattle.vbi_line.proofs.bytes_to_levels.block_bits_at.Goals as goal
 
 pub returns-clause-levels : goal.returns-clause-levels
 returns-clause-levels c =

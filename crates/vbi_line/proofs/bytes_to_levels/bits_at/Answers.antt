@@ -1,7 +1,7 @@
 use Rattle.vbi_line.proofs.Common.{◌≡◌, ℕ, ◌+◌, ◌-◌, ◌^◌, ◌<◌, ◌≤◌, arith, subst, TellsAbove}
 use Rattle.vbi_line.proofs.Packs.{joined}
-use Rattle.vbi_line.proofs.InPlace.{joined-lt, joined_tells}
-use Rattle.vbi_line.proofs.in_place.bits_at.Goals as goal
+use Rattle.vbi_line.proofs.BytesToLevels.{joined-lt, joined_tells}
+use Rattle.vbi_line.proofs.bytes_to_levels.bits_at.Goals as goal
 
 pub lanes-preserved : goal.lanes-preserved
 lanes-preserved c =
