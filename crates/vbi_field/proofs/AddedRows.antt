@@ -2,9 +2,8 @@
 use Rattle.vbi_field.proofs.Common.{◌≡◌, ℕ, ◌+◌, ◌*◌, ◌<◌, ◌++◌, length, arith, add-zero, Result, Err, Ok, width_of}
 use Rattle.vbi_field.proofs.Common.{height_of, ConfigView, written_of, Puts, Outlet, IsProgress, MovesOneRow, AddsRow}
 use Rattle.vbi_field.proofs.Common.{Progress, fields_of, rows_at, FieldRows, selected, IsTextBetween, joined_entry_of}
-use Rattle.vbi_field.proofs.Common.{Kind, RunFault}
-use Rattle.std.proofs.Common.{List, append-nil}
-use Rattle.std.specs.Prelude.{Option, IsErr}
+use Rattle.vbi_field.proofs.Common.{Kind, RunFault, List, append-nil, Option}
+use Rattle.std.specs.Prelude.{IsErr}
 use Rattle.vbi_field.proofs.Counts.{whole_fields}
 use Rattle.vbi_field.proofs.Devices.{wrote_none, wrote_whole, put_in_part}
 use Rattle.vbi_field.proofs.FeedTexts.{begun_same, begun_next}

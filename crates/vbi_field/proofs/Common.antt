@@ -1,7 +1,8 @@
 -- The names that more than one proof cites, each passed on from the module that defines it.
-pub use Rattle.std.proofs.Common.{[], ◌%◌, ◌*◌, ◌++◌, ◌+◌, ◌-◌, ◌/◌, ◌<◌, ◌^◌, ◌∙◌, ◌∷◌, ◌≡◌, ◌≤◌, add-one, add-zero}
-pub use Rattle.std.proofs.Common.{ap, append_assoc, arith, cond, drop, get_or, inl, inr, length, map, refl, replicate}
-pub use Rattle.std.proofs.Common.{rules, subst, suc, sym, take, zero, zero-add, zero-le, ℕ}
+pub use Rattle.std.proofs.Common.{[], ◌%◌, ◌*◌, ◌++◌, ◌+◌, ◌-◌, ◌/◌, ◌<◌, ◌^◌, ◌∙◌, ◌∷◌, ◌≡◌, ◌≤◌, ◌⊎◌, Bool, List}
+pub use Rattle.std.proofs.Common.{None, Option, Some, add-one, add-zero, ap, append-nil, append_assoc, arith, cond}
+pub use Rattle.std.proofs.Common.{drop, false, get_or, inl, inr, length, map, refl, replicate, rules, subst, suc, sym}
+pub use Rattle.std.proofs.Common.{take, true, zero, zero-add, zero-le, ℕ}
 pub use Rattle.std.proofs.KnownBytes.{Appends-nil, Appends-trans, Consumes-nil, Consumes-trans}
 pub use Rattle.std.proofs.Math.Nat.{eq-or-lt_of_le, eq-zero-or-pos, le_of_eq, le_refl, le_trans, mul-le-mul_right}
 pub use Rattle.std.proofs.Math.Nat.{suc-mul, zero-div, zero-mul}
@@ -40,8 +41,8 @@ pub use Rattle.vbi_field.specs.Progress.{AddsRow, HoldsOn, HoldsRows, IsKept, Is
 pub use Rattle.vbi_field.specs.Progress.{Progress}
 pub use Rattle.vbi_field.specs.Ran.{Consumes, EndsInside, Read, RunFault, Summary, TooManyFields, Write, over}
 pub use Rattle.vbi_field.specs.RecoveredDocument.{recovered_without}
-pub use Rattle.vbi_field.specs.RowIntake.{Fetches, HasNoNewline, RowIntake, TakesByte, TakesRow}
 pub use Rattle.vbi_field.specs.RecoveredRows.{as_readings, joined_rows}
+pub use Rattle.vbi_field.specs.RowIntake.{Fetches, HasNoNewline, RowIntake, TakesByte, TakesRow}
 pub use Rattle.vbi_field.specs.Stream.{FieldReadings, FieldRows, Position, Reading, fields_of, line_at, looks_of}
 pub use Rattle.vbi_field.specs.Stream.{reading_among, reading_at, reading_of, readings_of, rest_of, row_levels, rows_at}
 pub use Rattle.vbi_field.specs.Stream.{rows_in}

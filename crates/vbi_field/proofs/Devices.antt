@@ -1,8 +1,6 @@
 -- What the devices of a run did: what a writer took, whole or in part, and that one failed for good.
-use Rattle.std.proofs.Common.{◌≡◌, ℕ, ◌+◌, ◌<◌, List, [], ◌++◌, length, take, drop, sym, ap, ◌∙◌, arith}
-use Rattle.std.proofs.Common.{append_assoc, add-zero}
-use Rattle.std.specs.Prelude.{Option}
-use Rattle.std.proofs.KnownBytes.{Appends-nil, Appends-trans}
+use Rattle.vbi_field.proofs.Common.{◌≡◌, ℕ, ◌+◌, ◌<◌, List, [], ◌++◌, length, take, drop, sym, ap, ◌∙◌, arith}
+use Rattle.vbi_field.proofs.Common.{append_assoc, add-zero, Option, Appends-nil, Appends-trans}
 use Rattle.std.proofs.lemmas.List.{length-append, length-drop, length-take-le, take_all, take-append-drop}
 use Rattle.vbi_field.specs.Outlet.{written_of, Puts, Wrote, WrotePart, Outlet, failures_of, HasCause, Counted}
 use Rattle.vbi_field.specs.Outlet as outlets

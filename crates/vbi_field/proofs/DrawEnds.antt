@@ -3,9 +3,8 @@
 use Rattle.vbi_field.proofs.Common.{◌≡◌, ℕ, ◌+◌, ◌≤◌, ◌<◌, inl, inr, [], ◌∷◌, ◌++◌, length, refl, ap, ◌∙◌, arith}
 use Rattle.vbi_field.proofs.Common.{Result, Ok, Err, IsAtEnd, device_of, NoError, HasCause, Outlet, ConfigView}
 use Rattle.vbi_field.proofs.Common.{longest_row, HasNoNewline, Fetches, TakesRow, TakesByte, RowIntake, newline}
-use Rattle.vbi_field.proofs.Common.{rows_of, row_words, over, RunsDrawing, Malformed, DrawFault}
-use Rattle.std.proofs.Common.{◌⊎◌, List}
-use Rattle.std.specs.Prelude.{Option, None}
+use Rattle.vbi_field.proofs.Common.{rows_of, row_words, over, RunsDrawing, Malformed, DrawFault, ◌⊎◌, List, Option}
+use Rattle.vbi_field.proofs.Common.{None}
 use Rattle.vbi_field.specs.RowIntake as intakes
 use Rattle.vbi_field.specs.WordRows.{word_row_of}
 use Rattle.vbi_field.specs.Draws.{draw_out, Draws, counts_of}

@@ -4,9 +4,7 @@ use Rattle.vbi_field.proofs.Common.{◌∙◌, arith, append_assoc, Result, Ok, 
 use Rattle.vbi_field.proofs.Common.{flat_map-append, drawn_line_of, field_bytes, Pal, ConfigView, most_rows}
 use Rattle.vbi_field.proofs.Common.{longest_row, tries, device_of, failures_of, NoError, HasCause, IsSameDevice, Outlet}
 use Rattle.vbi_field.proofs.Common.{HasNoNewline, Fetches, TakesRow, RowIntake, newline, AreRows, rows_of, row_words}
-use Rattle.vbi_field.proofs.Common.{WordRow, over, EndsRow, RunsDrawing, DrawFault}
-use Rattle.std.proofs.Common.{List}
-use Rattle.std.specs.Prelude.{Option, Some, None}
+use Rattle.vbi_field.proofs.Common.{WordRow, over, EndsRow, RunsDrawing, DrawFault, List, Option, Some, None}
 use Rattle.std.proofs.lemmas.List.{append-nil}
 use Rattle.vbi_field.specs.Outlet as outlets
 use Rattle.vbi_field.specs.RowIntake as intakes

@@ -2,8 +2,7 @@
 use Rattle.vbi_field.proofs.Common.{◌≡◌, ℕ, ◌+◌, ◌*◌, ◌/◌, ◌%◌, ◌<◌, [], ◌∷◌, ◌++◌, length, refl, sym, ◌∙◌, arith}
 use Rattle.vbi_field.proofs.Common.{join_by, range_with_len, length-append, zero-mul, suc-mul, field_bytes, System}
 use Rattle.vbi_field.proofs.Common.{ConfigView, Ntsc, Pal, drawn_readings, fields_of, rest_of, whole_text, ReadingKind}
-use Rattle.vbi_field.proofs.Common.{by, AreRows, WordRow}
-use Rattle.std.proofs.Common.{List}
+use Rattle.vbi_field.proofs.Common.{by, AreRows, WordRow, List}
 use Rattle.std.specs.Prelude.{slice_index_or}
 use Rattle.std.proofs.lemmas.Option.{slice_get-get_or}
 use Rattle.vbi_field.specs.Draws.{draw_out, drawn_field_of, drawn_text, no_words}

@@ -2,9 +2,7 @@
 use Rattle.vbi_field.proofs.Common.{◌≡◌, ℕ, zero, suc, ◌+◌, ◌*◌, ◌-◌, ◌≤◌, [], ◌++◌, length, refl, sym, ap, ◌∙◌, arith}
 use Rattle.vbi_field.proofs.Common.{append_assoc, add-zero, zero-add, zero-mul, suc-mul, flat_map, range_with_len}
 use Rattle.vbi_field.proofs.Common.{length-append, height_of, line_bytes, field_bytes, ConfigView, drawn_line_of}
-use Rattle.vbi_field.proofs.Common.{length-drawn_line_of, WordRow, word_at}
-use Rattle.std.proofs.Common.{List}
-use Rattle.std.specs.Prelude.{None}
+use Rattle.vbi_field.proofs.Common.{length-drawn_line_of, WordRow, word_at, List, None}
 use Rattle.std.proofs.lemmas.List.{append-nil}
 use Rattle.vbi_field.specs.Draws.{drawn_field_of}
 use Rattle.vbi_field.proofs.Counts.{sizes_of}

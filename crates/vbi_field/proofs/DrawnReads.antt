@@ -1,14 +1,11 @@
 -- A drawn field is read as the words that were drawn.
-use Rattle.std.proofs.Common.{◌≡◌, ℕ, zero, suc, ◌+◌, ◌*◌, ◌<◌, List, [], ◌∷◌, ◌++◌, length, take, drop, sym, ap}
-use Rattle.std.proofs.Common.{subst, ◌∙◌, arith, append_assoc}
-use Rattle.std.specs.Prelude.{Some, slice_get}
+use Rattle.vbi_field.proofs.Common.{◌≡◌, ℕ, zero, suc, ◌+◌, ◌*◌, ◌<◌, List, [], ◌∷◌, ◌++◌, length, take, drop, sym, ap}
+use Rattle.vbi_field.proofs.Common.{subst, ◌∙◌, arith, append_assoc, Some, slice_get, row_levels, line_at, IsWordOrNone}
 use Rattle.std.proofs.Math.Nat.{mul_comm, suc-mul, zero-mul}
 use Rattle.std.proofs.lemmas.List.{take_at, drop_at, drop-drop}
 use Rattle.vbi_field.specs.ConfigView.{height_of, line_bytes, field_bytes, ConfigView}
 use Rattle.vbi_words.specs.Drawn.{drawn_line_of, drawn_reading}
-use Rattle.vbi_field.specs.Stream.{row_levels, line_at}
 use Rattle.vbi_words.specs.Readings.{IsReading}
-use Rattle.vbi_words.specs.Words.{IsWordOrNone}
 use Rattle.vbi_words.proofs.DrawnLines.{length-drawn_line_of, drawn_reads}
 use Rattle.vbi_field.specs.declared.word_row.WordRow.{WordRow}
 use Rattle.vbi_field.specs.Draws.{word_at, drawn_field_of, draw_out, AreDrawable, drawn_readings}

@@ -2,9 +2,8 @@
 use Rattle.vbi_field.proofs.Common.{◌≡◌, ℕ, zero, suc, ◌+◌, ◌*◌, ◌≤◌, ◌<◌, [], ◌∷◌, ◌++◌, length, refl, sym, ap, ◌∙◌}
 use Rattle.vbi_field.proofs.Common.{arith, append_assoc, add-zero, zero-add, add-one, cond, ◌==◌, if◌then◌else◌}
 use Rattle.vbi_field.proofs.Common.{join_by, flat_map, range_with_len, flat_map-append, height_of, line_bytes}
-use Rattle.vbi_field.proofs.Common.{ConfigView, fields_of, rows_at, joined_entry_of, Kind}
-use Rattle.std.proofs.Common.{List, append-nil}
-use Rattle.std.specs.Prelude.{Bool, true, false}
+use Rattle.vbi_field.proofs.Common.{ConfigView, fields_of, rows_at, joined_entry_of, Kind, List, append-nil, Bool, true}
+use Rattle.vbi_field.proofs.Common.{false}
 use Rattle.std.proofs.Math.Dec.{eqb-suc-zero}
 use Rattle.vbi_field.specs.Texts.{text_before_tail}
 use Rattle.vbi_field.proofs.Growing.{rows_at-more}

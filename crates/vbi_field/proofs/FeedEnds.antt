@@ -2,9 +2,7 @@
 use Rattle.vbi_field.proofs.Common.{◌≡◌, ℕ, ◌+◌, ◌*◌, ◌<◌, length, arith, sym, ap, ◌∙◌, Result, Ok, Err, line_bytes}
 use Rattle.vbi_field.proofs.Common.{ConfigView, Line, document, IsAt, IsFinished, IsFeederState, position_in}
 use Rattle.vbi_field.proofs.Common.{written_of, Puts, WrotePart, Outlet, fields_of, rest_of, looks_of, Progress}
-use Rattle.vbi_field.proofs.Common.{PutsTail, RunFault, Summary}
-use Rattle.std.proofs.Common.{List}
-use Rattle.std.specs.Prelude.{Option}
+use Rattle.vbi_field.proofs.Common.{PutsTail, RunFault, Summary, List, Option}
 use Rattle.vbi_field.proofs.Positions.{Split, split_of, split_fields, split_rest}
 use Rattle.vbi_field.proofs.Devices.{wrote_whole, put_in_part}
 

@@ -3,9 +3,8 @@ use Rattle.vbi_field.proofs.Common.{◌≡◌, ℕ, ◌+◌, ◌-◌, ◌≤◌,
 use Rattle.vbi_field.proofs.Common.{append_assoc, Result, Err, Ok, length-drop, take_all, take-append-drop, le_refl}
 use Rattle.vbi_field.proofs.Common.{le_of_eq, take-add, document, IsAt, IsFed, StandsAt, Feeding, IsFeederState, IsStep}
 use Rattle.vbi_field.proofs.Common.{position_in, NoError, IsSameDevice, Outlet, Position, ConfigView, allowed_bytes}
-use Rattle.vbi_field.proofs.Common.{Line, Progress, RunFault, Read, Write, TooManyFields}
-use Rattle.std.proofs.Common.{false, List, append-nil}
-use Rattle.std.specs.Prelude.{Option}
+use Rattle.vbi_field.proofs.Common.{Line, Progress, RunFault, Read, Write, TooManyFields, false, List, append-nil}
+use Rattle.vbi_field.proofs.Common.{Option}
 use Rattle.vbi_field.specs.Texts.{text_before_tail}
 use Rattle.vbi_field.specs.Feed.{IsFeedFault, feeding_of}
 use Rattle.vbi_field.specs.Outlet.{counted_of, Rises}

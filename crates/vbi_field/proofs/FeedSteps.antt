@@ -4,9 +4,8 @@ use Rattle.vbi_field.proofs.Common.{arith, append_assoc, Result, Err, Ok, IsErrA
 use Rattle.vbi_field.proofs.Common.{take-append-drop, take_at, width_of, height_of, line_bytes, System, ConfigView}
 use Rattle.vbi_field.proofs.Common.{allowed_bytes, row_levels, Reading, reading_of, Line, document, ExtendsInPart}
 use Rattle.vbi_field.proofs.Common.{IsTextBetween, Outlet, IsAt, IsFed, IsFeederState, IsStep, position_in, IsProgress}
-use Rattle.vbi_field.proofs.Common.{IsLineOf, MovesOneRow, AddsRow, Progress, RunFault, Write, TooManyFields}
-use Rattle.std.proofs.Common.{Bool, false, List, append-nil}
-use Rattle.std.specs.Prelude.{Option, Some, None}
+use Rattle.vbi_field.proofs.Common.{IsLineOf, MovesOneRow, AddsRow, Progress, RunFault, Write, TooManyFields, Bool}
+use Rattle.vbi_field.proofs.Common.{false, List, append-nil, Option, Some, None}
 use Rattle.vbi_field.specs.ConfigView.{most_fields}
 use Rattle.vbi_field.specs.Texts.{text_before_tail}
 use Rattle.vbi_field.proofs.Counts.{row_before, row_fits, exactly_fields}

@@ -1,8 +1,7 @@
 -- The text of a stream that grows.
 use Rattle.vbi_field.proofs.Common.{◌≡◌, ℕ, zero, suc, ◌+◌, ◌-◌, ◌≤◌, [], ◌++◌, length, take, refl, sym, ap, ◌∙◌, arith}
 use Rattle.vbi_field.proofs.Common.{append_assoc, add-zero, length-append, le_refl, ConfigView, fields_of, rows_at}
-use Rattle.vbi_field.proofs.Common.{IsTextBetween, joined_entry_of, Kind}
-use Rattle.std.proofs.Common.{List, append-nil}
+use Rattle.vbi_field.proofs.Common.{IsTextBetween, joined_entry_of, Kind, List, append-nil}
 use Rattle.std.proofs.Math.Seq.{take-append-add}
 use Rattle.vbi_field.specs.Texts.{text_before_tail}
 use Rattle.vbi_field.proofs.Counts.{whole_rows_fit, more_fields}

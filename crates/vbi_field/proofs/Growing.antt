@@ -3,14 +3,12 @@ use Rattle.vbi_field.proofs.Common.{rules, ◌≡◌, ℕ, ◌+◌, ◌*◌, ◌
 use Rattle.vbi_field.proofs.Common.{eq-or-lt_of_le, eq-zero-or-pos, le_trans, mul-le-mul_right, length-append}
 use Rattle.vbi_field.proofs.Common.{length-drop, take-append-le, take_all, height_of, line_bytes, System, ConfigView}
 use Rattle.vbi_field.proofs.Common.{row_levels, reading_of, Reading, FieldReadings, reading_at, reading_among, line_at}
-use Rattle.vbi_field.proofs.Common.{rows_at, Progress, IsProgress, IsLineOf, IsKept}
-use Rattle.std.proofs.Common.{List, lit≤}
-use Rattle.std.specs.Prelude.{Option, Some, None}
+use Rattle.vbi_field.proofs.Common.{rows_at, Progress, IsProgress, IsLineOf, IsKept, List, Option, Some, None}
+use Rattle.std.proofs.Common.{lit≤}
 use Rattle.std.proofs.lemmas.Bool.{cond_below, cond_above}
 use Rattle.std.proofs.lemmas.List.{drop-append-le}
 use Rattle.std.proofs.Math.Seq.{drop_at}
-use Rattle.vbi_field.specs.declared.progress.PartialReadings.{PartialReadings}
-use Rattle.vbi_field.specs.Progress.{TakesReading, Advances, all_of}
+use Rattle.vbi_field.specs.Progress.{TakesReading, Advances, all_of, PartialReadings}
 use Rattle.vbi_field.proofs.Counts.{sizes_of, times-next, bytes_before}
 
 -- a row that is whole stays as it is

@@ -3,8 +3,7 @@ use Rattle.vbi_field.proofs.Common.{◌≡◌, ℕ, ◌+◌, ◌-◌, ◌*◌, �
 use Rattle.vbi_field.proofs.Common.{arith, append_assoc, length-append, length-drop, length-take-le, take-append-drop}
 use Rattle.vbi_field.proofs.Common.{take_all, drop-drop, joined_rows, eq-or-lt_of_le, mul-le-mul_right, height_of}
 use Rattle.vbi_field.proofs.Common.{line_bytes, field_bytes, System, ConfigView, Ntsc, Pal, line_at, rows_at, rows_in}
-use Rattle.vbi_field.proofs.Common.{HoldsRows, HoldsOn, IsKept, MovesOneRow, Progress}
-use Rattle.std.proofs.Common.{◌⊎◌, List}
+use Rattle.vbi_field.proofs.Common.{HoldsRows, HoldsOn, IsKept, MovesOneRow, Progress, ◌⊎◌, List}
 use Rattle.std.proofs.lemmas.Bool.{cases_lt}
 use Rattle.std.proofs.lemmas.List.{drop_at}
 use Rattle.vbi_field.proofs.Growing.{line_at-more, line_at-new}

@@ -1,7 +1,6 @@
 -- A stream has one text of each kind.
 use Rattle.vbi_field.proofs.Common.{arith, ◌≡◌, ℕ, ◌+◌, ◌++◌, ap, ◌∙◌, ◌↔◌, fields_of, rest_of, FieldReadings}
-use Rattle.vbi_field.proofs.Common.{is_reading, only_reading, FieldReads, whole_text, ReadingKind, by, ConfigView}
-use Rattle.std.proofs.Common.{List}
+use Rattle.vbi_field.proofs.Common.{is_reading, only_reading, FieldReads, whole_text, ReadingKind, by, ConfigView, List}
 use Rattle.vbi_field.specs.Stream.{readings_at}
 use Rattle.vbi_field.specs.Texts.{IsWholeText, text_before_tail}
 use Rattle.vbi_field.proofs.Entries.{entry_of, joined-same}

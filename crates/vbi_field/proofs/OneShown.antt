@@ -1,8 +1,7 @@
 -- What the definitions of `Shown` have is all that there is.
 use Rattle.vbi_field.proofs.Common.{rules, ◌≡◌, ℕ, ◌*◌, ◌≤◌, [], ◌∷◌, take, replicate, get_or, ap, ◌∙◌, sym, subst}
 use Rattle.vbi_field.proofs.Common.{arith, ◌↔◌, System, Ntsc, Pal, width_of, Reading, Slicing, Recovered, given_samples}
-use Rattle.vbi_field.proofs.Common.{none_erased, as_readings}
-use Rattle.std.proofs.Common.{Bool, false, List}
+use Rattle.vbi_field.proofs.Common.{none_erased, as_readings, Bool, false, List}
 use Rattle.std.proofs.lemmas.List.{take-replicate}
 use Rattle.vbi_near.specs.declared.near.Near.{Near}
 use Rattle.vbi_near.specs.Candidates.{Row}

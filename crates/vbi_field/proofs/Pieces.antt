@@ -1,10 +1,8 @@
 -- What pieces do, one after the other, is what they do joined.
-use Rattle.std.proofs.Common.{◌≡◌, ℕ, ◌-◌, inl, inr, List, [], ◌∷◌, ◌++◌, length, take}
-use Rattle.std.proofs.Common.{sym, ap, ◌∙◌, arith, subst, append_assoc, append-nil}
-use Rattle.std.specs.Prelude.{Option, Result, Err, Ok}
+use Rattle.vbi_field.proofs.Common.{◌≡◌, ℕ, ◌-◌, inl, inr, List, [], ◌∷◌, ◌++◌, length, take, sym, ap, ◌∙◌, arith}
+use Rattle.vbi_field.proofs.Common.{subst, append_assoc, append-nil, Option, Result, Err, Ok, zero-div, eq-zero-or-pos}
 use Rattle.std.specs.List.{concat}
 use Rattle.std.proofs.lemmas.List.{length-append, take-append-le, take_all}
-use Rattle.std.proofs.Math.Nat.{zero-div, eq-zero-or-pos}
 use Rattle.vbi_field.specs.ConfigView.{field_bytes, ConfigView, allowed_bytes}
 use Rattle.vbi_field.specs.Extracts.{ExtractsAll}
 use Rattle.vbi_field.specs.Feed.{IsFed, IsFinished, StandsAt, Feeds, FeedsAll, Pushes, Feeding}

@@ -2,8 +2,7 @@
 use Rattle.vbi_field.proofs.Common.{◌≡◌, ℕ, ◌+◌, ◌-◌, ◌*◌, ◌/◌, ◌%◌, ◌≤◌, ◌<◌, ◌++◌, length, take, drop, sym, ap, ◌∙◌}
 use Rattle.vbi_field.proofs.Common.{arith, length-append, take-append-drop, le_trans, le_of_eq, mul-le-mul_right}
 use Rattle.vbi_field.proofs.Common.{height_of, line_bytes, ConfigView, allowed_bytes, Line, IsAt, position_in}
-use Rattle.vbi_field.proofs.Common.{reading_among, fields_of, rest_of, reading_at, IsProgress, Progress}
-use Rattle.std.proofs.Common.{List}
+use Rattle.vbi_field.proofs.Common.{reading_among, fields_of, rest_of, reading_at, IsProgress, Progress, List}
 use Rattle.std.proofs.lemmas.Nat.{div-mul-add, mod-mul-add}
 use Rattle.std.proofs.Math.Seq.{drop_at}
 use Rattle.vbi_field.proofs.Counts.{bytes_of_rows, whole_fields, past_fields}

@@ -4,9 +4,8 @@ use Rattle.vbi_field.proofs.Common.{subst, Result, Ok, Err, IsErrAnd, Appends-tr
 use Rattle.vbi_field.proofs.Common.{take_at, le_of_eq, le_trans, zero-mul, width_of, height_of, line_bytes, ConfigView}
 use Rattle.vbi_field.proofs.Common.{allowed_bytes, NoError, Outlet, Full, Intake, Runs, TakesLine, PutsTail, EndsInside}
 use Rattle.vbi_field.proofs.Common.{RunFault, Summary, Read, TooManyFields, over, fields_of, rest_of, looks_of}
-use Rattle.vbi_field.proofs.Common.{selected, whole_text, Kind, Progress}
-use Rattle.std.proofs.Common.{List}
-use Rattle.std.specs.Prelude.{Option, IfErr}
+use Rattle.vbi_field.proofs.Common.{selected, whole_text, Kind, Progress, List, Option}
+use Rattle.std.specs.Prelude.{IfErr}
 use Rattle.vbi_line.specs.Intake as intakes
 use Rattle.vbi_line.specs.declared.intake.Filled.{Filled}
 use Rattle.vbi_line.specs.declared.intake.Filled.TheVariants.{Ended}

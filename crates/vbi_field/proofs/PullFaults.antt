@@ -3,9 +3,7 @@ use Rattle.vbi_field.proofs.Common.{◌≡◌, ℕ, ◌+◌, ◌≤◌, ◌<◌,
 use Rattle.vbi_field.proofs.Common.{Result, Ok, Err, IsErrAnd, Consumes, Appends, RunFault, Summary, Write, over}
 use Rattle.vbi_field.proofs.Common.{Appends-trans, Appends-nil, Consumes-nil, length-append, zero-div, field_bytes}
 use Rattle.vbi_field.proofs.Common.{ConfigView, allowed_bytes, device_of, failures_of, HasCause, Outlet, Intake}
-use Rattle.vbi_field.proofs.Common.{EndsWithin, Runs, looks_of, Kind}
-use Rattle.std.proofs.Common.{List}
-use Rattle.std.specs.Prelude.{Option}
+use Rattle.vbi_field.proofs.Common.{EndsWithin, Runs, looks_of, Kind, List, Option}
 use Rattle.vbi_line.specs.Intake as intakes
 use Rattle.vbi_field.specs.Outlet as outlets
 use Rattle.vbi_field.specs.Texts.{text_before_tail}

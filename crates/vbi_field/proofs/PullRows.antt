@@ -7,9 +7,8 @@ use Rattle.vbi_field.proofs.Common.{take-append-drop, le_of_eq, le_trans, zero-m
 use Rattle.vbi_field.proofs.Common.{height_of, line_bytes, field_bytes, Slicing, System, ConfigView, allowed_bytes, Pal}
 use Rattle.vbi_field.proofs.Common.{Reading, fields_of, rest_of, looks_of, tries, device_of, failures_of, NoError}
 use Rattle.vbi_field.proofs.Common.{HasCause, IsSameDevice, Outlet, Full, Intake, Runs, TakesLine, IsProgress, IsLineOf}
-use Rattle.vbi_field.proofs.Common.{MovesOneRow, AddsRow, Progress, selected, ExtendsInPart, Kind}
-use Rattle.std.proofs.Common.{Bool, true, false, List}
-use Rattle.std.specs.Prelude.{Option}
+use Rattle.vbi_field.proofs.Common.{MovesOneRow, AddsRow, Progress, selected, ExtendsInPart, Kind, Bool, true, false}
+use Rattle.vbi_field.proofs.Common.{List, Option}
 use Rattle.vbi_line.specs.Intake as intakes
 use Rattle.vbi_line.specs.OneReading.{ReadsLine}
 use Rattle.vbi_field.specs.Outlet as outlets

@@ -2,9 +2,7 @@
 use Rattle.vbi_field.proofs.Common.{◌≡◌, ℕ, ◌+◌, ◌*◌, ◌≤◌, ◌<◌, [], length, refl, sym, ap, ◌∙◌, arith, Consumes}
 use Rattle.vbi_field.proofs.Common.{Appends, Consumes-nil, zero-div, width_of, height_of, line_bytes, field_bytes}
 use Rattle.vbi_field.proofs.Common.{System, ConfigView, Ntsc, Pal, tries, device_of, failures_of, NoError, IsSameDevice}
-use Rattle.vbi_field.proofs.Common.{Outlet, Intake, IsProgress, Progress, selected, Kind}
-use Rattle.std.proofs.Common.{List}
-use Rattle.std.specs.Prelude.{Option, None}
+use Rattle.vbi_field.proofs.Common.{Outlet, Intake, IsProgress, Progress, selected, Kind, List, Option, None}
 use Rattle.vbi_field.specs.ConfigView.{longest_text}
 use Rattle.vbi_line.specs.Intake as intakes
 use Rattle.vbi_field.specs.Outlet as outlets

@@ -1,9 +1,7 @@
 -- What a run keeps from row to row, with the bytes of rows that are kept.
 use Rattle.vbi_field.proofs.Common.{◌≡◌, ℕ, ◌+◌, ◌++◌, length, ap, ◌∙◌, arith, IsTrue, Ok, ConfigView, height_of}
 use Rattle.vbi_field.proofs.Common.{Outlet, Intake, Progress, HoldsRows, HoldsOn, IsLineOf, MovesOneRow, Reading}
-use Rattle.vbi_field.proofs.Common.{rows_in, rows_at, TakesLine, Full, Kind}
-use Rattle.std.proofs.Common.{List}
-use Rattle.std.specs.Prelude.{Option, Bool}
+use Rattle.vbi_field.proofs.Common.{rows_in, rows_at, TakesLine, Full, Kind, List, Option, Bool}
 use Rattle.vbi_field.proofs.HeldRows.{holds_more, holds_field, holds_next, tall}
 use Rattle.vbi_field.proofs.Pulled.{Pulled}
 

@@ -2,9 +2,8 @@
 use Rattle.vbi_field.proofs.Common.{rules, ◌≡◌, ℕ, ◌+◌, ◌-◌, ◌*◌, ◌≤◌, ◌<◌, ◌++◌, length, sym, ap, subst, ◌∙◌, arith}
 use Rattle.vbi_field.proofs.Common.{Appends, Appends-trans, length-append, height_of, line_bytes, Pal, ConfigView}
 use Rattle.vbi_field.proofs.Common.{most_rows, tries, device_of, failures_of, NoError, IsSameDevice, Puts, Wrote}
-use Rattle.vbi_field.proofs.Common.{WrotePart, Outlet, drawn_line_of, word_at, WordRow, length-drawn_line_of}
-use Rattle.std.proofs.Common.{List}
-use Rattle.std.specs.Prelude.{Option, None}
+use Rattle.vbi_field.proofs.Common.{WrotePart, Outlet, drawn_line_of, word_at, WordRow, length-drawn_line_of, List}
+use Rattle.vbi_field.proofs.Common.{Option, None}
 use Rattle.vbi_field.specs.Outlet.{counted_of}
 use Rattle.vbi_field.specs.Draws.{drawn_field_of}
 use Rattle.vbi_field.proofs.Counts.{sizes_of}

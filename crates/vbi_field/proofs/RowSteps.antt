@@ -2,9 +2,7 @@
 use Rattle.vbi_field.proofs.Common.{◌≡◌, ℕ, ◌+◌, ◌*◌, ◌<◌, ◌≤◌, [], ◌∷◌, ◌++◌, length, take, refl, subst, ◌∙◌, arith}
 use Rattle.vbi_field.proofs.Common.{Consumes-trans, Consumes-nil, length-append, length-take-le, newline, WordRow}
 use Rattle.vbi_field.proofs.Common.{tries, failures_of, NoError, longest_row, HasNoNewline, Fetches, TakesByte}
-use Rattle.vbi_field.proofs.Common.{TakesRow, RowIntake, Malformed}
-use Rattle.std.proofs.Common.{List}
-use Rattle.std.specs.Prelude.{Option, Some, None}
+use Rattle.vbi_field.proofs.Common.{TakesRow, RowIntake, Malformed, List, Option, Some, None}
 use Rattle.vbi_field.specs.WordRows.{word_row_of}
 use Rattle.vbi_field.specs.RowIntake.{counted_of}
 use Rattle.vbi_field.specs.declared.row_intake.NextByte.TheVariants as bytes

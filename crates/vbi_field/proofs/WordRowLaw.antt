@@ -3,8 +3,7 @@ use Rattle.vbi_field.proofs.Common.{◌≡◌, ℕ, zero, suc, ◌<◌, cond, []
 use Rattle.vbi_field.proofs.Common.{subst, ◌∙◌, arith, append_assoc, ◌==◌, codes, slice_get, list_all, join_with_byte}
 use Rattle.vbi_field.proofs.Common.{is_digit, digits_value, ltb-true, nat_tests, slice_split_none}
 use Rattle.vbi_field.proofs.Common.{join_with_byte-slice_split, WordRow, row_of_items, row_of_parts, parts_of}
-use Rattle.vbi_field.proofs.Common.{row_words, rows_of, AreRows, AreDrawable, IsWordOrNone}
-use Rattle.std.proofs.Common.{Bool, true, false, List}
+use Rattle.vbi_field.proofs.Common.{row_words, rows_of, AreRows, AreDrawable, IsWordOrNone, Bool, true, false, List}
 use Rattle.std.specs.Prelude.{Option, Some, None, ◌&&◌, All}
 use Rattle.std.specs.Char.{digit_value}
 use Rattle.std.specs.Str.Parse.{AllDigits}

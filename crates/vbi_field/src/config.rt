@@ -1,7 +1,6 @@
 //! What a run is given.
 ghost use Rattle.std.specs.Prelude.{◌≡◌, ◌*◌, ◌<◌, ◌≤◌, ◌↔◌, ◌⊎◌, IfOk, Err};
-ghost use Rattle.vbi_words.specs.Geometry.{height_of, line_bytes};
-ghost use Rattle.vbi_field.specs.ConfigView.{most_fields, most_rows};
+ghost use Rattle.vbi_field.specs.ConfigView.{most_fields, most_rows, height_of, line_bytes};
 
 use std::marker::Model;
 use thiserror::Error;

@@ -3,10 +3,9 @@
 //! A field's rows 15, 16 and 17 are its lines 16, 17 and 18, as rows are counted from 0. Of the other rows nothing is
 //! kept but their number. The three readings wait here until the field's last row is whole: a field that is cut has no
 //! record, so none may be written before.
-ghost use Rattle.std.specs.Prelude.{◌≡◌, ◌++◌, ◌+◌, ◌*◌, ◌^◌, ◌↔◌, IsTrue, ◌<◌, ◌≤◌, List, ℕ, length, IfSome};
-ghost use Rattle.std.specs.Prelude.{Some, None, OnOk, OnErr, IfErr};
-ghost use Rattle.vbi_words.specs.Geometry.{height_of, line_bytes};
-ghost use Rattle.vbi_field.specs.ConfigView.{most_fields};
+ghost use Rattle.std.specs.Prelude.{◌≡◌, ◌++◌, ◌+◌, ◌*◌, ◌^◌, ◌↔◌, IsTrue, ◌<◌, ◌≤◌, List, ℕ, length, IfSome, Some};
+ghost use Rattle.std.specs.Prelude.{None, OnOk, OnErr, IfErr};
+ghost use Rattle.vbi_field.specs.ConfigView.{most_fields, height_of, line_bytes};
 ghost use Rattle.vbi_field.specs.Outlet.{written_of, CountedUpTo, Rises, Serves};
 
 use crate::config::Config;

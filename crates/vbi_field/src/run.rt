@@ -4,7 +4,6 @@
 //! kinds with recovered words keep the bytes of rows 15, 16 and 17 besides, in room that their caller here has; the
 //! other two have no such room.
 ghost use Rattle.std.specs.Prelude.{◌≡◌, ◌⊎◌, ◌+◌, ◌*◌, ◌^◌, ◌<◌, ◌≤◌, ◌++◌, [], length, take, drop, IsTrue, IfErr};
-ghost use Rattle.vbi_words.specs.Geometry.{height_of, line_bytes};
 ghost use Rattle.vbi_line.specs.Counted.{failures_of, IsSameDevice};
 ghost use Rattle.vbi_line.specs.Intake as intakes;
 ghost use Rattle.vbi_line.specs.Intake.{fetched_of, held_of, line_of, IsFresh};
@@ -12,7 +11,7 @@ ghost use Rattle.vbi_field.specs.Ran.{over};
 ghost use Rattle.vbi_field.specs.Extracts.{Runs, TakesLine, EndsAtLimit};
 ghost use Rattle.vbi_field.specs.Texts.{document, recovered_document, report, recovered_report};
 ghost use Rattle.vbi_field.specs.Progress.{HoldsOn};
-ghost use Rattle.vbi_field.specs.ConfigView.{most_fields};
+ghost use Rattle.vbi_field.specs.ConfigView.{most_fields, height_of, line_bytes};
 ghost use Rattle.vbi_field.specs.Outlet as outlets;
 
 use crate::config::Config;
@@ -104,8 +103,7 @@ fn end_at_limit<K: Kind, R: Read, W: Write>(
 {
     match fill_line(config, progress, intake)? {
         Filled::Ended(0) => end::<K, W>(outlet, progress.fields, 0, intake.looked()),
-        Filled::Ended(_) => Err(RunFault::TooManyFields),
-        Filled::Full => Err(RunFault::TooManyFields),
+        Filled::Ended(_) | Filled::Full => Err(RunFault::TooManyFields),
     }
 }
 

@@ -1,5 +1,4 @@
-use Rattle.vbi_field.proofs.Common.{sym, ap, Recovered, as_readings, FieldReadings}
-use Rattle.std.specs.Prelude.{List}
+use Rattle.vbi_field.proofs.Common.{sym, ap, Recovered, as_readings, FieldReadings, List}
 use Rattle.vbi_field.proofs.OneShown.{sure_rows, is_shown}
 use Rattle.vbi_field.specs.RecoveredRows.{recovery_of}
 use Rattle.vbi_field.proofs.recovered_rows.shown_lines.Goals as goal

@@ -1,5 +1,4 @@
-use Rattle.std.proofs.Common.{[], ◌++◌, ◌+◌, Bool, List, ℕ, ap, ◌∙◌, sym, refl}
-use Rattle.std.specs.Prelude.{codes, ◌==◌, if◌then◌else◌}
+use Rattle.vbi_field.proofs.Common.{[], ◌++◌, ◌+◌, Bool, List, ℕ, ap, ◌∙◌, sym, refl, codes, ◌==◌, if◌then◌else◌}
 use Rattle.vbi_field.specs.RecoveredDocument.{recovered_record_of, recovered_without}
 use Rattle.vbi_field.specs.Stream.{readings_of, rows_in}
 use Rattle.vbi_field.specs.Texts.{joined_entry_of, recovered_document}

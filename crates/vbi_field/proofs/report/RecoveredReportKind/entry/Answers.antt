@@ -1,6 +1,5 @@
 use Rattle.vbi_field.proofs.Common.{ℕ, ◌+◌, ap, ◌∙◌, sym, refl, ◌==◌, none_erased, as_readings, joined_rows}
-use Rattle.vbi_field.proofs.Common.{readings_of}
-use Rattle.std.proofs.Common.{Bool, List}
+use Rattle.vbi_field.proofs.Common.{readings_of, Bool, List}
 use Rattle.vbi_field.specs.Report.{recovered_entry_of}
 use Rattle.vbi_field.specs.RecoveredRows.{recovery_of}
 use Rattle.vbi_field.proofs.Entries.{no_joint}
