@@ -45,7 +45,7 @@ abbrev pub IsEndOf : List LdvbiReading → ℕ → Type 0
 IsEndOf (line_16 ∷ line_17 ∷ line_18 ∷ []) answer = answer ≡ end_of (shown_by line_17) (shown_by line_18)
 IsEndOf other answer = ⊥
 
--- each field is answered by its three lines as this says: of a believed stop holds what the crate `vbi_side` says of
+-- each field is answered by its three lines as this says; of a believed stop holds what the crate `vbi_side` says of
 -- it, whatever the disc has
 pub record AreAnswered (IsOf : List LdvbiReading → ℕ → Type 0) (readings : List LdvbiFieldReadings) (answers : List ℕ)
     : Type 0 where

@@ -9,7 +9,7 @@ ghost use Rattle.vbi_c.specs.Judging.{IsAskedPace, one_judging_of, IsJudgedField
 ghost use Rattle.vbi_c.specs.Numbers.{system_of, counted_of, pace_for_c};
 ghost use Rattle.vbi_c.specs.Statuses.{Answers};
 
-use crate::numbers::{asked_of, counted_of, given_of, pace_for_c, system_of};
+use crate::numbers::{asked_of, counted_of, pace_for_c, pace_given, system_of};
 use crate::reading::{LdvbiFieldReadings, LdvbiReading};
 use crate::status::{DONE, Refusal, Settled, answer, refuse_unless};
 pub(crate) use vbi_seek::{Asked, Judging, pace_for};
@@ -162,7 +162,8 @@ fn one_judging_of(
     ensures { result ≡ one_judging_of system counted pace count field }
 {
     let system = with_lengths(system, count <= PART && field < count)?;
-    with_pace(system, counted, given_of(pace))
+    // A few fields have no pace of their own, so it has to be given.
+    with_pace(system, counted, pace_given(pace).map(Asked::Given))
 }
 
 /// The answer for one of at most 97 fields.

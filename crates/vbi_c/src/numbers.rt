@@ -2,8 +2,8 @@
 
 ghost use Rattle.std.specs.Prelude.{◌≡◌, ◌≤◌, IfOk};
 ghost use Rattle.vbi_words.specs.Words.{IsWordOrNone};
-ghost use Rattle.vbi_c.specs.Numbers.{system_of, counted_of, asked_of, given_of, pace_given, spacing_given};
-ghost use Rattle.vbi_c.specs.Numbers.{both_by, clock_given, word_or_none, pace_for_c, sought_pace, clock_for_c};
+ghost use Rattle.vbi_c.specs.Numbers.{system_of, counted_of, asked_of, pace_given, spacing_given};
+ghost use Rattle.vbi_c.specs.Numbers.{both_by, clock_given, word_or_none, pace_for_c, clock_for_c};
 ghost use Rattle.vbi_c.specs.Numbers.{code_for_c, format_for_c, rule_for_c, verdict_for_c, reason, reasons_for_c};
 
 use crate::status::{Refusal, Settled};
@@ -45,13 +45,6 @@ pub(crate) fn asked_of(number: u32) -> Option<Asked>
         3 => Some(Asked::Found),
         _ => None,
     }
-}
-
-/// The pace that is given, by its number: 1 for that of video, 2 for that of film.
-pub(crate) fn given_of(number: u32) -> Option<Asked>
-    ensures { result ≡ given_of number }
-{
-    pace_given(number).map(Asked::Given)
 }
 
 /// The pace of this number.
@@ -154,13 +147,6 @@ pub(crate) fn pace_for_c(pace: Pace) -> u32
         Pace::Video => 1,
         Pace::Film => 2,
     }
-}
-
-/// The pace of a number that was sought, as C sees it: 0 if none was found.
-pub(crate) fn sought_pace(pace: Option<Pace>) -> u32
-    ensures { result ≡ sought_pace pace }
-{
-    pace.map_or(0, pace_for_c)
 }
 
 /// What a word says: its kind, and the numbers that go with it.

@@ -26,9 +26,9 @@ pub struct LdvbiNear {
     pub start: u32,
     /// How far the samples are from those of the word's drawn row, in sum.
     pub distance: u64,
-    /// The same of the nearest drawn row of another word, or of none.
+    /// How far they are from the nearest drawn row of another word, or of none.
     pub rival: u64,
-    /// The same of the nearest drawn row on which the word goes on by one cell; the distance if there is no word.
+    /// How far they are from the nearest drawn row on which the word goes on by one cell; the distance if there is none.
     pub longer: u64,
 }
 
@@ -83,7 +83,7 @@ fn is_list_of(line: u32, count: usize, list: &[LdvbiErased]) -> bool
     is_taken(count, list) && are_of_line(line, list)
 }
 
-/// The setup of a call with this many bytes, of lines that all have this number, whose dropouts are known, by 1, or
+/// The setup of a call with this many bytes, of lines that all have this number, and whose dropouts are known, by 1, or
 /// not, by 0; or why the call is refused.
 fn pile_setup(
     system: u32,

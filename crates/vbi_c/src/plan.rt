@@ -16,8 +16,8 @@ pub struct LdvbiChecked {
     /// The first stretch that isn't as it should be, counted from 0; as many as there are if each is.
     pub stretch: usize,
     /// The rule that it breaks: 1 if it has no field, fewer than numbers, or a number before that of an earlier
-    /// stretch, 2 if it takes fields that its capture hasn't, 3 a field that was taken before, 4 if a number that it
-    /// shows is out of its place, 5 if padding stands for a number that a capture has; else 0.
+    /// stretch, 2 if it takes fields that its capture hasn't, 3 if it takes one that was taken before, 4 if a number
+    /// that it shows is out of its place, 5 if padding stands for a number that a capture has; else 0.
     pub rule: u32,
 }
 
@@ -39,16 +39,11 @@ fn layout_of(spacing: u32, clock: &LdvbiClock, begin: usize, end: u32) -> Settle
 fn checked_for_c(stretches: usize, fault: Option<PlanFault>) -> LdvbiChecked
     ensures { result ≡ checked_for_c stretches fault }
 {
-    match fault {
-        Some(PlanFault { stretch, rule }) => LdvbiChecked {
-            stretch,
-            rule: rule_for_c(rule),
-        },
-        None => LdvbiChecked {
-            stretch: stretches,
-            rule: 0,
-        },
-    }
+    let (stretch, rule) = match fault {
+        Some(fault) => (fault.stretch, rule_for_c(fault.rule)),
+        None => (stretches, 0),
+    };
+    LdvbiChecked { stretch, rule }
 }
 
 /// Whether the plan of a file is done, or which of its stretches breaks which rule: by the numbers of all captures, one

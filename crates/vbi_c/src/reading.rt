@@ -38,33 +38,22 @@ pub struct LdvbiFieldReadings {
     pub lines: [LdvbiReading; 3],
 }
 
-/// A line without a word.
-fn wordless(cause: u8, pass: u8, column: u16) -> LdvbiReading
-    ensures { result ≡ record { cause = cause; pass = pass; column = column; word = 0 } }
-{
-    LdvbiReading {
-        cause,
-        pass,
-        column,
-        word: 0,
-    }
-}
-
 /// An outcome with the pass of its reading, as C sees them.
 pub(crate) fn outcome_for_c(outcome: Outcome, pass: u8) -> LdvbiReading
     ensures { result ≡ outcome_for_c outcome pass }
 {
-    match outcome {
-        Outcome::Word(word) => LdvbiReading {
-            cause: 0,
-            pass,
-            column: 0,
-            word: word.value(),
-        },
-        Outcome::Blank => wordless(1, pass, 0),
-        Outcome::Unfinished => wordless(2, pass, 0),
-        Outcome::Change(column) => wordless(3, pass, column),
-        Outcome::Hold(column) => wordless(4, pass, column),
+    let (cause, column, word) = match outcome {
+        Outcome::Word(word) => (0, 0, word.value()),
+        Outcome::Blank => (1, 0, 0),
+        Outcome::Unfinished => (2, 0, 0),
+        Outcome::Change(column) => (3, column, 0),
+        Outcome::Hold(column) => (4, column, 0),
+    };
+    LdvbiReading {
+        cause,
+        pass,
+        column,
+        word,
     }
 }
 

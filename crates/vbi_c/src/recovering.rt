@@ -1,5 +1,4 @@
-//! Reading fields with the nearest words of worn lines, and the record that the document with recovered words has of
-//! one.
+//! Reading fields with the nearest words of worn lines, and the record of one in the document with recovered words.
 
 ghost use Rattle.std.specs.Prelude.{◌≡◌, ◌*◌, ◌<◌, ◌≤◌, ◌++◌, length, drop, IsTrue};
 ghost use Rattle.vbi_words.specs.Geometry.{line_bytes, field_bytes, width_of};

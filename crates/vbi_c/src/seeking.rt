@@ -14,7 +14,7 @@ ghost use Rattle.vbi_c.specs.Setups.{setup_of};
 ghost use Rattle.vbi_c.specs.Statuses.{Answers};
 
 use crate::judging::with_pace;
-use crate::numbers::{asked_of, sought_pace};
+use crate::numbers::{asked_of, pace_for_c};
 use crate::setup::setup_of;
 use crate::status::{DONE, Settled, answer};
 use vbi_seek::{FoundField, Neighbour, Seek, Sought, next_stop, seek_chapter, seek_number};
@@ -54,7 +54,7 @@ fn sought_for_c(sought: Sought) -> LdvbiSought
     LdvbiSought {
         field: sought.field,
         number: sought.number,
-        pace: sought_pace(sought.pace),
+        pace: sought.pace.map_or(0, pace_for_c),
         looked: sought.looked,
         before: sought.before,
         after: sought.after,
