@@ -91,14 +91,6 @@ fn read_three(setup: &Setup, bytes: &[u8], first: usize) -> LdvbiFieldReadings
     }
 }
 
-/// The readings of a field's lines 16, 17 and 18.
-fn read_whole(setup: &Setup, field: &[u8]) -> LdvbiFieldReadings
-    requires { length field.now ≡ field_bytes setup.now.system }
-    ensures { result ≡ field_reading setup.now field.now }
-{
-    read_three(setup, field, FIRST_ROW)
-}
-
 /// Puts the readings of each of a stream's fields, which are whole, into its place.
 fn read_all(setup: &Setup, stream: &[u8], readings: &mut [LdvbiFieldReadings])
     requires { length stream.now ≡ length readings.old * field_bytes setup.now.system }
@@ -106,7 +98,7 @@ fn read_all(setup: &Setup, stream: &[u8], readings: &mut [LdvbiFieldReadings])
 {
     let size = setup.system.field_bytes();
     for i in 0..readings.len() {
-        readings[i] = read_whole(setup, &stream[size * i..size * i + size]);
+        readings[i] = read_three(setup, &stream[size * i..size * i + size], FIRST_ROW);
     }
 }
 
@@ -157,7 +149,10 @@ pub extern "C" fn ldvbi_read_field(
         (λ setup. readings.new ≡ field_reading setup bytes.now) (readings.new ≡ readings.old) }
 {
     let setup = fields_setup(system, black, white, bytes.len(), 1);
-    answer(setup.map(|setup| read_whole(&setup, bytes)), readings)
+    answer(
+        setup.map(|setup| read_three(&setup, bytes, FIRST_ROW)),
+        readings,
+    )
 }
 
 /// The readings of lines 16, 17 and 18 of each field of a stream, which has as many whole fields as there is room for

@@ -102,13 +102,6 @@ fn siding_with(rule: &LdvbiSideRule, clock: Option<Clock>, fit: bool) -> Settled
     })
 }
 
-/// What a rule asks for, if the lengths of the arrays fit, or why it is refused.
-fn siding_by(rule: &LdvbiSideRule, fit: bool) -> Settled<Siding>
-    ensures { result ≡ siding_by rule.now fit }
-{
-    siding_with(rule, clock_given(&rule.clock), fit)
-}
-
 /// Whether the believed numbers of a side show that its disc has them on both fields of a picture: 1 if they do, else
 /// 0.
 #[unsafe(no_mangle)]
@@ -184,7 +177,7 @@ pub extern "C" fn ldvbi_judge_side(
         (may_end_by may_end) found gaps.old gaps.new × (side.new ≡ side_for_c found)) ((gaps.new ≡ gaps.old) × (side.new ≡ side.old)) }
 {
     let fit = are_as_long(seen.len(), numbers.len(), ends.len());
-    match siding_by(rule, fit) {
+    match siding_with(rule, clock_given(&rule.clock), fit) {
         Ok(siding) => {
             let judged = Side {
                 rule: siding.rule(rule.both, numbers),
@@ -216,7 +209,8 @@ pub extern "C" fn ldvbi_set_aside(
         gaps.now numbers.now left.new × (count.new ≡ count_of 1 numbers.now - count_of 1 left.new))
         ((left.new ≡ left.old) × (count.new ≡ count.old)) }
 {
-    match siding_by(rule, left.len() == numbers.len()) {
+    let fit = left.len() == numbers.len();
+    match siding_with(rule, clock_given(&rule.clock), fit) {
         Ok(siding) => {
             *count = set_aside(gaps, numbers, siding.rule(rule.both, numbers), left);
             DONE

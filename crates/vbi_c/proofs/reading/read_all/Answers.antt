@@ -15,9 +15,9 @@ loop-i-preserved c =
     let cut : take (size * i + size - size * i) (drop (size * i) stream) ≡ field_in setup.system stream i
     = ap (λ (n : ℕ). take n (drop (size * i) stream)) one
     ∙ ap (λ (n : ℕ). take n (drop (n * i) stream)) c.field_bytes-size.ensures in
-    let here : c.read_whole.result ≡ field_reading setup (field_in setup.system stream i)
-    = c.read_whole.ensures ∙ ap (field_reading setup) cut in
-    take_more_set c.loop-i.readings i c.read_whole.result (omega arith)
-    ∙ ap (λ (l : List LdvbiFieldReadings). l ++ c.read_whole.result ∷ []) c.loop-i.invariant
+    let here : c.read_three.result ≡ field_reading setup (field_in setup.system stream i)
+    = c.read_three.ensures ∙ ap (field_reading setup) cut in
+    take_more_set c.loop-i.readings i c.read_three.result (omega arith)
+    ∙ ap (λ (l : List LdvbiFieldReadings). l ++ c.read_three.result ∷ []) c.loop-i.invariant
     ∙ ap (λ (r : LdvbiFieldReadings). fields_reading setup stream i ++ r ∷ []) here
     ∙ sym (map-range_with_len_more (λ j. field_reading setup (field_in setup.system stream j)) 0 i i (zero-add i))
