@@ -53,7 +53,7 @@ RELATIONS: Dict[Key, Tuple[Key, str]] = {
     ("vbi_words", "Smooth", "smooth_of"): (("vbi_words", "Smooth", "IsSmooth"), "one_smooth"),
 }
 HEAD = re.compile(r"(?:abbrev pub|unfoldable pub|pub record|pub data|record|data|abbrev|unfoldable|pub) (\S+)(?= )")
-IMPORT = re.compile(r"(?:ghost |pub )?use (\S+?)(?:\.\{(.*)\}|\.?([^.\s;{}]+)(?: as ([^\s;]+))?);?$")
+IMPORT = re.compile(r"(?:ghost |(?:unfoldable )?pub )?use (\S+?)(?:\.\{(.*)\}|\.?([^.\s;{}]+)(?: as ([^\s;]+))?);?$")
 OWN = re.compile(r"Rattle\.(vbi_\w+)\.specs\.(?!declared$)(\w+)$")
 
 
@@ -105,7 +105,8 @@ class Module:
 
     def take_import(self, place: str, several: Optional[str], one: Optional[str], other: Optional[str]) -> None:
         for name, _, renamed in (part.strip().partition(" as ") for part in (several or "").split(",")):
-            self.names[renamed or name] = (place, name)
+            inner, _, last = name.rpartition(".")
+            self.names[renamed or last] = ("%s.%s" % (place, inner) if inner else place, last)
         if one:
             self.modules[other or one] = "%s.%s" % (place, one)
 

@@ -1,10 +1,8 @@
 -- By how much the samples of lines are nearer to a word that they say than to what may have been recorded.
 use Rattle.std.specs.Prelude.{◌≢◌, ◌≤◌, ◌⊎◌, ℕ, ◌+◌, ◌*◌, Some}
-use Rattle.vbi_near.specs.declared.margins.Margins.{Margins}
-use Rattle.vbi_near.specs.Common.{IsPlace, unit_of}
 use Rattle.vbi_near.specs.LineCodes.{codes_of, IsCodePlace}
-use Rattle.vbi_near.specs.Nearest.{far_from}
 use Rattle.vbi_near.specs.Candidates.{Row, Line, Lines, given_line, levelled_line, given_pair, levelled_pair}
+use Rattle.vbi_near.specs.{declared.margins.Margins.Margins, Common.IsPlace, Common.unit_of, Nearest.far_from}
 
 -- a drawn row of this word is nearer to the lines, by so many columns, than one of any other code that may stand on a
 -- line of their number, wherever that begins

@@ -1,12 +1,8 @@
 -- The best of some choices, and how much more the next one costs.
 use Rattle.std.specs.Prelude.{◌≡◌, ◌≢◌, ◌≤◌, ◌<◌, ◌⊎◌, ℕ, suc, ◌+◌, ◌^◌, Bool, true, false, min, Some, None, List}
 use Rattle.std.specs.Prelude.{slice_index_or}
-use Rattle.vbi_near.specs.Common.{IsWord}
-use Rattle.vbi_near.specs.declared.bits.Bits.{Bits}
-use Rattle.vbi_near.specs.declared.word_search.Found.{Found}
-use Rattle.vbi_near.specs.declared.near.Near.{Near}
-use Rattle.vbi_near.specs.Costs.{bits_cost}
-use Rattle.vbi_near.specs.Nearest.{IsBefore}
+use Rattle.vbi_near.specs.{Common.IsWord, declared.bits.Bits.Bits, declared.word_search.Found.Found}
+use Rattle.vbi_near.specs.{declared.near.Near.Near, Costs.bits_cost, Nearest.IsBefore}
 
 -- a number of n bits after a one
 abbrev pub IsBits : ℕ → ℕ → Type 0
@@ -76,22 +72,30 @@ abbrev pub AreBounds : (ℕ → ℕ → ℕ) → ℕ → List ℕ → Type 0
 AreBounds distance high bounds = (start word : ℕ) → start < high → IsWord word
     → slice_index_or bounds start 0 ≤ distance start word
 
+-- no word, with the distance of the row of none, and of the nearest other one
+abbrev pub no_word : ℕ → ℕ → Near
+no_word distance rival = record {
+  word = None;
+  start = 0;
+  distance = distance;
+  rival = rival;
+  longer = distance;
+  shorter = distance;
+}
+
+-- the word found, with the distances of the nearest other row, of longer rows and of shorter ones
+abbrev pub word_found : Found → ℕ → ℕ → ℕ → Near
+word_found found rival longer shorter = record {
+  word = Some found.word;
+  start = found.start;
+  distance = found.distance;
+  rival = rival;
+  longer = longer;
+  shorter = shorter;
+}
+
 -- the nearer of the nearest word and of none
 abbrev pub IsChosen : Found → ℕ → ℕ → ℕ → Near → Type 0
 IsChosen found longer shorter blank near =
-    ((blank ≤ found.distance) × (near ≡ record {
-      word = None;
-      start = 0;
-      distance = blank;
-      rival = found.distance;
-      longer = blank;
-      shorter = blank;
-    }))
-    ⊎ ((found.distance < blank) × (near ≡ record {
-      word = Some found.word;
-      start = found.start;
-      distance = found.distance;
-      rival = min found.rival blank;
-      longer = longer;
-      shorter = shorter;
-    }))
+    ((blank ≤ found.distance) × (near ≡ no_word blank found.distance))
+    ⊎ ((found.distance < blank) × (near ≡ word_found found (min found.rival blank) longer shorter))

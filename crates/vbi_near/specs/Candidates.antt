@@ -2,12 +2,10 @@
 use Rattle.std.specs.Prelude.{◌≡◌, ℕ, ◌*◌, ◌&&◌, Bool, true, false, nat_le, List, [], ◌∷◌, Option, Some, None, take}
 use Rattle.std.specs.Prelude.{drop}
 use Rattle.vbi_near.specs.Common.{System, width_of, Slicing, samples_of, Samples, unit_of, known_but}
-use Rattle.vbi_near.specs.declared.near.Nears.{Nears}
 use Rattle.vbi_near.specs.Nearest.{IsNearest, IsFirst, IsNearestCode, IsFirstCode, far_from}
-use Rattle.vbi_near.specs.LongerSignal.{IsLonger}
-use Rattle.vbi_near.specs.ShorterSignal.{IsShorter}
 use Rattle.vbi_near.specs.HalvedSignal.{IsHalved}
 use Rattle.vbi_near.specs.LevelledLines.{filled, swing_of, is_swing, levelled, levelled_slicing}
+use Rattle.vbi_near.specs.{declared.near.Nears.Nears, LongerSignal.IsLonger, ShorterSignal.IsShorter}
 
 -- ---- nearest words
 

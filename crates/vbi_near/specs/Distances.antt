@@ -3,11 +3,9 @@
 -- leaves there.
 use Rattle.std.specs.Prelude.{◌≡◌, ◌≤◌, ◌<◌, ℕ, suc, ◌+◌, ◌-◌, ◌*◌, ◌/◌, min, Bool, true, false, List, [], ◌∷◌, length}
 use Rattle.std.specs.Prelude.{map, slice_index_or, Option, Some, None}
-use Rattle.std.specs.List.{All, range_with_len}
-use Rattle.std.specs.Int.{abs_diff}
-use Rattle.vbi_words.specs.declared.system.System.{System}
-use Rattle.vbi_words.specs.Geometry.{width_of, line_at}
+use Rattle.std.specs.{List.All, List.range_with_len, Int.abs_diff}
 use Rattle.vbi_words.specs.Levels.{Slicing, samples_of}
+use Rattle.vbi_words.specs.{declared.system.System.System, Geometry.width_of, Geometry.line_at}
 use Rattle.vbi_near.specs.Pictures.{sample_of}
 
 -- the samples of a line, of which none is known if it is erased

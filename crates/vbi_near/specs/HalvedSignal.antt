@@ -2,11 +2,8 @@
 use Rattle.std.specs.Prelude.{◌≡◌, ℕ, ◌+◌, ◌-◌, Bool, true, false, List, min, Option, Some, None}
 use Rattle.vbi_near.specs.Common.{System, width_of, Slicing, word_length, drawn_as, Samples, most_of, distance_of}
 use Rattle.vbi_near.specs.Common.{Shades}
-use Rattle.vbi_near.specs.declared.near.Near.{Near}
-use Rattle.vbi_near.specs.Sums.{span}
-use Rattle.vbi_near.specs.Costs.{half_cost}
-use Rattle.vbi_near.specs.StretchedCells.{halves_cost}
 use Rattle.vbi_near.specs.ShorterSignal.{begun_later, ended_earlier, row_of_halves}
+use Rattle.vbi_near.specs.{declared.near.Near.Near, Sums.span, Costs.half_cost, StretchedCells.halves_cost}
 
 -- the half cells of a word of which the first twelve cells are black, or the last
 abbrev pub half_of : Bool → ℕ → List Bool

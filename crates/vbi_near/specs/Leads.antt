@@ -1,15 +1,11 @@
 -- The nearest code by sums: digit by digit, range by range and start by start. The word 0 stands for none.
-use Rattle.std.specs.Prelude.{◌≡◌, ◌≢◌, ◌≤◌, ◌<◌, ◌⊎◌, ℕ, zero, suc, ◌+◌, ◌*◌, ◌/◌, ◌%◌, ◌^◌, Some, None, Bool, false}
+use Rattle.std.specs.Prelude.{◌≡◌, ◌≢◌, ◌≤◌, ◌<◌, ◌⊎◌, ℕ, zero, suc, ◌+◌, ◌*◌, ◌/◌, ◌%◌, ◌^◌, Bool, false}
 use Rattle.std.specs.Prelude.{List, [], ◌∷◌, nat_eq, slice_index_or}
 use Rattle.vbi_near.specs.Common.{System, width_of, Shades, IsWord, starts}
-use Rattle.vbi_near.specs.declared.bits.Bits.{Bits}
-use Rattle.vbi_near.specs.declared.codes.Choice.{Choice}
-use Rattle.vbi_near.specs.declared.word_search.Found.{Found}
-use Rattle.vbi_near.specs.declared.near.Near.{Near}
-use Rattle.vbi_near.specs.Sums.{span}
-use Rattle.vbi_near.specs.Costs.{place_cost}
 use Rattle.vbi_near.specs.LineCodes.{Range, IsIn, IsOneOf}
-use Rattle.vbi_near.specs.Nearest.{IsBefore}
+use Rattle.vbi_near.specs.{declared.bits.Bits.Bits, declared.codes.Choice.Choice, declared.word_search.Found.Found}
+use Rattle.vbi_near.specs.{declared.near.Near.Near, Sums.span, Costs.place_cost, Nearest.IsBefore, Best.no_word}
+use Rattle.vbi_near.specs.{Best.word_found}
 
 -- ---- digits
 
@@ -137,19 +133,5 @@ IsClose lead = (lead.distance ≤ lead.rival) × (lead.distance < 2 ^ 31) × (le
 -- the code found, or none
 abbrev pub IsCodeChosen : Found → ℕ → ℕ → Near → Type 0
 IsCodeChosen found longer shorter near =
-    ((found.word ≡ 0) × (near ≡ record {
-      word = None;
-      start = 0;
-      distance = found.distance;
-      rival = found.rival;
-      longer = found.distance;
-      shorter = found.distance;
-    }))
-    ⊎ ((0 < found.word) × (near ≡ record {
-      word = Some found.word;
-      start = found.start;
-      distance = found.distance;
-      rival = found.rival;
-      longer = longer;
-      shorter = shorter;
-    }))
+    ((found.word ≡ 0) × (near ≡ no_word found.distance found.rival))
+    ⊎ ((0 < found.word) × (near ≡ word_found found found.rival longer shorter))

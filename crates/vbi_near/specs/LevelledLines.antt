@@ -4,8 +4,7 @@
 -- multiplied by the columns of the window.
 use Rattle.std.specs.Prelude.{◌≡◌, ◌≤◌, ◌<◌, ℕ, ◌+◌, ◌-◌, ◌*◌, ◌/◌, ◌&&◌, min, max, nat_le, if◌then◌else◌, Bool, true}
 use Rattle.std.specs.Prelude.{false, List, [], ◌∷◌, length, map, take, drop, slice_index}
-use Rattle.std.specs.List.{sum, range_with_len}
-use Rattle.std.specs.Int.{abs_diff}
+use Rattle.std.specs.{List.sum, List.range_with_len, Int.abs_diff}
 use Rattle.vbi_near.specs.Common.{System, Ntsc, Pal, width_of, Slicing, unit_of}
 
 -- ---- the running mean

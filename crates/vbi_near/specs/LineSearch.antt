@@ -1,11 +1,8 @@
 -- The nearest word of some lines, before their nearest code is sought.
 use Rattle.std.specs.Prelude.{◌≡◌, List, None}
 use Rattle.vbi_near.specs.Common.{System, Slicing, IsPlace, Samples, Shades}
-use Rattle.vbi_near.specs.declared.word_rule.Nearest.{Nearest}
-use Rattle.vbi_near.specs.declared.line_search.Sought.{Sought}
-use Rattle.vbi_near.specs.Nearest.{far_from}
-use Rattle.vbi_near.specs.HalvedSignal.{IsHalved}
-use Rattle.vbi_near.specs.Rows.{IsRowOf, IsNearWord}
+use Rattle.vbi_near.specs.{declared.word_rule.Nearest.Nearest, declared.line_search.Sought.Sought, Nearest.far_from}
+use Rattle.vbi_near.specs.{HalvedSignal.IsHalved, Rows.IsRowOf, Rows.IsNearWord}
 
 -- the nearest word of some lines, how far they are from the row of no word, and from the nearer row of half of it
 pub record HasWord (system : System) (slicing : Slicing) (lines : List Samples) (word : Nearest) : Type 0 where

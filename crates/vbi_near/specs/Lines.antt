@@ -1,9 +1,8 @@
 -- Lines as the definitions of candidates have them.
 use Rattle.std.specs.Prelude.{ℕ, List}
-use Rattle.vbi_near.specs.declared.lines.Line.{Line}
-use Rattle.vbi_near.specs.declared.lines.Rows.{Rows}
-use Rattle.vbi_near.specs.Candidates as candidates
 use Rattle.vbi_near.specs.Candidates.{Row, row_of, line_of}
+use Rattle.vbi_near.specs.{declared.lines.Line.Line, declared.lines.Rows.Rows}
+use Rattle.vbi_near.specs.Candidates as candidates
 use Rattle.vbi_near.specs.PileRule as piled
 
 -- the bytes of a line, and which of its columns are erased

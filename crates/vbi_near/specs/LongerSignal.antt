@@ -2,10 +2,7 @@
 use Rattle.std.specs.Prelude.{◌≡◌, ◌≤◌, ◌⊎◌, ℕ, ◌+◌, ◌-◌, Bool, false, List, ◌++◌, replicate, Option, Some, None}
 use Rattle.vbi_near.specs.Common.{System, width_of, Slicing, cell_of, halves_of, half_length, word_length, drawn_halves}
 use Rattle.vbi_near.specs.Common.{drawn_as, Samples, most_of, distance_of, Shades}
-use Rattle.vbi_near.specs.declared.word_search.Found.{Found}
-use Rattle.vbi_near.specs.declared.near.Near.{Near}
-use Rattle.vbi_near.specs.Sums.{total_in}
-use Rattle.vbi_near.specs.Costs.{cell_cost}
+use Rattle.vbi_near.specs.{declared.word_search.Found.Found, declared.near.Near.Near, Sums.total_in, Costs.cell_cost}
 
 -- the columns of one cell more: those of a word's first
 abbrev pub cell_length : System → ℕ

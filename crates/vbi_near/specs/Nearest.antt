@@ -1,8 +1,7 @@
 -- The nearest word of some lines.
 use Rattle.std.specs.Prelude.{◌≡◌, ◌≢◌, ◌≤◌, ◌<◌, ◌⊎◌, ℕ, List, Option, Some, None}
 use Rattle.vbi_near.specs.Common.{System, Slicing, IsPlace, picture_of, drawn_as, Samples, most_of, distance_of}
-use Rattle.vbi_near.specs.declared.near.Near.{Near}
-use Rattle.vbi_near.specs.LineCodes.{codes_of, IsCodePlace}
+use Rattle.vbi_near.specs.{declared.near.Near.Near, LineCodes.codes_of, LineCodes.IsCodePlace}
 
 -- of all drawn rows at these places, of words or of none, that of this word at this start has the least distance, and
 -- `rival` is the least distance of a drawn row of another word, or of none

@@ -1,11 +1,9 @@
 -- The nearest words of lines 17 and 18, and what these say.
 use Rattle.std.specs.Prelude.{◌≡◌, ℕ, Option}
-use Rattle.vbi_near.specs.declared.margins.MarginSet.{MarginSet}
-use Rattle.vbi_near.specs.declared.pair_rule.Asked.{Asked}
-use Rattle.vbi_near.specs.declared.word_rule.PairNears.{PairNears}
-use Rattle.vbi_near.specs.WordRule.{said_in, stand_of}
 use Rattle.vbi_near.specs.Candidates.{Line, HasNearIf, given_line, given_pair, levelled_line, levelled_pair, has_swing}
 use Rattle.vbi_near.specs.Candidates.{are_alike}
+use Rattle.vbi_near.specs.{declared.margins.MarginSet.MarginSet, declared.pair_rule.Asked.Asked}
+use Rattle.vbi_near.specs.{declared.word_rule.PairNears.PairNears, WordRule.said_in, WordRule.stand_of}
 
 -- the nearest words of line 17, of line 18 and of both together, each if there may be such
 pub record HaveNear (line other : Line) (asked : Asked) (near : PairNears) : Type 0 where

@@ -3,11 +3,10 @@
 use Rattle.std.specs.Prelude.{◌≡◌, ℕ, Bool, if◌then◌else◌, List, length, map, Option, Some}
 use Rattle.std.specs.List.{list_all, range_with_len}
 use Rattle.vbi_near.specs.Common.{System, line_at, Slicing, unit_of}
-use Rattle.vbi_near.specs.declared.margins.Margins.{Margins}
-use Rattle.vbi_near.specs.WordRule.{recovered_by, first_said}
 use Rattle.vbi_near.specs.Candidates.{Row, row_of, given_samples, levelled_samples, swing_in, are_alike_by, Candidates}
 use Rattle.vbi_near.specs.Candidates.{HasNear, HasNearIf, marks_at, some_lines}
 use Rattle.vbi_near.specs.LevelledLines.{levelled_unit, levelled_slicing}
+use Rattle.vbi_near.specs.{declared.margins.Margins.Margins, WordRule.recovered_by, WordRule.first_said}
 
 -- ---- the rule
 

@@ -1,8 +1,7 @@
 -- What words cost by their digits, and ranges of words as the program has them.
 use Rattle.std.specs.Prelude.{ℕ, List, map, slice_index_or}
-use Rattle.vbi_near.specs.declared.prices.Prices.{Prices}
 use Rattle.vbi_near.specs.LineCodes.{Range, range, IsRange}
-use Rattle.vbi_near.specs.Leads.{ArePriced}
+use Rattle.vbi_near.specs.{declared.prices.Prices.Prices, Leads.ArePriced}
 
 -- words that begin where these prices hold cost as much as they say
 abbrev pub IsPricedBy : (ℕ → ℕ → ℕ) → Prices → Type 0

@@ -4,16 +4,12 @@ use Rattle.std.specs.Prelude.{◌≡◌, ℕ, ◌+◌, ◌*◌, ◌==◌, ◌&&�
 use Rattle.std.specs.Prelude.{nat_le, IsTrue, Option, Some, None, if◌then◌else◌}
 use Rattle.vbi_near.specs.Common.{System, Outcome, Word, Blank, Reading, width_of, line_at, Slicing, row_levels}
 use Rattle.vbi_near.specs.Common.{reading_of, outcome_of, unit_of}
-use Rattle.vbi_near.specs.declared.recovery.Recovered.{Recovered}
-use Rattle.vbi_near.specs.declared.near.Near.{Near}
-use Rattle.vbi_near.specs.declared.word_rule.PairNears.{PairNears}
-use Rattle.vbi_near.specs.declared.word_rule.Stand.{Stand}
-use Rattle.vbi_near.specs.declared.word_rule.Stand.TheVariants.{Alone}
-use Rattle.vbi_near.specs.Margins.{levelled_margins, given_margins}
 use Rattle.vbi_near.specs.WordRule.{said_if, recovered_by, first_said, is_said, stand_of, said_in}
 use Rattle.vbi_near.specs.Candidates.{Candidates, Row, Line, row_of, line_of, marks_at, given_samples, AreOf, AreOfBoth}
-use Rattle.vbi_near.specs.LevelledLines.{levelled_unit}
-use Rattle.vbi_near.specs.StretchedCells.{IsStretched}
+use Rattle.vbi_near.specs.{declared.recovery.Recovered.Recovered, declared.near.Near.Near}
+use Rattle.vbi_near.specs.{declared.word_rule.PairNears.PairNears, declared.word_rule.Stand.Stand}
+use Rattle.vbi_near.specs.{declared.word_rule.Stand.TheVariants.Alone, Margins.levelled_margins, Margins.given_margins}
+use Rattle.vbi_near.specs.{LevelledLines.levelled_unit, StretchedCells.IsStretched}
 
 -- ---- one line
 

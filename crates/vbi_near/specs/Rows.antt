@@ -1,15 +1,10 @@
 -- What a row costs by its sums.
 use Rattle.std.specs.Prelude.{ℕ, ◌+◌, ◌-◌, Bool, false, List, Option}
 use Rattle.vbi_near.specs.Common.{System, width_of, Slicing, word_length, IsPlace, Samples, Shades, shades, IsPile}
-use Rattle.vbi_near.specs.declared.sums.Sums.{Sums}
-use Rattle.vbi_near.specs.declared.near.Near.{Near}
-use Rattle.vbi_near.specs.Sums.{AreBoth, span}
 use Rattle.vbi_near.specs.Nearest.{IsNearestBy, IsFirstBy, far_from}
-use Rattle.vbi_near.specs.LineCodes.{codes_of, IsCodePlace}
-use Rattle.vbi_near.specs.LongerSignal.{IsLonger}
-use Rattle.vbi_near.specs.ShorterSignal.{IsShorter}
-use Rattle.vbi_near.specs.Costs.{cell_cost, place_cost}
-use Rattle.vbi_near.specs.Leads.{code_cost}
+use Rattle.vbi_near.specs.{declared.sums.Sums.Sums, declared.near.Near.Near, Sums.AreBoth, Sums.span}
+use Rattle.vbi_near.specs.{LineCodes.codes_of, LineCodes.IsCodePlace, LongerSignal.IsLonger, ShorterSignal.IsShorter}
+use Rattle.vbi_near.specs.{Costs.cell_cost, Costs.place_cost, Leads.code_cost}
 
 abbrev pub shades_of : Sums → Shades
 shades_of sums = shades sums.dark.now sums.light.now

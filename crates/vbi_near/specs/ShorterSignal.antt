@@ -4,10 +4,8 @@ use Rattle.std.specs.Prelude.{nat_eq}
 use Rattle.std.specs.Int.{bit_at}
 use Rattle.vbi_near.specs.Common.{System, width_of, Slicing, halves_of, word_length, drawn_halves, drawn_as, Samples}
 use Rattle.vbi_near.specs.Common.{most_of, distance_of, Shades}
-use Rattle.vbi_near.specs.declared.word_search.Found.{Found}
-use Rattle.vbi_near.specs.declared.near.Near.{Near}
 use Rattle.vbi_near.specs.Costs.{half_cost, cell_cost}
-use Rattle.vbi_near.specs.LongerSignal.{HasLeastRow}
+use Rattle.vbi_near.specs.{declared.word_search.Found.Found, declared.near.Near.Near, LongerSignal.HasLeastRow}
 
 -- the half cells of a word of which the first n are low, and of which the last n are
 abbrev pub begun_later : ℕ → ℕ → List Bool

@@ -3,17 +3,13 @@
 use Rattle.std.specs.Prelude.{◌≡◌, ◌≤◌, ◌<◌, ◌⊎◌, ℕ, ◌&&◌, Bool, false, IsTrue, is_some, nat_le, List, Option, Some}
 use Rattle.std.specs.Prelude.{None}
 use Rattle.vbi_near.specs.Common.{Slicing, Samples, Shades, unit_of}
-use Rattle.vbi_near.specs.declared.word_search.Found.{Found}
-use Rattle.vbi_near.specs.declared.near.Near.{Near}
-use Rattle.vbi_near.specs.declared.word_rule.Nearest.{Nearest}
-use Rattle.vbi_near.specs.declared.near.Nears.{Nears}
-use Rattle.vbi_near.specs.declared.margins.Margins.{Margins}
-use Rattle.vbi_near.specs.declared.sums.Sums.{Sums}
-use Rattle.vbi_near.specs.LineCodes.{codes_of, IsOneOf}
 use Rattle.vbi_near.specs.Leads.{Look, IsSeen, all_codes, IsLead, IsClose}
 use Rattle.vbi_near.specs.Rows.{word_cost_by, code_cost_by, IsRowOf, IsNearCode}
-use Rattle.vbi_near.specs.Candidates.{Lines, HasNear, HasNearIf}
 use Rattle.vbi_near.specs.WordRule.{is_ahead, is_clear, said_of, said_if}
+use Rattle.vbi_near.specs.{declared.word_search.Found.Found, declared.near.Near.Near}
+use Rattle.vbi_near.specs.{declared.word_rule.Nearest.Nearest, declared.near.Nears.Nears}
+use Rattle.vbi_near.specs.{declared.margins.Margins.Margins, declared.sums.Sums.Sums, LineCodes.codes_of}
+use Rattle.vbi_near.specs.{LineCodes.IsOneOf, Candidates.Lines, Candidates.HasNear, Candidates.HasNearIf}
 
 -- whatever nearest words this many lines have, they say none
 abbrev pub AreSilent : Margins → ℕ → Lines → Type 0

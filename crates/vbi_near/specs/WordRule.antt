@@ -5,16 +5,11 @@
 -- are off from each other in this many columns: `unit` is that of one column.
 use Rattle.std.specs.Prelude.{ℕ, ◌+◌, ◌*◌, ◌==◌, ◌&&◌, ◌||◌, Bool, false, not, is_some, nat_le, nat_lt, Option, Some}
 use Rattle.std.specs.Prelude.{None, if◌then◌else◌}
-use Rattle.vbi_near.specs.declared.near.Near.{Near}
-use Rattle.vbi_near.specs.declared.word_rule.Nearest.{Nearest}
-use Rattle.vbi_near.specs.declared.near.Nears.{Nears}
-use Rattle.vbi_near.specs.declared.margins.Margin.{Margin}
-use Rattle.vbi_near.specs.declared.margins.Margins.{Margins}
-use Rattle.vbi_near.specs.declared.margins.MarginSet.{MarginSet}
-use Rattle.vbi_near.specs.declared.word_rule.PairNears.{PairNears}
-use Rattle.vbi_near.specs.declared.word_rule.Stand.{Stand}
 use Rattle.vbi_near.specs.declared.word_rule.Stand.TheVariants.{Alone, Apart, Together}
-use Rattle.vbi_near.specs.LineCodes.{is_beyond_79999}
+use Rattle.vbi_near.specs.{declared.near.Near.Near, declared.word_rule.Nearest.Nearest, declared.near.Nears.Nears}
+use Rattle.vbi_near.specs.{declared.margins.Margin.Margin, declared.margins.Margins.Margins}
+use Rattle.vbi_near.specs.{declared.margins.MarginSet.MarginSet, declared.word_rule.PairNears.PairNears}
+use Rattle.vbi_near.specs.{declared.word_rule.Stand.Stand, LineCodes.is_beyond_79999}
 
 -- ---- what one or two lines say
 

@@ -2,15 +2,10 @@
 -- written down of levelled lines is in hundredths of theirs, too.
 use Rattle.std.specs.Prelude.{ℕ, ◌≡◌, ◌+◌, ◌*◌, ◌/◌, Bool, List, [], ◌∷◌, map, Option, Some, None}
 use Rattle.vbi_near.specs.Common.{Outcome, Word, Blank, Unfinished, Change}
-use Rattle.vbi_words.specs.Outcomes.{word_of}
-use Rattle.vbi_near.specs.declared.near.Near.{Near}
-use Rattle.vbi_near.specs.declared.near.Nears.{Nears}
-use Rattle.vbi_near.specs.declared.margins.Margins.{Margins}
-use Rattle.vbi_near.specs.LevelledLines.{levelled_unit}
-use Rattle.vbi_near.specs.WordRule.{said_of}
-use Rattle.vbi_near.specs.Candidates.{Candidates}
 use Rattle.vbi_near.specs.Recovery.{Seen, recovered_of}
-use Rattle.vbi_near.specs.PileRule.{said_together}
+use Rattle.vbi_near.specs.{declared.near.Near.Near, declared.near.Nears.Nears, declared.margins.Margins.Margins}
+use Rattle.vbi_near.specs.{LevelledLines.levelled_unit, WordRule.said_of, Candidates.Candidates, PileRule.said_together}
+use Rattle.vbi_words.specs.Outcomes.{word_of}
 
 -- a nearest word that is a code, and one that is none beside which no code is near; no word is farther by 20,000
 abbrev pub as_code : Near → Nears

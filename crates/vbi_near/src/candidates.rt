@@ -5,13 +5,10 @@
 
 ghost use Rattle.std.specs.Prelude.{◌≡◌, ◌∷◌, [], length, replicate, IsTrue};
 ghost use Rattle.vbi_near.specs.Common.{line_bytes, width_of, samples_of};
-ghost use Rattle.vbi_near.specs.Lines.{row_in, line_in};
-ghost use Rattle.vbi_near.specs.LevelledLines.{levelled, levelled_slicing};
-ghost use Rattle.vbi_near.specs.Pile.{IsPileOf};
-ghost use Rattle.vbi_near.specs.Silence.{HasNearUnlessSilent};
-ghost use Rattle.vbi_near.specs.StretchedCells.{IsStretched};
 ghost use Rattle.vbi_near.specs.Candidates.{HasNear, given_line, given_pair, given_samples, filled_samples, swing_in};
 ghost use Rattle.vbi_near.specs.Candidates.{has_swing, are_alike_by, row_of, line_of};
+ghost use Rattle.vbi_near.specs.{Lines.row_in, Lines.line_in, LevelledLines.levelled, LevelledLines.levelled_slicing};
+ghost use Rattle.vbi_near.specs.{Pile.IsPileOf, Silence.HasNearUnlessSilent, StretchedCells.IsStretched};
 
 use crate::levelled_lines::{Summed, fill, is_swing, level, levelled_levels, sum_samples, swing};
 use crate::lines::{Line, Pair};

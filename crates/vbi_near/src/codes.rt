@@ -13,12 +13,11 @@
 ghost use Rattle.std.specs.Prelude.{◌≡◌, ℕ, suc, ◌+◌, ◌*◌, ◌^◌, ◌≤◌, ◌<◌, List, [], length, slice_index};
 ghost use Rattle.std.specs.Prelude.{slice_index_or};
 ghost use Rattle.vbi_near.specs.Common.{width_of, digit_of, IsWord, word_length, starts};
-ghost use Rattle.vbi_near.specs.Rows.{word_cost_by, code_cost_by};
 ghost use Rattle.vbi_near.specs.LineCodes.{range, codes_of, digit_at, IsRange};
 ghost use Rattle.vbi_near.specs.Prices.{IsPricedBy, ranges_of, IsRangeAt};
-ghost use Rattle.vbi_near.specs.Best.{AreBounds};
 ghost use Rattle.vbi_near.specs.Leads.{IsChoice, AreBest, at_start, Look, IsSeen, with_ranges, all_codes, IsLead};
 ghost use Rattle.vbi_near.specs.Leads.{IsFew, IsClose};
+ghost use Rattle.vbi_near.specs.{Rows.word_cost_by, Rows.code_cost_by, Best.AreBounds};
 
 use crate::bits::Bits;
 use crate::order::{nearer_lead, needs_look};

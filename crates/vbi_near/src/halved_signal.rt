@@ -1,9 +1,8 @@
 //! Signals that lack half a word.
 
 ghost use Rattle.std.specs.Prelude.{◌≡◌, ◌+◌, ◌≤◌, ◌<◌, false, slice_index_or};
-ghost use Rattle.vbi_near.specs.Common.{width_of, word_length, IsPlace};
-ghost use Rattle.vbi_near.specs.Rows.{shades_of};
 ghost use Rattle.vbi_near.specs.HalvedSignal.{half_of, row_cost, halved_cost};
+ghost use Rattle.vbi_near.specs.{Common.width_of, Common.word_length, Common.IsPlace, Rows.shades_of};
 
 use crate::half_cells::column;
 use crate::near::Near;

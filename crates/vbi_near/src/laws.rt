@@ -6,22 +6,15 @@ ghost use Rattle.std.specs.List.{All};
 ghost use Rattle.vbi_near.specs.Common.{System, Ntsc, Pal, Word, width_of, start_of, Slicing, IsWord, IsWordOrNone};
 ghost use Rattle.vbi_near.specs.Common.{IsBetween, differences, drawn_row_of, IsPlace, starts, picture_of, drawn_as};
 ghost use Rattle.vbi_near.specs.Common.{Samples, unit_of, most_of, known, known_but, row_distance, distance_of};
-ghost use Rattle.vbi_words.specs.Codes.{may_stand, code_of};
-ghost use Rattle.vbi_near.specs.declared.near.Near.{Near};
-ghost use Rattle.vbi_words.specs.WorkedLines.{changing};
 ghost use Rattle.vbi_near.specs.Nearest.{IsNearest, IsFirst, IsNearestCode, IsFirstCode};
-ghost use Rattle.vbi_near.specs.LongerSignal.{begun_earlier, ended_later, IsLonger};
-ghost use Rattle.vbi_near.specs.ShorterSignal.{IsShorter};
-ghost use Rattle.vbi_near.specs.Apart.{picture_distance};
-ghost use Rattle.vbi_near.specs.LineCodes.{IsOneOf, codes_of, is_beyond_79999};
-ghost use Rattle.vbi_near.specs.declared.recovery.Recovered.{Recovered};
-ghost use Rattle.vbi_near.specs.declared.margins.Margins.{Margins};
-ghost use Rattle.vbi_near.specs.declared.near.Nears.{Nears};
-ghost use Rattle.vbi_near.specs.WordRule.{said_of};
-ghost use Rattle.vbi_near.specs.Candidates.{Row, Lines, HasNear};
-ghost use Rattle.vbi_near.specs.Ahead.{IsAheadBy, IsAheadOn, IsAheadOnBoth};
-ghost use Rattle.vbi_near.specs.Recovery.{IsRecovered, field_line, row_at};
-ghost use Rattle.vbi_near.specs.PileRule.{IsSaidTogether};
+ghost use Rattle.vbi_near.specs.{declared.near.Near.Near, LongerSignal.begun_earlier, LongerSignal.ended_later};
+ghost use Rattle.vbi_near.specs.{LongerSignal.IsLonger, ShorterSignal.IsShorter, Apart.picture_distance};
+ghost use Rattle.vbi_near.specs.{LineCodes.IsOneOf, LineCodes.codes_of, LineCodes.is_beyond_79999};
+ghost use Rattle.vbi_near.specs.{declared.recovery.Recovered.Recovered, declared.margins.Margins.Margins};
+ghost use Rattle.vbi_near.specs.{declared.near.Nears.Nears, WordRule.said_of, Candidates.Row, Candidates.Lines};
+ghost use Rattle.vbi_near.specs.{Candidates.HasNear, Ahead.IsAheadBy, Ahead.IsAheadOn, Ahead.IsAheadOnBoth};
+ghost use Rattle.vbi_near.specs.{Recovery.IsRecovered, Recovery.field_line, Recovery.row_at, PileRule.IsSaidTogether};
+ghost use Rattle.vbi_words.specs.{Codes.may_stand, Codes.code_of, WorkedLines.changing};
 
 /// If another word than the one answered was recorded, the samples of the lines are off by `rival` or more in sum.
 pub fn misread_at_least()

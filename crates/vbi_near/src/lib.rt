@@ -6,7 +6,7 @@
 
 mod bits;
 mod candidates;
-mod cell;
+mod cells;
 mod codes;
 mod half_cells;
 mod halved_signal;
@@ -20,7 +20,6 @@ mod longer_signal;
 pub mod margin_laws;
 mod margins;
 mod near;
-mod near_code;
 mod order;
 mod pair_rule;
 mod pile;
@@ -31,7 +30,6 @@ pub mod row_laws;
 pub mod rule_laws;
 mod shorter_signal;
 mod silence;
-mod starts;
 mod stretched_cells;
 mod sums;
 mod word_rule;

@@ -5,16 +5,13 @@
 //! the definitions do by whatever nearest words the line has: there is one of each.
 
 ghost use Rattle.std.specs.Prelude.{◌≡◌, ℕ, ◌∷◌, [], ◌||◌, Option, Some};
-ghost use Rattle.vbi_near.specs.declared.near.Nears.{Nears};
-ghost use Rattle.vbi_near.specs.Lines.{row_in, line_in};
-ghost use Rattle.vbi_near.specs.Common.{unit_of};
-ghost use Rattle.vbi_near.specs.LevelledLines.{levelled_unit};
 ghost use Rattle.vbi_near.specs.Margins.{levelled_margins, given_margins};
 ghost use Rattle.vbi_near.specs.WordRule.{said_of, said_if, first_said, is_said};
-ghost use Rattle.vbi_near.specs.StretchedCells.{IsStretched};
 ghost use Rattle.vbi_near.specs.Candidates.{Candidates, given_samples, given_line, levelled_line, has_swing, AreOf};
 ghost use Rattle.vbi_near.specs.Candidates.{HasNear, HasNearIf};
 ghost use Rattle.vbi_near.specs.Recovery.{recovered_alone, other_than, is_stretched, is_confirmed};
+ghost use Rattle.vbi_near.specs.{declared.near.Nears.Nears, Lines.row_in, Lines.line_in, Common.unit_of};
+ghost use Rattle.vbi_near.specs.{LevelledLines.levelled_unit, StretchedCells.IsStretched};
 
 use crate::candidates::{
     as_levelled, level_row, near_of_one, near_unless_silent, stretched_of_one,

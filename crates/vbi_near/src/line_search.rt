@@ -2,14 +2,11 @@
 
 ghost use Rattle.std.specs.Prelude.{◌≡◌, ◌<◌, length, List};
 ghost use Rattle.vbi_near.specs.Common.{width_of, Slicing, Samples, IsPile, AreFew, shades, starts};
-ghost use Rattle.vbi_near.specs.Candidates.{HasNear, some_lines};
-ghost use Rattle.vbi_near.specs.Rows.{word_cost_by};
-ghost use Rattle.vbi_near.specs.Best.{AreBounds};
+ghost use Rattle.vbi_near.specs.{Candidates.HasNear, Candidates.some_lines, Rows.word_cost_by, Best.AreBounds};
 
 use crate::bits::MOST_STARTS;
 use crate::halved_signal::halved_distance;
-use crate::near::{Near, Nears, near_word};
-use crate::near_code::near_code;
+use crate::near::{Nears, near_code, near_word};
 use crate::sums::{ROOM, Sums};
 use crate::word_rule::Nearest;
 use crate::word_search::{nearest_word, start_count};
@@ -30,9 +27,7 @@ pub(crate) struct Sought<'a> {
 }
 
 impl<'a> Sought<'a> {
-    ghost use Rattle.vbi_near.specs.Common.{Shades};
-    ghost use Rattle.vbi_near.specs.Rows.{IsRowOf};
-    ghost use Rattle.vbi_near.specs.LineSearch.{IsSought};
+    ghost use Rattle.vbi_near.specs.{Common.Shades, Rows.IsRowOf, LineSearch.IsSought};
 
     /// Finds the nearest word of the lines, with room for how near words are at each start.
     pub(crate) fn of(sums: Sums<'a>, bounds: &'a mut [u32]) -> Self

@@ -1,8 +1,7 @@
 //! Lines whose words are sought.
 
 ghost use Rattle.std.specs.Prelude.{◌≡◌, ◌+◌, ◌*◌, ◌≤◌, ◌<◌, length};
-ghost use Rattle.vbi_near.specs.Common.{line_bytes, line_at, width_of};
-ghost use Rattle.vbi_near.specs.Candidates.{marks_at};
+ghost use Rattle.vbi_near.specs.{Common.line_bytes, Common.line_at, Common.width_of, Candidates.marks_at};
 
 use vbi_words::{Levels, System};
 

@@ -1,12 +1,10 @@
 //! Signals that go on beyond a word.
 
 ghost use Rattle.std.specs.Prelude.{◌≡◌, ℕ, ◌+◌, ◌^◌, ◌≤◌, ◌<◌, Bool, true, false, min};
-ghost use Rattle.vbi_near.specs.Common.{width_of, starts};
-ghost use Rattle.vbi_near.specs.Sums.{total_in};
-ghost use Rattle.vbi_near.specs.Rows.{shades_of, cell_cost_by, word_cost_by};
-ghost use Rattle.vbi_near.specs.LongerSignal.{cell_length, IsLongerFound};
+ghost use Rattle.vbi_near.specs.{Common.width_of, Common.starts, Sums.total_in, Rows.shades_of, Rows.cell_cost_by};
+ghost use Rattle.vbi_near.specs.{Rows.word_cost_by, LongerSignal.cell_length, LongerSignal.IsLongerFound};
 
-use crate::cell::costs_of;
+use crate::cells::costs_of;
 use crate::half_cells::{Cell, column, offset};
 use crate::sums::{Sums, between};
 use crate::word_search::Found;

@@ -2,10 +2,9 @@
 //! isn't. A function here does nothing: its contract holds the numbers of margins.rt.
 
 ghost use Rattle.std.specs.Prelude.{◌≡◌, Some};
-ghost use Rattle.vbi_near.specs.Margins.{levelled_margins, given_margins};
-ghost use Rattle.vbi_near.specs.WordRule.{said_of};
 ghost use Rattle.vbi_near.specs.WorkedRules.{other_ten_ahead, code_ten_ahead, code_ahead, other_ahead};
 ghost use Rattle.vbi_near.specs.WorkedRules.{close_code_ahead, far_from_none, code_longer, code_cut, SayUntil};
+ghost use Rattle.vbi_near.specs.{Margins.levelled_margins, Margins.given_margins, WordRule.said_of};
 
 /// One levelled line.
 pub fn worked_lone()

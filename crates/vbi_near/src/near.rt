@@ -12,28 +12,27 @@
 //!
 //! There are 2^23 words and up to 285 starts, so no row is ever drawn. What a half cell costs depends on where it lies
 //! and on whether it is high, and on nothing else of the word. Sums over the columns (sums.rt) give that by two
-//! subtractions; a bit of a word is then the cheaper one of its two cells (cell.rt, starts.rt), and the least over the
+//! subtractions; a bit of a word is then the cheaper one of its two cells (cells.rt), and the least over the
 //! starts is the nearest word (bits.rt, word_search.rt). Several lines are one line whose columns cost what they cost
 //! in all of them, so a field's lines 17 and 18, or a pile of lines, take no longer than one.
 //!
 //! The nearest word alone says little, as noise has one, too. So a `Near` says how far others are. `rival` is the
 //! nearest other row: what makes one word surer than another. `longer` is the row with one cell more
 //! (longer_signal.rt): if it is nearer, the signal isn't a word of 24 cells. `shorter` is the row with fewer
-//! (shorter_signal.rt). The nearest code (near_code.rt, codes.rt) is sought among the words whose code may stand on the
+//! (shorter_signal.rt). The nearest code (codes.rt) is sought among the words whose code may stand on the
 //! line, and its rival is the nearest other one of these, or none: a code needs a smaller margin than any word, since
 //! fewer can be mistaken for it. word_rule.rt decides by these numbers what a line says; how large a margin has to be
 //! stands in `specs/WordRule.antt`.
 
-ghost use Rattle.std.specs.Prelude.{◌≡◌, ◌^◌, ◌≤◌, ◌<◌, length, List};
+ghost use Rattle.std.specs.Prelude.{◌≡◌, ◌^◌, ◌≤◌, ◌<◌, ◌⊎◌, length, List};
 ghost use Rattle.vbi_near.specs.Common.{width_of, IsWord, starts, IsPlace, Slicing, Samples, Shades, IsPile, AreFew};
-ghost use Rattle.vbi_near.specs.Common.{shades};
-ghost use Rattle.vbi_near.specs.Rows.{word_cost_by, IsRowOf, IsNearWord};
-ghost use Rattle.vbi_near.specs.Best.{IsFound, IsChosen};
-ghost use Rattle.vbi_near.specs.Nearest.{IsNearest, IsFirst};
-ghost use Rattle.vbi_near.specs.LongerSignal.{IsLonger};
-ghost use Rattle.vbi_near.specs.ShorterSignal.{IsShorter};
+ghost use Rattle.vbi_near.specs.Rows.{word_cost_by, IsRowOf, IsNearWord, IsNearCode};
+ghost use Rattle.vbi_near.specs.Best.{IsFound, AreBounds, no_word, word_found, IsChosen};
+ghost use Rattle.vbi_near.specs.{Common.shades, Leads.IsCodeChosen, Nearest.IsNearest, Nearest.IsFirst};
+ghost use Rattle.vbi_near.specs.{LongerSignal.IsLonger, ShorterSignal.IsShorter};
 
 use crate::bits::MOST_STARTS;
+use crate::codes::nearest_code;
 use crate::longer_signal::longer_distance;
 use crate::shorter_signal::shorter_distance;
 use crate::sums::{ROOM, Sums};
@@ -85,29 +84,56 @@ pub(crate) fn word_of(word: u32) -> Word24
     Word24::new(word).unwrap()
 }
 
+/// No word: the row of none is so far, and that of the nearest word as far as `rival`.
+fn no_word(distance: u32, rival: u32) -> Near
+    ensures { result ≡ no_word distance rival }
+{
+    Near {
+        word: None,
+        start: 0,
+        distance,
+        rival,
+        longer: distance,
+        shorter: distance,
+    }
+}
+
+/// The word found, with the distances of the nearest other row, of longer rows and of shorter ones.
+fn word_found(found: Found, rival: u32, longer: u32, shorter: u32) -> Near
+    requires { IsWord found.word }
+    ensures { result ≡ word_found found rival longer shorter }
+{
+    Near {
+        word: Some(word_of(found.word)),
+        start: found.start,
+        distance: found.distance,
+        rival,
+        longer,
+        shorter,
+    }
+}
+
 /// The nearer of the nearest word and of none.
 pub(crate) fn or_none(found: Found, longer: u32, shorter: u32, blank: u32) -> Near
     requires { IsWord found.word }
     ensures { IsChosen found longer shorter blank result }
 {
     if blank <= found.distance {
-        Near {
-            word: None,
-            start: 0,
-            distance: blank,
-            rival: found.distance,
-            longer: blank,
-            shorter: blank,
-        }
+        no_word(blank, found.distance)
     } else {
-        Near {
-            word: Some(word_of(found.word)),
-            start: found.start,
-            distance: found.distance,
-            rival: found.rival.min(blank),
-            longer,
-            shorter,
-        }
+        word_found(found, found.rival.min(blank), longer, shorter)
+    }
+}
+
+/// The code found, or none.
+pub(crate) fn code_or_none(found: Found, longer: u32, shorter: u32) -> Near
+    requires { (found.word ≡ 0) ⊎ IsWord found.word }
+    ensures { IsCodeChosen found longer shorter result }
+{
+    if found.word == 0 {
+        no_word(found.distance, found.rival)
+    } else {
+        word_found(found, found.rival, longer, shorter)
     }
 }
 
@@ -123,6 +149,25 @@ pub(crate) fn near_word(sums: &Sums, found: Found) -> Near
     let longer = longer_distance(sums, found);
     let shorter = shorter_distance(sums, found);
     or_none(found, longer, shorter, sums.blank())
+}
+
+/// The nearest of the codes that may stand on a line of this number, or none. `bounds` has for each start how near the
+/// nearest of all words that begin there is. The search begins at `first`.
+pub(crate) fn near_code(sums: &Sums, line: u32, first: usize, bounds: &[u32]) -> Near
+    requires first { first < starts sums.now.system }
+    requires bounds { length bounds.now ≡ starts sums.now.system }
+    requires far { AreBounds (word_cost_by sums.now) (starts sums.now.system) bounds.now }
+    ensures near { (slicing : Slicing) (lines : List Samples) (costs : Shades) → IsRowOf sums.now slicing lines costs
+        → IsNearCode sums.now.system line slicing lines result }
+    ensures place { IsPlace sums.now.system result.word result.start }
+{
+    let lead = nearest_code(sums, line, first, bounds);
+    if lead.word == 0 {
+        return code_or_none(lead, 0, 0);
+    }
+    let longer = longer_distance(sums, lead);
+    let shorter = shorter_distance(sums, lead);
+    code_or_none(lead, longer, shorter)
 }
 
 /// The word that is nearest to some lines. `darks` and `lights` say for each column how far their samples are in sum

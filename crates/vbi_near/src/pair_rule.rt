@@ -6,14 +6,10 @@
 //! of levelled lines: `levelled_said`.
 
 ghost use Rattle.std.specs.Prelude.{None, IsTrue};
-ghost use Rattle.vbi_near.specs.declared.word_rule.PairNears.{PairNears};
-ghost use Rattle.vbi_near.specs.Lines.{row_in, line_in};
-ghost use Rattle.vbi_near.specs.Common.{unit_of};
-ghost use Rattle.vbi_near.specs.LevelledLines.{levelled_unit};
-ghost use Rattle.vbi_near.specs.Margins.{levelled_margins};
-ghost use Rattle.vbi_near.specs.Silence.{HasNearIfUnlessSilent};
 ghost use Rattle.vbi_near.specs.Candidates.{HasNearIf, given_line, given_pair};
 ghost use Rattle.vbi_near.specs.PairRule.{HaveNear, HaveLevelled, SayInPair};
+ghost use Rattle.vbi_near.specs.{declared.word_rule.PairNears.PairNears, Lines.row_in, Lines.line_in, Common.unit_of};
+ghost use Rattle.vbi_near.specs.{LevelledLines.levelled_unit, Margins.levelled_margins, Silence.HasNearIfUnlessSilent};
 
 use crate::candidates::{
     are_alike, as_levelled, both_unless_silent, level_row, near_of_one, near_of_two,

@@ -4,9 +4,7 @@
 ghost use Rattle.std.specs.Prelude.{◌≡◌, ℕ, ◌+◌, ◌*◌, ◌≤◌, ◌<◌, ◌∷◌, ◌++◌, [], length, take, List};
 ghost use Rattle.vbi_near.specs.Common.{System, line_bytes, width_of, Slicing, samples_of, sample_at, Samples};
 ghost use Rattle.vbi_near.specs.Common.{lines_of, known_but, most_of, IsPile, AreFew, shades};
-ghost use Rattle.vbi_near.specs.Nearest.{IsNearest, IsFirst};
-ghost use Rattle.vbi_near.specs.LongerSignal.{IsLonger};
-ghost use Rattle.vbi_near.specs.ShorterSignal.{IsShorter};
+ghost use Rattle.vbi_near.specs.{Nearest.IsNearest, Nearest.IsFirst, LongerSignal.IsLonger, ShorterSignal.IsShorter};
 
 use crate::bits::MOST_STARTS;
 use crate::line_search::{Sought, nears_of};
@@ -86,11 +84,8 @@ pub(crate) struct Pile<'a> {
 
 impl<'a> Pile<'a> {
     ghost use Rattle.std.specs.Prelude.{replicate};
-    ghost use Rattle.vbi_near.specs.Candidates.{HasNear, some_lines};
-    ghost use Rattle.vbi_near.specs.StretchedCells.{IsStretched};
-    ghost use Rattle.vbi_near.specs.Rows.{IsNearWord};
-    ghost use Rattle.vbi_near.specs.Pile.{IsPileOf};
-    ghost use Rattle.vbi_near.specs.Silence.{HasNearUnlessSilent};
+    ghost use Rattle.vbi_near.specs.{Candidates.HasNear, Candidates.some_lines, StretchedCells.IsStretched};
+    ghost use Rattle.vbi_near.specs.{Rows.IsNearWord, Pile.IsPileOf, Silence.HasNearUnlessSilent};
 
     /// The pile of no lines, with room for the costs of the longest ones.
     pub(crate) fn new(

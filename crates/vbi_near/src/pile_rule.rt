@@ -2,12 +2,10 @@
 
 ghost use Rattle.std.specs.Prelude.{◌≡◌, ◌*◌, ◌≤◌, ◌-◌, length, map};
 ghost use Rattle.std.specs.List.{list_all};
-ghost use Rattle.vbi_near.specs.Common.{line_bytes, width_of};
 ghost use Rattle.vbi_near.specs.Candidates.{HasNear, HasNearIf, are_alike_by, given_samples, levelled_samples};
 ghost use Rattle.vbi_near.specs.Candidates.{some_lines};
-ghost use Rattle.vbi_near.specs.LevelledLines.{levelled_slicing};
-ghost use Rattle.vbi_near.specs.Lines.{rows_of};
 ghost use Rattle.vbi_near.specs.PileRule.{pile_margins, swing_alike, are_all_alike, IsSaidTogether, rows_in};
+ghost use Rattle.vbi_near.specs.{Common.line_bytes, Common.width_of, LevelledLines.levelled_slicing, Lines.rows_of};
 
 use crate::candidates::{are_alike, level_row};
 use crate::levelled_lines::{LEVELLED_UNIT, levelled_levels};

@@ -1,11 +1,10 @@
 //! What the digits of a word cost that begins at a column.
 
 ghost use Rattle.std.specs.Prelude.{◌≡◌, ℕ, ◌+◌, ◌*◌, ◌^◌, ◌≤◌, ◌<◌, Bool, true, false, length, slice_index};
-ghost use Rattle.vbi_near.specs.Common.{width_of, word_length};
-ghost use Rattle.vbi_near.specs.Leads.{bit_in, IsDigitCost};
 ghost use Rattle.vbi_near.specs.Rows.{cell_cost_by, code_cost_by};
+ghost use Rattle.vbi_near.specs.{Common.width_of, Common.word_length, Leads.bit_in, Leads.IsDigitCost};
 
-use crate::cell::{Costs, cell_at};
+use crate::cells::{Costs, cell_at};
 use crate::sums::Sums;
 
 /// What each value of each digit costs of a word that begins at `start`, 16 of each, and what there is to pay anyway.

@@ -164,15 +164,6 @@ fn shown_pair(pair: &Pair) -> (Recovered, Recovered)
     )
 }
 
-/// What line 16 shows.
-fn shown_first(line: &Line) -> Recovered
-    ensures { (seen : Seen) (both : Candidates) → IsSeen (line_in line.now) seen
-        → result ≡ shown_in alone (unit_of line.now.levels) seen both }
-{
-    let own = own(line);
-    shown_alone(line, own)
-}
-
 /// What lines 16, 17 and 18 of a field show, by the bytes of their rows, which lie one after the other, as do the
 /// marks of their erased columns: those count for no nearest word.
 pub fn recover_rows(system: System, levels: Levels, rows: &[u8], erased: &[bool]) -> [Recovered; 3]
@@ -195,7 +186,8 @@ pub fn recover_rows(system: System, levels: Levels, rows: &[u8], erased: &[bool]
     let second = rows.line(17, 1);
     let third = rows.line(18, 2);
     let pair = Pair { second, third };
-    let first = shown_first(&rows.line(16, 0));
+    let line = rows.line(16, 0);
+    let first = shown_alone(&line, own(&line));
     let others = shown_pair(&pair);
     [first, others.0, others.1]
 }

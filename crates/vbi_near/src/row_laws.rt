@@ -2,9 +2,9 @@
 
 ghost use Rattle.std.specs.Prelude.{◌≡◌, ℕ, ◌+◌, false, List, [], ◌∷◌, map, Some};
 ghost use Rattle.vbi_near.specs.Common.{System, Ntsc, Pal, start_of, boundary, picture_of};
-ghost use Rattle.vbi_words.specs.WorkedLines.{changing};
 ghost use Rattle.vbi_near.specs.ShorterSignal.{begun_later, ended_earlier, row_of_halves};
 ghost use Rattle.vbi_near.specs.StretchedCells.{stretched_length, stretched_offset, stretched_picture};
+ghost use Rattle.vbi_words.specs.WorkedLines.{changing};
 
 /// A word on cells of a hundred hundredths of their length is drawn as any word is, from each start.
 pub fn stretched_by_none()

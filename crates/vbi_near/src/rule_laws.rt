@@ -3,16 +3,13 @@
 
 ghost use Rattle.std.specs.Prelude.{◌≡◌, ◌∷◌, [], Some, None, map, true, false};
 ghost use Rattle.vbi_near.specs.Common.{Word, Blank, Change};
-ghost use Rattle.vbi_near.specs.Margins.{levelled_margins};
-ghost use Rattle.vbi_near.specs.WordRule.{said_of, unless_beyond};
-ghost use Rattle.vbi_near.specs.Candidates.{are_alike_by};
-ghost use Rattle.vbi_near.specs.PileRule.{said_together};
-ghost use Rattle.vbi_near.specs.Recovery.{recovered_of};
 ghost use Rattle.vbi_near.specs.WorkedRules.{as_other, beside, from_none, other_ten_ahead, code_halved_at};
 ghost use Rattle.vbi_near.specs.WorkedRules.{other_halved_at, as_given, levelled_as, worn_by, worn, smoothed_by};
 ghost use Rattle.vbi_near.specs.WorkedRules.{smoothed_at, smoothed, read_as, both_at, together_at, code_beside};
 ghost use Rattle.vbi_near.specs.WorkedRules.{beyond_at, beyond_beside, code_with, other_with, code_longer};
 ghost use Rattle.vbi_near.specs.WorkedRules.{code_ten_ahead, SayUntil, PileSaysUntil, FieldShows, PairShows};
+ghost use Rattle.vbi_near.specs.{Margins.levelled_margins, WordRule.said_of, WordRule.unless_beyond};
+ghost use Rattle.vbi_near.specs.{Candidates.are_alike_by, PileRule.said_together, Recovery.recovered_of};
 
 /// What a nearest word has to be beside that: close to the nearest word if it is a code, and all there.
 pub fn worked_said()

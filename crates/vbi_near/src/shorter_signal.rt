@@ -5,7 +5,7 @@ ghost use Rattle.vbi_near.specs.Common.{width_of, word_length, starts};
 ghost use Rattle.vbi_near.specs.Rows.{shades_of, cell_cost_by, word_cost_by};
 ghost use Rattle.vbi_near.specs.ShorterSignal.{bit_in_cell, black_cost, IsWithoutCell, IsShorterFound};
 
-use crate::cell::cell_at;
+use crate::cells::cell_at;
 use crate::sums::Sums;
 use crate::word_search::Found;
 

@@ -8,17 +8,14 @@
 
 ghost use Rattle.std.specs.Prelude.{◌≡◌, ◌≤◌, false, length, List, IsTrue};
 ghost use Rattle.vbi_near.specs.Common.{Slicing, starts, Samples, Shades, unit_of};
-ghost use Rattle.vbi_near.specs.Candidates.{some_lines};
 ghost use Rattle.vbi_near.specs.Rows.{IsRowOf, IsNearCode};
-ghost use Rattle.vbi_near.specs.WordRule.{close_limit};
-ghost use Rattle.vbi_near.specs.LineSearch.{IsSought};
 ghost use Rattle.vbi_near.specs.Silence.{says_word, IsLeadWithin, StandsFor, IsUnsaid, HasNearUnlessSilent};
+ghost use Rattle.vbi_near.specs.{Candidates.some_lines, WordRule.close_limit, LineSearch.IsSought};
 
 use crate::codes::{none, with_start, with_start_by};
 use crate::line_search::Sought;
 use crate::margins::Margins;
-use crate::near::{Near, Nears};
-use crate::near_code::code_or_none;
+use crate::near::{Near, Nears, code_or_none};
 use crate::word_rule::{close_limit, is_ahead, is_clear};
 use crate::word_search::Found;
 

@@ -2,10 +2,9 @@
 
 ghost use Rattle.std.specs.Prelude.{◌≡◌, ℕ, ◌+◌, ◌-◌, ◌*◌, ◌≤◌, ◌<◌, length, List, slice_index_or};
 ghost use Rattle.vbi_near.specs.Common.{width_of, Slicing, Samples, IsPile, AreFew, shades};
-ghost use Rattle.vbi_near.specs.Rows.{shades_of};
-ghost use Rattle.vbi_near.specs.Sums.{IsRising, total_in};
 ghost use Rattle.vbi_near.specs.StretchedCells.{stretched_offset, stretched_length, IsLeastAt, IsStretched};
 ghost use Rattle.vbi_near.specs.StretchedCells.{stretched_word_cost, stretched_row_cost, IsAtRate, IsRateBefore};
+ghost use Rattle.vbi_near.specs.{Rows.shades_of, Sums.IsRising, Sums.total_in};
 
 use crate::sums::{ROOM, Sums, between};
 use vbi_words::{System, Word24};
@@ -101,15 +100,6 @@ fn distance_by(sums: &Sums, word: Word24, rate: usize) -> u32
     least
 }
 
-/// How far the lines are from the nearest row of a word on cells of the least rate: of all rates below the next one.
-#[tactic(auto, using(crate::proofs::LeastAt::first_rate))]
-fn distance_by_least(sums: &Sums, word: Word24) -> u32
-    ensures { IsLeastAt (IsRateBefore sums.now.system 99) (stretched_row_cost (shades_of sums.now) sums.now.system word)
-        result }
-{
-    distance_by(sums, word, 98)
-}
-
 /// How far some lines are from the nearest row of this word whose cells have 98 to 102 hundredths of their length.
 /// `darks` and `lights` say for each column how far their samples are from black there, and from white, in sum.
 pub fn stretched_distance(darks: &[u32], lights: &[u32], system: System, word: Word24) -> u32
@@ -122,7 +112,7 @@ pub fn stretched_distance(darks: &[u32], lights: &[u32], system: System, word: W
     let mut dark = [0; ROOM];
     let mut light = [0; ROOM];
     let sums = Sums::of(system, darks, lights, &mut dark, &mut light);
-    let mut least = distance_by_least(&sums, word);
+    let mut least = distance_by(&sums, word, 98);
     for rate in 99..103 {
         least = least.min(distance_by(&sums, word, rate));
     }

@@ -15,8 +15,7 @@ ghost use Rattle.vbi_near.specs.WordRule.{is_ahead, is_ahead_by, goes_on, is_cut
 ghost use Rattle.vbi_near.specs.WordRule.{is_close, said_of, said_if, first_said, is_said, is_same, is_one, is_borne};
 ghost use Rattle.vbi_near.specs.WordRule.{have_word, have_code, have_one, do_agree, may_agree, stand_of, said_in};
 ghost use Rattle.vbi_near.specs.WordRule.{unless_beyond, recovered_by};
-ghost use Rattle.vbi_near.specs.LineCodes.{is_beyond_79999};
-ghost use Rattle.vbi_near.specs.PairRule.{SayInPair};
+ghost use Rattle.vbi_near.specs.{LineCodes.is_beyond_79999, PairRule.SayInPair};
 
 use crate::margins::{Margin, MarginSet, Margins};
 use crate::near::{Near, Nears};

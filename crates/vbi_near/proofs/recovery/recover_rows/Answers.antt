@@ -32,9 +32,9 @@ returns c =
     let second = some_seen (line 1) in
     let third = some_seen (line 2) in
     let both = some_of_both (line 1) (line 2).row in
-    let shows = c.shown_first-first.ensures first.0 both.0
-    (subst (λ (l : Line). IsSeen l first.0) (sym c.line.ensures) first.1)
-    ∙ ap (λ (l : Line). shown_in alone (unit_of l.slicing) first.0 both.0) c.line.ensures in
+    let shows = c.shown_alone-first.ensures first.0 both.0
+    (subst (λ (l : Line). IsSeen l first.0) (sym c.line-line.ensures) first.1)
+    ∙ ap (λ (l : Line). shown_in alone (unit_of l.slicing) first.0 both.0) c.line-line.ensures in
     let others = c.shown_pair-others.ensures second.0 third.0 both.0
     (subst (λ (l : Line). IsSeen l second.0) (sym c.line-second.ensures) second.1)
     (subst (λ (l : Line). IsSeen l third.0) (sym c.line-third.ensures) third.1)

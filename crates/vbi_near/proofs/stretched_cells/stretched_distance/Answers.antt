@@ -1,7 +1,13 @@
 use Rattle.std.proofs.Common.{◌≡◌, ℕ, ◌+◌, arith, subst, sym}
 use Rattle.vbi_near.proofs.Common.{System, shades, shades_of, stretched_row_cost, IsLeastAt, IsRateBefore, IsStretched}
-use Rattle.vbi_near.proofs.LeastAt.{rate-more, stretched-same}
+use Rattle.vbi_near.proofs.LeastAt.{first_rate, rate-more, stretched-same}
 use Rattle.vbi_near.proofs.stretched_cells.stretched_distance.Goals as goal
+
+pub loop-rate-init : goal.loop-rate-init
+loop-rate-init c =
+    let system = c.of-sums.result.system in
+    first_rate system (stretched_row_cost (shades_of c.of-sums.result) system c.args.word) c.distance_by-least.result
+    c.distance_by-least.ensures
 
 pub loop-rate-preserved : goal.loop-rate-preserved
 loop-rate-preserved c =

@@ -1,6 +1,6 @@
 use Rattle.std.proofs.Common.{◌≡◌, ◌<◌, length}
 use Rattle.vbi_near.proofs.Common.{starts, place_cost, IsFound, AreBounds, shades_of}
-use Rattle.vbi_near.proofs.word_search.nearest_of.Given as goal
+use Rattle.vbi_near.proofs.word_search.nearest_word.Given as goal
 
 abbrev pub invariant-loop-start : goal.invariant-loop-start
 invariant-loop-start l = record {
