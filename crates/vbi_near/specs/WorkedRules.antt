@@ -118,6 +118,10 @@ as_given near = record { levelled = None; given = near }
 abbrev pub levelled_as : Nears → Nears → Candidates
 levelled_as near given = record { levelled = Some (on_levelled near); given = given }
 
+-- a code at a distance of 10,000 on the levelled lines, with that of its rival, and another one on those as they are
+abbrev pub levelled_codes : ℕ → ℕ → ℕ → ℕ → Candidates
+levelled_codes word rival given given_rival = levelled_as (code_with word rival) (code_with given given_rival)
+
 -- a line that is read as unfinished, and a line whose smoothed levels alone show a word
 abbrev pub worn_by : Candidates → Seen
 worn_by near = record {

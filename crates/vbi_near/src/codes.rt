@@ -8,22 +8,21 @@
 //! The search goes over the starts, and at each over the ranges, and keeps the nearest word so far with its rival. The
 //! start of the nearest of all words is looked at first. After that most starts are passed: their bound says that none
 //! of all words is as near there. Of words that are as near, the one that begins first is kept, and of these the least
-//! (order.rt), whatever the order of the search.
+//! (`comes_first`), whatever the order of the search.
 
-ghost use Rattle.std.specs.Prelude.{◌≡◌, ℕ, suc, ◌+◌, ◌*◌, ◌^◌, ◌≤◌, ◌<◌, List, [], length, slice_index};
-ghost use Rattle.std.specs.Prelude.{slice_index_or};
+ghost use Rattle.std.specs.Prelude.{◌≡◌, ◌⊎◌, ℕ, suc, ◌+◌, ◌*◌, ◌^◌, ◌≤◌, ◌<◌, List, [], ◌∷◌, length, slice_index};
+ghost use Rattle.std.specs.Prelude.{slice_index_or, false, IsTrue};
 ghost use Rattle.vbi_near.specs.Common.{width_of, digit_of, IsWord, word_length, starts};
-ghost use Rattle.vbi_near.specs.LineCodes.{range, codes_of, digit_at, IsRange};
+ghost use Rattle.vbi_near.specs.LineCodes.{Range, range, codes_of, digit_at, IsRange};
 ghost use Rattle.vbi_near.specs.Prices.{IsPricedBy, ranges_of, IsRangeAt};
-ghost use Rattle.vbi_near.specs.Leads.{IsChoice, AreBest, at_start, Look, IsSeen, with_ranges, all_codes, IsLead};
-ghost use Rattle.vbi_near.specs.Leads.{IsFew, IsClose};
+ghost use Rattle.vbi_near.specs.Leads.{IsChoice, AreBest, at_start, Look, look, IsSeen, with_ranges, all_codes, IsLead};
+ghost use Rattle.vbi_near.specs.Leads.{IsAhead, IsFew, IsClose};
 ghost use Rattle.vbi_near.specs.{Rows.word_cost_by, Rows.code_cost_by, Best.AreBounds};
 
 use crate::bits::Bits;
-use crate::order::{nearer_lead, needs_look};
 use crate::prices::Prices;
 use crate::sums::Sums;
-use crate::word_search::Found;
+use crate::word_search::{Found, ahead};
 use vbi_words::{System, digit};
 
 /// A range of words: the least, and the greatest.
@@ -178,6 +177,46 @@ fn nearest_in_range(prices: &Prices, words: Words) -> Found
         distance: best.distance,
         rival: best.distance.saturating_add(best.margin),
     }
+}
+
+/// Whether one is nearer than another, or as near and before it: by the start, and then by the word.
+fn comes_first(one: Found, other: Found) -> bool
+    ensures yes { IsTrue result → IsAhead one other }
+    ensures no { result ≡ false → IsAhead other one }
+{
+    if one.distance != other.distance {
+        one.distance < other.distance
+    } else if one.start != other.start {
+        one.start < other.start
+    } else {
+        one.word < other.word
+    }
+}
+
+/// The nearer of two, or the one that comes first, with the rival of both.
+fn nearer_lead(one: Found, other: Found) -> Found
+    ensures lead { (cost : ℕ → ℕ → ℕ) (looks : List Look) (at : ℕ) (words : Range) → IsLead cost (IsSeen looks) one
+        → IsLead cost (at_start at words) other → IsLead cost (IsSeen (look at words ∷ looks)) result }
+    ensures close { IsFew one → other.distance < 2 ^ 31 → other.distance ≤ other.rival → 0 < other.word
+        → IsClose result }
+{
+    if comes_first(other, one) {
+        ahead(other, one)
+    } else {
+        ahead(one, other)
+    }
+}
+
+/// Whether words that begin at this column can be nearer than the rival of what was found, or as near as what was found
+/// and before it, if none of them is nearer than the bound.
+fn needs_look(start: usize, bound: u32, found: Found) -> bool
+    ensures { result ≡ false
+        → (found.rival ≤ bound) × ((found.distance < bound) ⊎ (found.start < start)) }
+{
+    if bound < found.rival {
+        return true;
+    }
+    bound <= found.distance && start <= found.start
 }
 
 /// The nearer of what was found and of the words of these ranges that begin at one column.

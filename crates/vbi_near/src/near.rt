@@ -17,12 +17,11 @@
 //! in all of them, so a field's lines 17 and 18, or a pile of lines, take no longer than one.
 //!
 //! The nearest word alone says little, as noise has one, too. So a `Near` says how far others are. `rival` is the
-//! nearest other row: what makes one word surer than another. `longer` is the row with one cell more
-//! (longer_signal.rt): if it is nearer, the signal isn't a word of 24 cells. `shorter` is the row with fewer
-//! (shorter_signal.rt). The nearest code (codes.rt) is sought among the words whose code may stand on the
-//! line, and its rival is the nearest other one of these, or none: a code needs a smaller margin than any word, since
-//! fewer can be mistaken for it. word_rule.rt decides by these numbers what a line says; how large a margin has to be
-//! stands in `specs/WordRule.antt`.
+//! nearest other row: what makes one word surer than another. `longer` is the row with one cell more: if it is nearer,
+//! the signal isn't a word of 24 cells. `shorter` is the row with fewer (ends.rt). The nearest code (codes.rt) is sought
+//! among the words whose code may stand on the line, and its rival is the nearest other one of these, or none: a code
+//! needs a smaller margin than any word, since fewer can be mistaken for it. word_rule.rt decides by these numbers what
+//! a line says; how large a margin has to be stands in `specs/WordRule.antt`.
 
 ghost use Rattle.std.specs.Prelude.{◌≡◌, ◌^◌, ◌≤◌, ◌<◌, ◌⊎◌, length, List};
 ghost use Rattle.vbi_near.specs.Common.{width_of, IsWord, starts, IsPlace, Slicing, Samples, Shades, IsPile, AreFew};
@@ -33,8 +32,7 @@ ghost use Rattle.vbi_near.specs.{LongerSignal.IsLonger, ShorterSignal.IsShorter}
 
 use crate::bits::MOST_STARTS;
 use crate::codes::nearest_code;
-use crate::longer_signal::longer_distance;
-use crate::shorter_signal::shorter_distance;
+use crate::ends::{longer_distance, shorter_distance};
 use crate::sums::{ROOM, Sums};
 use crate::word_search::{Found, nearest_word, start_count};
 use vbi_words::{System, Word24};
@@ -76,14 +74,6 @@ pub struct Nears {
     pub code_halved: u32,
 }
 
-/// The word of this number.
-pub(crate) fn word_of(word: u32) -> Word24
-    requires { IsWord word }
-    ensures { result ≡ word }
-{
-    Word24::new(word).unwrap()
-}
-
 /// No word: the row of none is so far, and that of the nearest word as far as `rival`.
 fn no_word(distance: u32, rival: u32) -> Near
     ensures { result ≡ no_word distance rival }
@@ -104,7 +94,7 @@ fn word_found(found: Found, rival: u32, longer: u32, shorter: u32) -> Near
     ensures { result ≡ word_found found rival longer shorter }
 {
     Near {
-        word: Some(word_of(found.word)),
+        word: Some(Word24::new(found.word).unwrap()),
         start: found.start,
         distance: found.distance,
         rival,

@@ -2,8 +2,7 @@
 //!
 //! `word_rule.rt` has what a nearest word says, `candidates.rt` finds the nearest words of a line and of two, as they
 //! are and levelled (`levelled_lines.rt`), `line_rule.rt` has what a line says by itself, and `pair_rule.rt` what lines
-//! 17 and 18 say. Here a line's reading and what it says become what it shows. The definitions of
-//! `specs/Recovery.antt`, `WordRule.antt`, `Candidates.antt` and `LevelledLines.antt` go with them.
+//! 17 and 18 say. Here a line's reading and what it says become what it shows.
 //!
 //! What a line shows is decided in this order, and a change of the order changes what a field shows:
 //!
@@ -14,8 +13,7 @@
 //!
 //! `rule_laws.rt` has worked rows of the rule. Whatever changes a word here changes the tables of docs/measured, too.
 //!
-//! As in `line_rule.rt`, lines as they are are searched only if the levelled ones say no word, and the contracts say
-//! that a call answers as the definitions do by whatever nearest words the lines have: there is one of each.
+//! Lines as they are are searched only if the levelled ones say no word (`line_rule.rt` says what contracts make of it).
 
 ghost use Rattle.std.specs.Prelude.{◌≡◌, ℕ, ◌+◌, ◌*◌, ◌&&◌, List, ◌∷◌, [], length, IsTrue};
 ghost use Rattle.vbi_near.specs.Common.{line_bytes, width_of, row_levels, reading_of, unit_of};

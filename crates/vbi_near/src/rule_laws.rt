@@ -4,9 +4,9 @@
 ghost use Rattle.std.specs.Prelude.{◌≡◌, ◌∷◌, [], Some, None, map, true, false};
 ghost use Rattle.vbi_near.specs.Common.{Word, Blank, Change};
 ghost use Rattle.vbi_near.specs.WorkedRules.{as_other, beside, from_none, other_ten_ahead, code_halved_at};
-ghost use Rattle.vbi_near.specs.WorkedRules.{other_halved_at, as_given, levelled_as, worn_by, worn, smoothed_by};
-ghost use Rattle.vbi_near.specs.WorkedRules.{smoothed_at, smoothed, read_as, both_at, together_at, code_beside};
-ghost use Rattle.vbi_near.specs.WorkedRules.{beyond_at, beyond_beside, code_with, other_with, code_longer};
+ghost use Rattle.vbi_near.specs.WorkedRules.{other_halved_at, as_given, levelled_as, levelled_codes, worn_by, worn};
+ghost use Rattle.vbi_near.specs.WorkedRules.{smoothed_by, smoothed_at, smoothed, read_as, both_at, together_at};
+ghost use Rattle.vbi_near.specs.WorkedRules.{code_beside, beyond_at, beyond_beside, code_with, other_with, code_longer};
 ghost use Rattle.vbi_near.specs.WorkedRules.{code_ten_ahead, SayUntil, PileSaysUntil, FieldShows, PairShows};
 ghost use Rattle.vbi_near.specs.{Margins.levelled_margins, WordRule.said_of, WordRule.unless_beyond};
 ghost use Rattle.vbi_near.specs.{Candidates.are_alike_by, PileRule.said_together, Recovery.recovered_of};
@@ -68,19 +68,19 @@ pub fn worked_fields()
 /// lines 17 and 18 together if they agree by what is asked.
 pub fn worked_levels()
     // Line 16 says the word of its levelled samples, line 17 that of its own, since the levelled ones have no margin.
-    ensures first { FieldShows (worn_by (levelled_as (code_with 0x8AE000 10556) (code_with 0x8AE001 10600)))
-        (worn_by (levelled_as (code_with 0xF12345 10555) (code_with 0xF12346 10600))) (read_as Blank 0)
-        (as_given (both_at 0 0)) (Some 0x8AE000, 3) (Some 0xF12346, 3) (None, 0) }
+    ensures first { FieldShows (worn_by (levelled_codes 0x8AE000 10556 0x8AE001 10600))
+        (worn_by (levelled_codes 0xF12345 10555 0xF12346 10600)) (read_as Blank 0) (as_given (both_at 0 0))
+        (Some 0x8AE000, 3) (Some 0xF12346, 3) (None, 0) }
 
     // Lines 17 and 18 agree levelled, or, if they can't be levelled together, as they are.
-    ensures together { PairShows (worn_by (levelled_as (code_with 0xF12345 10100) (code_with 0xF12346 10100)))
-        (worn_by (levelled_as (code_with 0xF12345 10100) (code_with 0xF12346 10100)))
+    ensures together { PairShows (worn_by (levelled_codes 0xF12345 10100 0xF12346 10100))
+        (worn_by (levelled_codes 0xF12345 10100 0xF12346 10100))
         (levelled_as (both_at 23000 23800) (both_at 90000 90000)) (Some 0xF12345, 3) (Some 0xF12345, 3) }
-    ensures unlike { PairShows (worn_by (levelled_as (code_with 0xF12347 10799) (code_with 0xF12345 10100)))
-        (worn_by (levelled_as (code_with 0xF12347 10800) (code_with 0xF12345 10100))) (as_given (both_at 23000 23800))
-        (Some 0xF12345, 3) (Some 0xF12347, 3) }
-    ensures apart { PairShows (worn_by (levelled_as (code_with 0xF12345 10799) (code_with 0xF12347 10800)))
-        (worn_by (levelled_as (code_with 0xF12346 10800) (code_with 0xF12348 10800)))
+    ensures unlike { PairShows (worn_by (levelled_codes 0xF12347 10799 0xF12345 10100))
+        (worn_by (levelled_codes 0xF12347 10800 0xF12345 10100)) (as_given (both_at 23000 23800)) (Some 0xF12345, 3)
+        (Some 0xF12347, 3) }
+    ensures apart { PairShows (worn_by (levelled_codes 0xF12345 10799 0xF12347 10800))
+        (worn_by (levelled_codes 0xF12346 10800 0xF12348 10800))
         (levelled_as (both_at 23001 29999) (both_at 23001 29999)) (Some 0xF12347, 3) (Some 0xF12346, 3) }
 
     // If each of the two goes on beyond its nearest word levelled, they don't agree so; if one does, they may.
@@ -92,10 +92,9 @@ pub fn worked_levels()
         (levelled_as (both_at 20000 29999) (both_at 90000 90000)) (Some 0xF12345, 3) (Some 0xF12345, 3) }
 
     // A word of pass 2 stays if one of both says it first.
-    ensures stays { FieldShows (smoothed_by 0x8DC000 (levelled_as (code_with 0x8DC000 10556)
-        (code_with 0x8DC001 10600))) (smoothed_by 0xF12345 (levelled_as (code_with 0xF12345 10555)
-        (code_with 0xF12345 10600))) (read_as (Word 0xF12345) 1) (as_given (both_at 0 0)) (Some 0x8DC000, 2)
-        (Some 0xF12345, 2) (Some 0xF12345, 1) }
+    ensures stays { FieldShows (smoothed_by 0x8DC000 (levelled_codes 0x8DC000 10556 0x8DC001 10600))
+        (smoothed_by 0xF12345 (levelled_codes 0xF12345 10555 0xF12345 10600)) (read_as (Word 0xF12345) 1)
+        (as_given (both_at 0 0)) (Some 0x8DC000, 2) (Some 0xF12345, 2) (Some 0xF12345, 1) }
 {}
 
 /// A word of pass 2 that its line doesn't say stays if the line, on somewhat longer or shorter cells, is nearer to
@@ -112,10 +111,9 @@ pub fn worked_stretched()
         (Some 0x8DC000, 2) (None, 0) (None, 0) }
 
     // Another word may be nearer levelled: the line as it is counts.
-    ensures beside_as_it_is { FieldShows (smoothed_at 9200 0x8DC000
-        (levelled_as (code_with 0x8DC000 10555) (code_with 0x8AE000 10100)))
-        (smoothed_at 9201 0x8DC000 (levelled_as (code_with 0x8DC000 10555) (code_with 0x8AE000 10100)))
-        (read_as Blank 0) (as_given (both_at 0 0)) (Some 0x8DC000, 2) (None, 0) (None, 0) }
+    ensures beside_as_it_is { FieldShows (smoothed_at 9200 0x8DC000 (levelled_codes 0x8DC000 10555 0x8AE000 10100))
+        (smoothed_at 9201 0x8DC000 (levelled_codes 0x8DC000 10555 0x8AE000 10100)) (read_as Blank 0)
+        (as_given (both_at 0 0)) (Some 0x8DC000, 2) (None, 0) (None, 0) }
 {}
 
 /// Two lines agree by their words or by their codes, and go on by their words; what several lines say together.
@@ -127,10 +125,8 @@ pub fn worked_together()
     ensures words_go_on { PairShows (worn (code_beside 0xF1234A 10000 9699 11000 11500))
         (worn (code_beside 0xF1234B 10000 9699 11000 11500))
         (as_given (from_none 60000 (code_beside 0xF1234C 23100 23100 23400 29000))) (None, 0) (None, 0) }
-    ensures levelled_first { said_together 100 true 2 (levelled_as (code_with 0xF12345 11000)
-        (code_with 0xF12346 11000)) ≡ Some 0xF12345 }
-    ensures given_next { said_together 100 true 2 (levelled_as (code_with 0xF12345 10399) (code_with 0xF12346 10400))
-        ≡ Some 0xF12346 }
+    ensures levelled_first { said_together 100 true 2 (levelled_codes 0xF12345 11000 0xF12346 11000) ≡ Some 0xF12345 }
+    ensures given_next { said_together 100 true 2 (levelled_codes 0xF12345 10399 0xF12346 10400) ≡ Some 0xF12346 }
     ensures known { PileSaysUntil true (code_with 0xF12345) 0xF12345 10400 10399 }
     ensures unknown { PileSaysUntil false (code_with 0xF12345) 0xF12345 10800 10799 }
     ensures other { PileSaysUntil true (other_with 0xF1234A) 0xF1234A 10800 10799 }

@@ -1,4 +1,6 @@
-//! How near one word is whose cells are somewhat longer or shorter than they should be.
+//! How near one word is whose cells are somewhat longer or shorter than they should be: they have 98 to 102 hundredths
+//! of their length. Two hundredths of a word's 48 half cells are about one half cell. With more, the last half cells
+//! would be compared with columns that lie by more than that beside them.
 
 ghost use Rattle.std.specs.Prelude.{◌≡◌, ℕ, ◌+◌, ◌-◌, ◌*◌, ◌≤◌, ◌<◌, length, List, slice_index_or};
 ghost use Rattle.vbi_near.specs.Common.{width_of, Slicing, Samples, IsPile, AreFew, shades};

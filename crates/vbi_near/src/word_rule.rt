@@ -115,8 +115,8 @@ pub(crate) fn is_clear(unit: u32, margin: Margin, ends: u8, lines: u32, word: &N
         && is_whole(word.blank, word.halved, &word.near)
 }
 
-/// How far a code may be if this is the nearest word: by three columns farther, which is less than any margin of a
-/// code.
+/// How far a code may be if this is the nearest word: by three columns farther. Any margin of a code is more, so if a
+/// code is said, no other one is within the limit.
 pub(crate) fn close_limit(unit: u32, word: &Near) -> u64
     ensures { result ≡ close_limit unit word.now }
 {
@@ -292,16 +292,10 @@ fn do_agree(unit: u32, ends: u8, second: &Nears, third: &Nears, both: &Nears) ->
 }
 
 /// Whether two lines agree, if each has a nearest word, and both together.
-fn may_agree(
-    unit: u32,
-    ends: u8,
-    second: Option<Nears>,
-    third: Option<Nears>,
-    both: Option<Nears>,
-) -> bool
-    ensures { result ≡ may_agree unit ends second third both }
+fn may_agree(unit: u32, ends: u8, near: &PairNears) -> bool
+    ensures { result ≡ may_agree unit ends near.now.second near.now.third near.now.both }
 {
-    match (second, third, both) {
+    match (near.second, near.third, near.both) {
         (Some(second), Some(third), Some(both)) => do_agree(unit, ends, &second, &third, &both),
         _ => false,
     }
@@ -311,8 +305,7 @@ fn may_agree(
 fn stand_of(margins: &MarginSet, unit: u32, near: &PairNears) -> Stand
     ensures { result ≡ stand_of margins.now unit near.now }
 {
-    let near = *near;
-    if may_agree(unit, margins.lone.ends, near.second, near.third, near.both) {
+    if may_agree(unit, margins.lone.ends, near) {
         Stand::Together
     } else {
         Stand::Apart

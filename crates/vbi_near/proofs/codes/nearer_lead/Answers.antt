@@ -1,7 +1,7 @@
 use Rattle.std.proofs.Common.{cond, eqb, ℕ}
 use Rattle.vbi_near.proofs.Common.{IsSeen, at_start}
 use Rattle.vbi_near.proofs.Looks.{turned, merged_is, lead-by, next-by}
-use Rattle.vbi_near.proofs.order.nearer_lead.Goals as goal
+use Rattle.vbi_near.proofs.codes.nearer_lead.Goals as goal
 
 pub returns-then-comes_first-clause-lead : goal.returns-then-comes_first-clause-lead
 returns-then-comes_first-clause-lead c cost looks at words is are =

@@ -1,7 +1,7 @@
 use Rattle.std.proofs.Common.{◌-◌, ◌<◌, arith, inl, inr, subst, sym}
 use Rattle.vbi_near.proofs.Common.{Shades, cell_length, IsLongerFound, shades_of}
 use Rattle.vbi_near.proofs.Beside.{cell-offset, room-after, black-beside, after-alone, before-alone, both-sides}
-use Rattle.vbi_near.proofs.longer_signal.longer_distance.Goals as goal
+use Rattle.vbi_near.proofs.ends.longer_distance.Goals as goal
 
 pub with_cell_at-requires-clause-black : goal.with_cell_at-requires-clause-black
 with_cell_at-requires-clause-black c =

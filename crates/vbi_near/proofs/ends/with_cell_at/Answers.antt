@@ -1,7 +1,7 @@
 use Rattle.std.proofs.Common.{◌≡◌, ℕ, ◌+◌, ◌-◌, ◌∙◌, ap, arith}
 use Rattle.vbi_near.proofs.Common.{column_of, total_in, cell_length, shades_of}
 use Rattle.vbi_near.proofs.Beside.{cell-offset, offset-column, nearer-cell}
-use Rattle.vbi_near.proofs.longer_signal.with_cell_at.Goals as goal
+use Rattle.vbi_near.proofs.ends.with_cell_at.Goals as goal
 
 pub overflow_sub-result : goal.overflow_sub-result
 overflow_sub-result c =

@@ -1,7 +1,7 @@
 use Rattle.std.proofs.Common.{arith}
 use Rattle.vbi_near.proofs.Common.{shades_of}
 use Rattle.vbi_near.proofs.CutShort.{last_within}
-use Rattle.vbi_near.proofs.shorter_signal.shorter_distance.Goals as goal
+use Rattle.vbi_near.proofs.ends.shorter_distance.Goals as goal
 
 pub without_cell-last-requires-clause-drawn : goal.without_cell-last-requires-clause-drawn
 without_cell-last-requires-clause-drawn c =
