@@ -1,6 +1,6 @@
 -- What is judged of a part of a side, read field by field, is what is judged of the whole side.
-use Rattle.std.proofs.Common.{◌≡◌, ℕ, ◌+◌, ◌*◌, ◌-◌, ◌<◌, ◌≤◌, List, length, take, drop, ap, sym, subst, ◌∙◌}
-use Rattle.std.proofs.Common.{arith, inl, inr, zero-add, refl}
+use Rattle.std.proofs.Common.{◌≡◌, ℕ, ◌+◌, ◌-◌, ◌<◌, ◌≤◌, List, length, take, drop, ap, sym, subst, ◌∙◌}
+use Rattle.std.proofs.Common.{arith, inl, inr}
 use Rattle.std.specs.Prelude.{◌⊎◌, Some, None, get_or, slice_get}
 use Rattle.std.proofs.lemmas.Bool.Decides.{leb_tells}
 use Rattle.std.proofs.lemmas.List.{get_or-take, get_or-drop, length-take, length-drop}
@@ -9,7 +9,6 @@ use Rattle.std.proofs.lemmas.Option.{slice_get_within, slice_get-get_or, get_or_
 use Rattle.vbi_side.specs.declared.number.Number.{Number}
 use Rattle.vbi_side.specs.declared.pace.Pace as paces
 use Rattle.vbi_side.specs.declared.sighting.Sightings.{Sightings}
-use Rattle.vbi_side.specs.Beliefs.{reach}
 use Rattle.vbi_side.specs.Numbers.{IsAnswer, IsFirst, IsKnown}
 use Rattle.vbi_side.specs.Parts.{IsPart}
 use Rattle.vbi_side.proofs.Filling.{one_answer}
@@ -18,7 +17,7 @@ use Rattle.vbi_seek.specs.declared.number_search.Around.{Around}
 use Rattle.vbi_seek.specs.declared.number_search.NumberSearch.{NumberSearch}
 use Rattle.vbi_seek.specs.NumberLeads.{IsFirstKnown}
 use Rattle.vbi_seek.specs.NumbersAround.{numbers_of, among, IsWindow, IsJudgedAround}
-use Rattle.vbi_seek.proofs.Shown.{at, past}
+use Rattle.vbi_seek.proofs.Shown.{same_there}
 use Rattle.vbi_seek.specs.NumberSearch.{shown_at, shown_from, shown_of, HasOther, IsJudgedIn}
 
 -- ---- lists
@@ -48,22 +47,13 @@ part_of : (search : NumberSearch) (a : Around) (i : ℕ) → IsWindow search.sid
     → IsPart Sightings (all_shown search) (shown_from (numbers_of search) a.first (a.end - a.first)) a.first i
 part_of search a i window after before = record {
   before = elim window.before [ inl none ↦ inl none | inr far ↦ inr (omega (arith, far, after)) ];
-  same = same;
+  same = λ j within. same_there (shown_at (numbers_of search)) a.first (a.end - a.first) search.side.count j
+      (omega (arith, window.order))
+      (λ more. elim window.after [
+        | inl all ↦ omega (arith, all, window.order)
+        | inr far ↦ absurd (omega (arith, far, within, more, before))
+      ]);
 }
-  where
-    same : (j : ℕ) → j ≤ i + 2 * reach
-        → slice_get (shown_from (numbers_of search) a.first (a.end - a.first)) j
-        ≡ slice_get (all_shown search) (a.first + j)
-    same j within = elim (leb_tells (a.end - a.first) j) [
-      | inr (t, less) ↦ at (shown_at (numbers_of search)) a.first (a.end - a.first) j (a.first + j) less refl
-          ∙ sym (at (shown_at (numbers_of search)) 0 search.side.count (a.first + j) (a.first + j)
-          (omega (arith, window.order, less)) (zero-add (a.first + j)))
-      | inl (t, more) ↦ past (shown_at (numbers_of search)) a.first (a.end - a.first) j more
-          ∙ sym (past (shown_at (numbers_of search)) 0 search.side.count (a.first + j) (elim window.after [
-            | inl all ↦ omega (arith, all, more)
-            | inr far ↦ absurd (omega (arith, far, within, more, before))
-          ]))
-    ]
 
 -- what is answered of field i of those in which the number is looked for is answered of it in the whole side
 pub judged_among : (search : NumberSearch) (a : Around) (pace : paces.Pace) (numbers : List Number) (i : ℕ) (n : Number)

@@ -1,6 +1,6 @@
 -- The field in which a chapter begins, by the answers of the fields around it.
 use Rattle.std.proofs.Common.{◌≡◌, ℕ, ◌+◌, ◌-◌, ◌<◌, ◌≤◌, List, ap, sym, subst, ◌∙◌, arith, inl, inr}
-use Rattle.std.proofs.Common.{refl, zero-add}
+use Rattle.std.proofs.Common.{refl}
 use Rattle.std.specs.Prelude.{◌⊎◌, ◌↔◌, Some, get_or, slice_get, min}
 use Rattle.std.proofs.lemmas.Bool.Decides.{leb_tells}
 use Rattle.std.proofs.lemmas.List.FromFn.{length-map-range_with_len}
@@ -20,7 +20,7 @@ use Rattle.vbi_seek.specs.ChapterSearch.{chapters_at, side_from, HasChapter, Beg
 use Rattle.vbi_seek.specs.ChapterSearch.{AreSeenBefore, IsWindowOf, before_most}
 use Rattle.vbi_seek.specs.ChapterLeads.{IsFirstOf, IsReached}
 use Rattle.vbi_seek.specs.FieldLines.{side_of}
-use Rattle.vbi_seek.proofs.Shown.{at, past}
+use Rattle.vbi_seek.proofs.Shown.{same_there}
 
 -- ---- answers
 
@@ -38,16 +38,9 @@ pub record IsClear (answers : List Number) (first from i clear n : ℕ) : Type 0
 -- what the fields of a window show is what those of the side show, as far as an answer depends on it
 same_shown : (side : SideBytes) (w : Window) (i j : ℕ) → IsWindowOf side.count w → w.from ≤ i → i < w.to → IsNear i j
     → slice_get (side_from side w.first w.many) j ≡ slice_get (side_from side 0 side.count) (w.first + j)
-same_shown side w i j window from to near = elim (leb_tells w.many j) [
-  | inr (t, less) ↦ at (chapters_at (side_of side)) w.first w.many j (w.first + j) less refl
-      ∙ sym (at (chapters_at (side_of side)) 0 side.count (w.first + j) (w.first + j)
-      (omega (arith, window.order, less)) (zero-add (w.first + j)))
-  | inl (t, more) ↦ past (chapters_at (side_of side)) w.first w.many j more
-      ∙ sym (past (chapters_at (side_of side)) 0 side.count (w.first + j) (elim window.after [
-        | inl all ↦ omega (arith, all, more)
-        | inr far ↦ absurd (omega (arith, far, near, more, to))
-      ]))
-]
+same_shown side w i j window from to near =
+    same_there (chapters_at (side_of side)) w.first w.many side.count j (omega (arith, window.order))
+    (λ more. elim window.after [ inl all ↦ all | inr far ↦ absurd (omega (arith, far, near, more, to)) ])
 
 -- a chapter is answered of a field there just if it is believed of it by what the whole side shows
 pub told : (side : SideBytes) (w : Window) (answers : List Number) (i n : ℕ) → IsWindowOf side.count w

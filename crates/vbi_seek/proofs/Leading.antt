@@ -38,26 +38,21 @@ abbrev pub half_at : End → Between → Between
 half_at First old = record old { high = middle_in old }
 half_at Last old = record old { low = middle_in old }
 
--- the middles of sixteen parts aren't all silent
+-- the middles of sixteen parts aren't all silent: each silent one lies before a
+below : (a b p : ℕ) → p ≤ b → (p ≤ b → a ≤ p → ⊥) → p < a
+below a b p before outside = elim (leb_tells a p) [
+  | inl (s, from) ↦ absurd (outside before from)
+  | inr (s, less) ↦ less
+]
+
 part_first : (count a b p : ℕ) → count + 16 * a ≤ 16 * (b + 1) → b < count → 32 * p ≤ count → (p ≤ b → a ≤ p → ⊥)
     → p < a
-part_first count a b p part inside low outside = elim (leb_tells (b + 1) p) [
-  | inl (t, after) ↦ absurd (omega (arith, part, inside, low, after))
-  | inr (t, before) ↦ elim (leb_tells a p) [
-    | inl (s, from) ↦ absurd (outside (omega (arith, before)) from)
-    | inr (s, less) ↦ less
-  ]
-]
+part_first count a b p part inside low outside = below a b p (omega (arith, part, inside, low)) outside
 
 part_next : (count a b x p q : ℕ) → count + 16 * a ≤ 16 * (b + 1) → b < count → p < a → x < 32 * (p + 1)
     → 32 * q ≤ x + 2 * count → (q ≤ b → a ≤ q → ⊥) → q < a
-part_next count a b x p q part inside below high low outside = elim (leb_tells (b + 1) q) [
-  | inl (t, after) ↦ absurd (omega (arith, part, inside, low, high, below, after))
-  | inr (t, before) ↦ elim (leb_tells a q) [
-    | inl (s, from) ↦ absurd (outside (omega (arith, before)) from)
-    | inr (s, less) ↦ less
-  ]
-]
+part_next count a b x p q part inside less high low outside =
+    below a b q (omega (arith, part, inside, low, high, less)) outside
 
 -- ---- what leads there
 

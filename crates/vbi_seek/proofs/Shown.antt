@@ -1,6 +1,7 @@
 -- What is known of the first fields from one on, and of one field more.
 use Rattle.std.proofs.Common.{◌≡◌, ℕ, ◌+◌, ◌<◌, ◌≤◌, ◌∷◌, [], ◌++◌, List, length, map, take, slice_set, refl, ap}
-use Rattle.std.proofs.Common.{add_assoc, arith, sym, ◌∙◌}
+use Rattle.std.proofs.Common.{add_assoc, arith, inl, inr, sym, zero-add, ◌∙◌}
+use Rattle.std.proofs.lemmas.Bool.Decides.{leb_tells}
 use Rattle.std.specs.Prelude.{Some, None, slice_get}
 use Rattle.std.proofs.lemmas.List.{take_more_set}
 use Rattle.std.proofs.lemmas.List.FromFn.{get_or-map-range_with_len, length-map-range_with_len, map-range_with_len_more}
@@ -35,8 +36,18 @@ at f first count i j inside is =
     (omega (arith, length-map-range_with_len f first count, inside))
     ∙ ap Some (get_or-map-range_with_len f first count i j (f j) inside is)
 
-pub past : {A : Type 0} (f : ℕ → A) (first count i : ℕ) → count ≤ i
+past : {A : Type 0} (f : ℕ → A) (first count i : ℕ) → count ≤ i
     → slice_get (map f (range_with_len first count)) i ≡ None
 past f first count i outside =
     slice_get_past (map f (range_with_len first count)) i
     (omega (arith, length-map-range_with_len f first count, outside))
+
+-- a piece has what the whole has there, as far as the piece goes, or to the end
+pub same_there : {A : Type 0} (f : ℕ → A) (first count size j : ℕ) → first + count ≤ size
+    → (count ≤ j → first + count ≡ size)
+    → slice_get (map f (range_with_len first count)) j ≡ slice_get (map f (range_with_len 0 size)) (first + j)
+same_there f first count size j inside all = elim (leb_tells count j) [
+  | inr (t, less) ↦ at f first count j (first + j) less refl
+      ∙ sym (at f 0 size (first + j) (first + j) (omega (arith, inside, less)) (zero-add (first + j)))
+  | inl (t, more) ↦ past f first count j more ∙ sym (past f 0 size (first + j) (omega (arith, all more, more)))
+]
