@@ -14,9 +14,9 @@ use Rattle.vbi_seek.specs.declared.neighbours.Neighbour.{Neighbour}
 use Rattle.vbi_seek.specs.declared.number_search.NumberSearch.{NumberSearch}
 use Rattle.vbi_seek.specs.declared.number_search.Around.{Around}
 use Rattle.vbi_seek.specs.declared.number_search.Sought.{Sought}
-use Rattle.vbi_seek.specs.Neighbours.{IsLastLower, IsLastLowerAt, IsFirstHigher, IsFirstHigherAt, IsBelieved, IsLower}
-use Rattle.vbi_seek.specs.Neighbours.{IsHigher, HaveNoLower, HaveNoHigher, IsNone, IsBefore, IsAfter, AreRising, IsGap}
-use Rattle.vbi_seek.specs.Neighbours.{Span, span_of, all_of, AreNeighbours, AreAround, IsLookedFor, AreLedTo}
+use Rattle.vbi_seek.specs.Neighbours.{Way, down, up, IsNearest, IsNearestAt, IsBelieved, IsToldThere, TellNone, IsNone}
+use Rattle.vbi_seek.specs.Neighbours.{IsBeside, AreRising, IsGap, Span, span_of, all_of, AreNeighbours, AreAround}
+use Rattle.vbi_seek.specs.Neighbours.{IsLookedFor, AreLedTo}
 use Rattle.vbi_seek.specs.NumbersAround.{among, IsJudgedAround}
 use Rattle.vbi_seek.specs.NumberSearch.{Numbers, shown_at, shown_of}
 use Rattle.vbi_seek.proofs.Answered.{all_shown, judged_among, one_among}
@@ -42,54 +42,6 @@ marked_at search a pace numbers i n judged from to told =
         (judged_among search a pace numbers (i - a.from) x judged there).2)
         told)
 
-lower_among : (search : NumberSearch) (a : Around) (pace : paces.Pace) (numbers : List Number) (at m : ℕ)
-    → IsJudgedAround search a pace numbers
-    → IsLastLowerAt (among a numbers) (length (among a numbers)) search.number at m
-    → IsLower (all_shown search) (span_of pace a) search.number (a.from + at) m
-lower_among search a pace numbers at m judged is = record {
-  inside = (omega arith, here.0);
-  told = here.2;
-  lower = is.lower;
-  nearest = nearest;
-}
-  where
-    here : (a.from + at < a.to) × (slice_get numbers (a.from - a.first + at) ≡ Some (believed m))
-        × IsAnswer pace (all_shown search) (a.from + at) (believed m)
-    here = judged_among search a pace numbers at (believed m) judged is.told
-
-    nearest : (i n : ℕ) → a.from ≤ i → i < a.to → IsBelieved pace (all_shown search) i n → n < search.number
-        → (n < m) ⊎ ((n ≡ m) × (i ≤ a.from + at))
-    nearest i n from to told less =
-        let marked = marked_at search a pace numbers i n judged from to told in
-        elim (is.nearest (i - a.from) n marked.0 marked.1 less) [
-          | inl lower ↦ inl lower
-          | inr (same, earlier) ↦ inr (same, omega (arith, earlier, from))
-        ]
-
-higher_among : (search : NumberSearch) (a : Around) (pace : paces.Pace) (numbers : List Number) (at m : ℕ)
-    → IsJudgedAround search a pace numbers
-    → IsFirstHigherAt (among a numbers) (length (among a numbers)) search.number at m
-    → IsHigher (all_shown search) (span_of pace a) search.number (a.from + at) m
-higher_among search a pace numbers at m judged is = record {
-  inside = (omega arith, here.0);
-  told = here.2;
-  higher = is.higher;
-  nearest = nearest;
-}
-  where
-    here : (a.from + at < a.to) × (slice_get numbers (a.from - a.first + at) ≡ Some (believed m))
-        × IsAnswer pace (all_shown search) (a.from + at) (believed m)
-    here = judged_among search a pace numbers at (believed m) judged is.told
-
-    nearest : (i n : ℕ) → a.from ≤ i → i < a.to → IsBelieved pace (all_shown search) i n → search.number < n
-        → (m < n) ⊎ ((n ≡ m) × (a.from + at ≤ i))
-    nearest i n from to told more =
-        let marked = marked_at search a pace numbers i n judged from to told in
-        elim (is.nearest (i - a.from) n marked.0 marked.1 more) [
-          | inl higher ↦ inl higher
-          | inr (same, later) ↦ inr (same, omega (arith, later, from))
-        ]
-
 -- a neighbour that stands at a field of these, as it is answered
 abbrev pub StandsAt : Around → List Number → Neighbour → ℕ → Type 0
 StandsAt a numbers neighbour i =
@@ -98,162 +50,174 @@ StandsAt a numbers neighbour i =
 some_same : (x y : Number) → Some x ≡ Some y → x ≡ y
 some_same x y e = cc
 
--- the last field with the nearest lower number among them is so in the side
-pub before_among : (search : NumberSearch) (a : Around) (pace : paces.Pace) (numbers : List Number) (at : Option ℕ)
-    (before : Neighbour)
-    → IsJudgedAround search a pace numbers
-    → IsLastLower (among a numbers) (length (among a numbers)) search.number at
-    → (at ≡ None → IsNone search.side.count before) → IfSome at (StandsAt a numbers before)
-    → IsBefore (all_shown search) search.side.count (span_of pace a) search.number before
-before_among search a pace numbers None before judged is none some = inr (
-  none refl,
-  λ i n from to told less.
-      let marked = marked_at search a pace numbers i n judged from to told in is (i - a.from) n marked.0 marked.1 less,
-)
-before_among search a pace numbers (Some at) before judged (m, is) none (field, there) = inl (
-  m,
-  some_same before.number (believed m) (sym there ∙ is.told),
-  subst (λ f. IsLower (all_shown search) (span_of pace a) search.number f m) (sym field)
-      (lower_among search a pace numbers at m judged is),
-)
+-- of two fields of them that comes later this way which does of their places among them
+abbrev pub Moves : Way → Type 0
+Moves way = (i at from : ℕ) → from ≤ i → way.passed (i - from) at → way.passed i (from + at)
 
--- so is the first field with the nearest higher number
-pub after_among : (search : NumberSearch) (a : Around) (pace : paces.Pace) (numbers : List Number) (at : Option ℕ)
-    (after : Neighbour)
-    → IsJudgedAround search a pace numbers
-    → IsFirstHigher (among a numbers) (length (among a numbers)) search.number at
-    → (at ≡ None → IsNone search.side.count after) → IfSome at (StandsAt a numbers after)
-    → IsAfter (all_shown search) search.side.count (span_of pace a) search.number after
-after_among search a pace numbers None after judged is none some = inr (
-  none refl,
-  λ i n from to told more.
-      let marked = marked_at search a pace numbers i n judged from to told in is (i - a.from) n marked.0 marked.1 more,
-)
-after_among search a pace numbers (Some at) after judged (m, is) none (field, there) = inl (
-  m,
-  some_same after.number (believed m) (sym there ∙ is.told),
-  subst (λ f. IsHigher (all_shown search) (span_of pace a) search.number f m) (sym field)
-      (higher_among search a pace numbers at m judged is),
-)
+pub moves_down : Moves down
+moves_down i at from on passed = omega (arith, on, passed)
+
+pub moves_up : Moves up
+moves_up i at from on passed = omega (arith, on, passed)
+
+module _ (way : Way) (moves : Moves way) (search : NumberSearch) (a : Around) (pace : paces.Pace)
+    (numbers : List Number) (judged : IsJudgedAround search a pace numbers) where
+  nearest_among : (at m : ℕ) → IsNearestAt way (among a numbers) (length (among a numbers)) search.number at m
+      → IsToldThere way (all_shown search) (span_of pace a) search.number (a.from + at) m
+  nearest_among at m is = record {
+    inside = (omega arith, here.0);
+    told = here.2;
+    lies = is.lies;
+    nearest = λ i n from to told lies.
+        let marked = marked_at search a pace numbers i n judged from to told in
+        elim (is.nearest (i - a.from) n marked.0 marked.1 lies) [
+          | inl nearer ↦ inl nearer
+          | inr (same, passed) ↦ inr (same, moves i at a.from from passed)
+        ];
+  }
+    where
+      here : (a.from + at < a.to) × (slice_get numbers (a.from - a.first + at) ≡ Some (believed m))
+          × IsAnswer pace (all_shown search) (a.from + at) (believed m)
+      here = judged_among search a pace numbers at (believed m) judged is.told
+
+  -- the last field this way with the nearest number among them is so in the side
+  pub beside_among : (at : Option ℕ) (neighbour : Neighbour)
+      → IsNearest way (among a numbers) (length (among a numbers)) search.number at
+      → (at ≡ None → IsNone search.side.count neighbour) → IfSome at (StandsAt a numbers neighbour)
+      → IsBeside way (all_shown search) search.side.count (span_of pace a) search.number neighbour
+  beside_among None neighbour is none some = inr (
+    none refl,
+    λ i n from to told lies.
+        let marked = marked_at search a pace numbers i n judged from to told in
+        is (i - a.from) n marked.0 marked.1 lies,
+  )
+  beside_among (Some at) neighbour (m, is) none (field, there) = inl (
+    m,
+    some_same neighbour.number (believed m) (sym there ∙ is.told),
+    subst (λ f. IsToldThere way (all_shown search) (span_of pace a) search.number f m) (sym field)
+        (nearest_among at m is),
+  )
 
 -- ---- the whole side
 
--- the nearest lower number of some fields is that of the whole side, if no lower one is told after them, and they tell
+-- each number that is told outside of these fields this way is further off than one that is told among them, or is told
+-- before it
+abbrev IsFurther : Way → List Sightings → Span → ℕ → Type 0
+IsFurther way shown span number = (field m i n : ℕ) → (span.from ≤ field) × (field < span.to)
+    → IsBelieved span.pace shown field m → (span.from ≤ i → i < span.to → ⊥) → IsBelieved span.pace shown i n
+    → way.lies n number → way.lies n m ⊎ ((n ≡ m) × way.passed i field)
+
+-- the nearest number of some fields is that of the whole side, if those of others are further off, and these fields tell
 -- one if the side does
-lower_whole : (shown : List Sightings) (count : ℕ) (span : Span) (number : ℕ) (before : Neighbour)
-    → span.to ≤ count → AreRising span.pace shown
-    → ((i n : ℕ) → span.to ≤ i → IsBelieved span.pace shown i n → n < number → ⊥)
-    → ((i n : ℕ) → IsBelieved span.pace shown i n → n < number → HaveNoLower shown span number → ⊥)
-    → IsBefore shown count span number before → IsBefore shown count (all_of span.pace count) number before
-lower_whole shown count span number before inside rising later there (inr (none, lacks)) =
-    inr (none, λ i n begin end told less. there i n told less lacks)
-lower_whole shown count span number before inside rising later there (inl (m, is, lower)) = inl (
+whole_side : (way : Way) (shown : List Sightings) (count : ℕ) (span : Span) (number : ℕ) (neighbour : Neighbour)
+    → span.to ≤ count → IsFurther way shown span number
+    → ((i n : ℕ) → IsBelieved span.pace shown i n → way.lies n number → TellNone way shown span number → ⊥)
+    → IsBeside way shown count span number neighbour
+    → IsBeside way shown count (all_of span.pace count) number neighbour
+whole_side way shown count span number neighbour inside further there (inr (none, lacks)) =
+    inr (none, λ i n begin end told lies. there i n told lies lacks)
+whole_side way shown count span number neighbour inside further there (inl (m, is, nearest)) = inl (
   m,
   is,
   record {
-    inside = (omega arith, omega (arith, lower.inside, inside));
-    told = lower.told;
-    lower = lower.lower;
-    nearest = nearest;
+    inside = (omega arith, omega (arith, nearest.inside, inside));
+    told = nearest.told;
+    lies = nearest.lies;
+    nearest = λ i n begin end told lies. elim (leb_tells span.from i) [
+      | inr (t, out) ↦ further neighbour.field m i n nearest.inside nearest.told
+          (λ on up_to. omega (arith, on, out)) told lies
+      | inl (t, on) ↦ elim (leb_tells span.to i) [
+        | inl (s, out) ↦ further neighbour.field m i n nearest.inside nearest.told
+            (λ from up_to. omega (arith, up_to, out)) told lies
+        | inr (s, up_to) ↦ nearest.nearest i n on up_to told lies
+      ]
+    ];
   },
 )
-  where
-    nearest : (i n : ℕ) → 0 ≤ i → i < count → IsBelieved span.pace shown i n → n < number
-        → (n < m) ⊎ ((n ≡ m) × (i ≤ before.field))
-    nearest i n begin end told less = elim (leb_tells span.from i) [
-      | inl (t, on) ↦ elim (leb_tells span.to i) [
-        | inl (s, out) ↦ absurd (later i n out told less)
-        | inr (s, up_to) ↦ lower.nearest i n on up_to told less
-      ]
-      | inr (t, out) ↦
-          let earlier : i < before.field = omega (arith, out, lower.inside) in
-          elim (eq-or-lt_of_le {n = n} {m = m} (rising i before.field n m earlier told lower.told)) [
+
+-- so it is of lower numbers on a side along which numbers rise, if none is told after these fields
+lower_further : (shown : List Sightings) (span : Span) (number : ℕ) → AreRising span.pace shown
+    → ((i n : ℕ) → span.to ≤ i → IsBelieved span.pace shown i n → n < number → ⊥)
+    → IsFurther down shown span number
+lower_further shown span number rising later field m i n inside its outside told less =
+    elim (leb_tells span.to i) [
+      | inl (t, out) ↦ absurd (later i n out told less)
+      | inr (t, up_to) ↦
+          let earlier : i < field = elim (leb_tells span.from i) [
+            | inl (s, on) ↦ absurd (outside on up_to)
+            | inr (s, out) ↦ omega (arith, out, inside)
+          ] in
+          elim (eq-or-lt_of_le {n = n} {m = m} (rising i field n m earlier told its)) [
             | inl same ↦ inr (same, omega (arith, earlier))
             | inr fewer ↦ inl fewer
           ]
     ]
 
-higher_whole : (shown : List Sightings) (count : ℕ) (span : Span) (number : ℕ) (after : Neighbour)
-    → span.to ≤ count → AreRising span.pace shown
+-- so it is of higher ones, if none is told before these fields
+higher_further : (shown : List Sightings) (span : Span) (number : ℕ) → AreRising span.pace shown
     → ((i n : ℕ) → i < span.from → IsBelieved span.pace shown i n → number < n → ⊥)
-    → ((i n : ℕ) → IsBelieved span.pace shown i n → number < n → HaveNoHigher shown span number → ⊥)
-    → IsAfter shown count span number after → IsAfter shown count (all_of span.pace count) number after
-higher_whole shown count span number after inside rising earlier there (inr (none, lacks)) =
-    inr (none, λ i n begin end told more. there i n told more lacks)
-higher_whole shown count span number after inside rising earlier there (inl (m, is, higher)) = inl (
-  m,
-  is,
-  record {
-    inside = (omega arith, omega (arith, higher.inside, inside));
-    told = higher.told;
-    higher = higher.higher;
-    nearest = nearest;
-  },
-)
-  where
-    nearest : (i n : ℕ) → 0 ≤ i → i < count → IsBelieved span.pace shown i n → number < n
-        → (m < n) ⊎ ((n ≡ m) × (after.field ≤ i))
-    nearest i n begin end told more = elim (leb_tells span.from i) [
+    → IsFurther up shown span number
+higher_further shown span number rising earlier field m i n inside its outside told more =
+    elim (leb_tells span.from i) [
       | inr (t, out) ↦ absurd (earlier i n out told more)
-      | inl (t, on) ↦ elim (leb_tells span.to i) [
-        | inr (s, up_to) ↦ higher.nearest i n on up_to told more
-        | inl (s, out) ↦
-            let later : after.field < i = omega (arith, out, higher.inside) in
-            elim (eq-or-lt_of_le {n = m} {m = n} (rising after.field i m n later higher.told told)) [
-              | inl same ↦ inr (sym same, omega (arith, later))
-              | inr fewer ↦ inl fewer
-            ]
-      ]
+      | inl (t, on) ↦
+          let later : field < i = elim (leb_tells span.to i) [
+            | inr (s, up_to) ↦ absurd (outside on up_to)
+            | inl (s, out) ↦ omega (arith, out, inside)
+          ] in
+          elim (eq-or-lt_of_le {n = m} {m = n} (rising field i m n later its told)) [
+            | inl same ↦ inr (sym same, omega (arith, later))
+            | inr fewer ↦ inl fewer
+          ]
     ]
 
 -- if numbers rise along the side and both neighbours are told, they are those of the whole side
 pub both_whole : (shown : List Sightings) (count : ℕ) (span : Span) (number : ℕ) (before after : Neighbour)
     → span.to ≤ count → AreRising span.pace shown → (before.field < count) × (after.field < count)
-    → IsBefore shown count span number before × IsAfter shown count span number after
-    → IsBefore shown count (all_of span.pace count) number before
-    × IsAfter shown count (all_of span.pace count) number after
+    → IsBeside down shown count span number before × IsBeside up shown count span number after
+    → IsBeside down shown count (all_of span.pace count) number before
+    × IsBeside up shown count (all_of span.pace count) number after
 both_whole shown count span number before after inside rising has (inr ((field, none), lacks), told) =
     absurd (omega (arith, field, has))
 both_whole shown count span number before after inside rising has (inl told, inr ((field, none), lacks)) =
     absurd (omega (arith, field, has))
-both_whole shown count span number before after inside rising has
-    (inl (m, is, lower), inl (h, its, higher)) = (
-      lower_whole shown count span number before inside rising
-          (λ i n out told less. omega (
-            arith,
-            less,
-            higher.higher,
-            rising after.field i h n
-                (omega (arith, higher.inside, out)) higher.told told,
-          ))
-          (λ i n told less lacks. lacks before.field m lower.inside.0 lower.inside.1 lower.told lower.lower)
-          (inl (m, is, lower)),
-      higher_whole shown count span number after inside rising
-          (λ i n out told more. omega (
-            arith,
-            more,
-            lower.lower,
-            rising i before.field n m
-                (omega (arith, lower.inside, out)) told lower.told,
-          ))
-          (λ i n told more lacks. lacks after.field h higher.inside.0 higher.inside.1 higher.told higher.higher)
-          (inl (h, its, higher)),
-    )
+both_whole shown count span number before after inside rising has (inl (m, is, lower), inl (h, its, higher)) = (
+  whole_side down shown count span number before inside
+      (lower_further shown span number rising (λ i n out told less. omega (
+        arith,
+        less,
+        higher.lies,
+        rising after.field i h n (omega (arith, higher.inside, out)) higher.told told,
+      )))
+      (λ i n told less lacks. lacks before.field m lower.inside.0 lower.inside.1 lower.told lower.lies)
+      (inl (m, is, lower)),
+  whole_side up shown count span number after inside
+      (higher_further shown span number rising (λ i n out told more. omega (
+        arith,
+        more,
+        lower.lies,
+        rising i before.field n m (omega (arith, lower.inside, out)) told lower.told,
+      )))
+      (λ i n told more lacks. lacks after.field h higher.inside.0 higher.inside.1 higher.told higher.lies)
+      (inl (h, its, higher)),
+)
 
 -- so they are, if there is a gap for the number at a field, and the number was looked for in all around it
 pub gap_whole : (shown : List Sightings) (count : ℕ) (span : Span) (number t : ℕ) (sought : Sought)
     → span.to ≤ count → length shown ≡ count → AreAround count t span.from span.to → IsGap span.pace shown number t
     → AreNeighbours shown count span number sought → AreNeighbours shown count (all_of span.pace count) number sought
 gap_whole shown count span number t sought inside long around gap (before, after) = (
-  lower_whole shown count span number sought.before inside gap.rising
-      (λ i n out told less. omega (arith, out, (gap.lower i n told less).0, here))
+  whole_side down shown count span number sought.before inside
+      (lower_further shown span number gap.rising
+      (λ i n out told less. omega (arith, out, (gap.lower i n told less).0, here)))
       (λ i n told less lacks. let (j, m, near, its, lower) = (gap.lower i n told less).1 in
       let up_to = (gap.lower j m its lower).0 in
       let there = around j near (omega (arith, up_to)) (omega (arith, up_to, gap.inside, long)) in
       lacks j m there.0 there.1 its lower)
       before,
-  higher_whole shown count span number sought.after inside gap.rising
-      (λ i n out told more. omega (arith, out, (gap.higher i n told more).0, here))
+  whole_side up shown count span number sought.after inside
+      (higher_further shown span number gap.rising
+      (λ i n out told more. omega (arith, out, (gap.higher i n told more).0, here)))
       (λ i n told more lacks. let (j, m, near, its, higher) = (gap.higher i n told more).1 in
       let on = (gap.higher j m its higher).0 in
       let there = around j (omega (arith, on)) near (omega (arith, within j m its, long)) in

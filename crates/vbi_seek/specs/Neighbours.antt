@@ -13,31 +13,35 @@ use Rattle.vbi_seek.specs.NumberLeads.{number_spots}
 use Rattle.vbi_seek.specs.Spots.{Leads}
 use Rattle.vbi_seek.specs.NumberSearch.{Numbers, numbers_by, shown_of, IsJudgedIn}
 
+-- ---- the two ways
+
+-- a way from a number to a neighbour: whether a number lies that way of another, and whether a field comes no later that
+-- way than another of the same number, of which the last one is the neighbour
+pub record Way : Type 1 where
+  pub lies : ℕ → ℕ → Type 0
+  pub passed : ℕ → ℕ → Type 0
+
+-- to the lower numbers, whose neighbour is the last of its fields, and to the higher ones, whose is the first
+abbrev pub down : Way
+down = record { lies = λ n m. n < m; passed = λ i j. i ≤ j }
+
+abbrev pub up : Way
+up = record { lies = λ n m. m < n; passed = λ i j. j ≤ i }
+
 -- ---- among answers
 
--- field `at` of those before field k is the last with the nearest lower number that is believed, which is m
-pub record IsLastLowerAt (answers : List Number) (k number at m : ℕ) : Type 0 where
+-- field `at` of those before field k is the last one this way with the nearest number that is believed, which is m
+pub record IsNearestAt (way : Way) (answers : List Number) (k number at m : ℕ) : Type 0 where
   pub inside : at < k
   pub told : IsMarked answers at m
-  pub lower : m < number
-  pub nearest : (i n : ℕ) → i < k → IsMarked answers i n → n < number → (n < m) ⊎ ((n ≡ m) × (i ≤ at))
+  pub lies : way.lies m number
+  pub nearest : (i n : ℕ) → i < k → IsMarked answers i n → way.lies n number
+      → way.lies n m ⊎ ((n ≡ m) × way.passed i at)
 
 -- it is, if one of them has any
-abbrev pub IsLastLower : List Number → ℕ → ℕ → Option ℕ → Type 0
-IsLastLower answers k number (Some at) = (m : ℕ) × IsLastLowerAt answers k number at m
-IsLastLower answers k number None = (i n : ℕ) → i < k → IsMarked answers i n → n < number → ⊥
-
--- field `at` of those before field k is the first with the nearest higher number that is believed, which is m
-pub record IsFirstHigherAt (answers : List Number) (k number at m : ℕ) : Type 0 where
-  pub inside : at < k
-  pub told : IsMarked answers at m
-  pub higher : number < m
-  pub nearest : (i n : ℕ) → i < k → IsMarked answers i n → number < n → (m < n) ⊎ ((n ≡ m) × (at ≤ i))
-
--- it is, if one of them has any
-abbrev pub IsFirstHigher : List Number → ℕ → ℕ → Option ℕ → Type 0
-IsFirstHigher answers k number (Some at) = (m : ℕ) × IsFirstHigherAt answers k number at m
-IsFirstHigher answers k number None = (i n : ℕ) → i < k → IsMarked answers i n → number < n → ⊥
+abbrev pub IsNearest : Way → List Number → ℕ → ℕ → Option ℕ → Type 0
+IsNearest way answers k number (Some at) = (m : ℕ) × IsNearestAt way answers k number at m
+IsNearest way answers k number None = (i n : ℕ) → i < k → IsMarked answers i n → way.lies n number → ⊥
 
 -- ---- among the fields of a side from one on up to another
 
@@ -59,47 +63,28 @@ all_of pace count = record { pace = pace; from = 0; to = count }
 abbrev pub IsBelieved : paces.Pace → List Sightings → ℕ → ℕ → Type 0
 IsBelieved pace shown i n = IsAnswer pace shown i (believed n)
 
--- this field is the last of them with the nearest lower number that they tell, which is m
-pub record IsLower (shown : List Sightings) (span : Span) (number field m : ℕ) : Type 0 where
+-- this field is the last of them this way with the nearest number that they tell, which is m
+pub record IsToldThere (way : Way) (shown : List Sightings) (span : Span) (number field m : ℕ) : Type 0 where
   pub inside : (span.from ≤ field) × (field < span.to)
   pub told : IsBelieved span.pace shown field m
-  pub lower : m < number
-  pub nearest : (i n : ℕ) → span.from ≤ i → i < span.to → IsBelieved span.pace shown i n → n < number
-      → (n < m) ⊎ ((n ≡ m) × (i ≤ field))
+  pub lies : way.lies m number
+  pub nearest : (i n : ℕ) → span.from ≤ i → i < span.to → IsBelieved span.pace shown i n → way.lies n number
+      → way.lies n m ⊎ ((n ≡ m) × way.passed i field)
 
--- they tell no lower number
-abbrev pub HaveNoLower : List Sightings → Span → ℕ → Type 0
-HaveNoLower shown span number =
-    (i n : ℕ) → span.from ≤ i → i < span.to → IsBelieved span.pace shown i n → n < number → ⊥
-
--- this field is the first of them with the nearest higher number that they tell, which is m
-pub record IsHigher (shown : List Sightings) (span : Span) (number field m : ℕ) : Type 0 where
-  pub inside : (span.from ≤ field) × (field < span.to)
-  pub told : IsBelieved span.pace shown field m
-  pub higher : number < m
-  pub nearest : (i n : ℕ) → span.from ≤ i → i < span.to → IsBelieved span.pace shown i n → number < n
-      → (m < n) ⊎ ((n ≡ m) × (field ≤ i))
-
--- they tell no higher number
-abbrev pub HaveNoHigher : List Sightings → Span → ℕ → Type 0
-HaveNoHigher shown span number =
-    (i n : ℕ) → span.from ≤ i → i < span.to → IsBelieved span.pace shown i n → number < n → ⊥
+-- they tell no number this way
+abbrev pub TellNone : Way → List Sightings → Span → ℕ → Type 0
+TellNone way shown span number =
+    (i n : ℕ) → span.from ≤ i → i < span.to → IsBelieved span.pace shown i n → way.lies n number → ⊥
 
 -- there is no neighbour: the field is none of the side's, and then there is no number
 abbrev pub IsNone : ℕ → Neighbour → Type 0
 IsNone count neighbour = (neighbour.field ≡ count) × (neighbour.number ≡ nothing)
 
--- the neighbour before the number is the nearest lower one that these fields tell, if they tell any
-abbrev pub IsBefore : List Sightings → ℕ → Span → ℕ → Neighbour → Type 0
-IsBefore shown count span number before =
-    ((m : ℕ) × (before.number ≡ believed m) × IsLower shown span number before.field m)
-    ⊎ (IsNone count before × HaveNoLower shown span number)
-
--- the one after it is the nearest higher one that they tell, if they tell any
-abbrev pub IsAfter : List Sightings → ℕ → Span → ℕ → Neighbour → Type 0
-IsAfter shown count span number after =
-    ((m : ℕ) × (after.number ≡ believed m) × IsHigher shown span number after.field m)
-    ⊎ (IsNone count after × HaveNoHigher shown span number)
+-- the neighbour this way is the nearest number that these fields tell there, if they tell any
+abbrev pub IsBeside : Way → List Sightings → ℕ → Span → ℕ → Neighbour → Type 0
+IsBeside way shown count span number neighbour =
+    ((m : ℕ) × (neighbour.number ≡ believed m) × IsToldThere way shown span number neighbour.field m)
+    ⊎ (IsNone count neighbour × TellNone way shown span number)
 
 -- ---- of the whole side
 
@@ -120,7 +105,7 @@ pub record IsGap (pace : paces.Pace) (shown : List Sightings) (number t : ℕ) :
 -- the neighbours are those that the fields from one on up to another tell
 abbrev pub AreNeighbours : List Sightings → ℕ → Span → ℕ → Sought → Type 0
 AreNeighbours shown count span number sought =
-    IsBefore shown count span number sought.before × IsAfter shown count span number sought.after
+    IsBeside down shown count span number sought.before × IsBeside up shown count span number sought.after
 
 -- they are those that all fields of the side tell
 abbrev pub AreOfSide : Numbers → paces.Pace → ℕ → Sought → Type 0

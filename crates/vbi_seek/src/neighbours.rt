@@ -5,7 +5,7 @@
 //! what is between the two is the gap.
 
 ghost use Rattle.std.specs.Prelude.{◌≡◌, ◌<◌, ◌≤◌, ◌+◌, length, slice_get, Some, None, IfSome};
-ghost use Rattle.vbi_seek.specs.Neighbours.{IsLastLower, IsFirstHigher, IsNone};
+ghost use Rattle.vbi_seek.specs.Neighbours.{down, up, IsNearest, IsNone};
 
 use std::mem::size_of;
 use vbi_side::{BELIEVED, NOTHING, Number};
@@ -25,7 +25,7 @@ const _: () = prove!(size_of::<Neighbour>() == 16);
 
 /// The last of the fields with the nearest lower number that is believed.
 pub(crate) fn last_lower(numbers: &[Number], number: u32) -> Option<usize>
-    ensures { IsLastLower numbers.now (length numbers.now) number result }
+    ensures { IsNearest down numbers.now (length numbers.now) number result }
 {
     let mut nearest = None;
     let mut least = 0;
@@ -41,7 +41,7 @@ pub(crate) fn last_lower(numbers: &[Number], number: u32) -> Option<usize>
 
 /// The first of the fields with the nearest higher number that is believed.
 pub(crate) fn first_higher(numbers: &[Number], number: u32) -> Option<usize>
-    ensures { IsFirstHigher numbers.now (length numbers.now) number result }
+    ensures { IsNearest up numbers.now (length numbers.now) number result }
 {
     let mut nearest = None;
     let mut most: u64 = 1 << 32;

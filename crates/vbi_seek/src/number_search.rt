@@ -23,7 +23,7 @@ ghost use Rattle.vbi_seek.specs.Kinds.{most_of};
 ghost use Rattle.vbi_seek.specs.NumberLeads.{number_spots, IsFirstKnown, IsComplete};
 ghost use Rattle.vbi_seek.specs.NumbersAround.{IsWindow, IsJudgedAround, among, numbers_of};
 ghost use Rattle.vbi_seek.specs.Searches.{IsNarrowedAt, IsSilent};
-ghost use Rattle.vbi_seek.specs.Neighbours.{Span, span_of, IsBefore, IsAfter, IsLookedFor, AreAround, AreBeside};
+ghost use Rattle.vbi_seek.specs.Neighbours.{Span, span_of, down, up, IsBeside, IsLookedFor, AreAround, AreBeside};
 ghost use Rattle.vbi_seek.specs.Spots.{IsPlaced, Leads, left_after, three_quarters};
 ghost use Rattle.vbi_seek.specs.NumberSearch.{shown_of, probe_most, probed_most, looked_most, left_most};
 ghost use Rattle.vbi_seek.specs.NumberSearch.{IsSought, IsSoughtIn};
@@ -242,10 +242,10 @@ fn neighbours_among(
     requires window { IsWindow search.now.side.count around.now }
     requires places { length numbers.now ≡ around.now.end - around.now.first }
     ensures before { (pace : paces.Pace) → IsJudgedAround search.now around.now pace numbers.now
-        → IsBefore (shown_of (numbers_of search.now)) search.now.side.count (span_of pace around.now)
+        → IsBeside down (shown_of (numbers_of search.now)) search.now.side.count (span_of pace around.now)
         search.now.number result.0 }
     ensures after { (pace : paces.Pace) → IsJudgedAround search.now around.now pace numbers.now
-        → IsAfter (shown_of (numbers_of search.now)) search.now.side.count (span_of pace around.now)
+        → IsBeside up (shown_of (numbers_of search.now)) search.now.side.count (span_of pace around.now)
         search.now.number result.1 }
 {
     let (from, to) = (around.from - around.first, around.to - around.first);

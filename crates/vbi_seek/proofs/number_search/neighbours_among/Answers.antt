@@ -1,13 +1,14 @@
-use Rattle.vbi_seek.proofs.Beside.{before_among, after_among}
+use Rattle.vbi_seek.proofs.Beside.{beside_among, moves_down, moves_up}
 use Rattle.vbi_seek.proofs.number_search.neighbours_among.Goals as goal
 
 pub returns-clause-before : goal.returns-clause-before
 returns-clause-before c = λ pace judged.
-    before_among c.args.search.now c.args.around.now pace c.args.numbers.now c.last_lower-before.result
-    c.neighbour_at.result judged c.last_lower-before.ensures c.neighbour_at.ensures.none c.neighbour_at.ensures.some
+    beside_among _ moves_down c.args.search.now c.args.around.now pace c.args.numbers.now judged
+    c.last_lower-before.result c.neighbour_at.result c.last_lower-before.ensures c.neighbour_at.ensures.none
+    c.neighbour_at.ensures.some
 
 pub returns-clause-after : goal.returns-clause-after
 returns-clause-after c = λ pace judged.
-    after_among c.args.search.now c.args.around.now pace c.args.numbers.now c.first_higher-after.result
-    c.neighbour_at-2.result judged c.first_higher-after.ensures c.neighbour_at-2.ensures.none
+    beside_among _ moves_up c.args.search.now c.args.around.now pace c.args.numbers.now judged
+    c.first_higher-after.result c.neighbour_at-2.result c.first_higher-after.ensures c.neighbour_at-2.ensures.none
     c.neighbour_at-2.ensures.some
