@@ -1,8 +1,8 @@
 -- The names that more than one proof cites, each passed on from the module that defines it.
 pub use Rattle.std.proofs.Common.{[], ◌%◌, ◌&&◌, ◌*◌, ◌++◌, ◌+◌, ◌<◌, ◌==◌, ◌^◌, ◌||◌, ◌∙◌, ◌∷◌, ◌≡◌, ◌≤◌, ◌⊎◌, Bool}
-pub use Rattle.std.proofs.Common.{List, ap, append-nil, append_assoc, ap₂, arith, cond, decimal, false, inl, inr, leb}
-pub use Rattle.std.proofs.Common.{length, lit<, lit≤, map, not, option_and_then, option_map, refl, subst, suc, sym}
-pub use Rattle.std.proofs.Common.{true, zero, ℕ}
+pub use Rattle.std.proofs.Common.{IsUtf8, List, None, Option, Some, ap, append-nil, append_assoc, ap₂, arith, cond}
+pub use Rattle.std.proofs.Common.{decimal, false, inl, inr, leb, length, lit<, lit≤, map, not, option_and_then}
+pub use Rattle.std.proofs.Common.{option_map, refl, subst, suc, sym, true, zero, ℕ}
 pub use Rattle.std.proofs.lemmas.Bool.{and_parts, not-true}
 pub use Rattle.std.proofs.lemmas.Fmt.{decimal_is_IsNumeral}
 pub use Rattle.std.proofs.lemmas.List.Elements.{All-from_recursion}

@@ -3,12 +3,11 @@ use Rattle.vbi_meta.proofs.Common.{◌≡◌, ℕ, ◌+◌, ◌*◌, ◌%◌, �
 use Rattle.vbi_meta.proofs.Common.{sym, ap, ◌∙◌, subst, arith, option_and_then, append-nil, IsUtf8-append, join_by}
 use Rattle.vbi_meta.proofs.Common.{range_with_len, codes, tokens-print_spaced, ArePrintable-json_tokens}
 use Rattle.vbi_meta.proofs.Common.{IsUtf8-are_ascii, tokens, ArePrintable, AreGaps, json_tokens, depth, Data, of_json}
-use Rattle.vbi_meta.proofs.Common.{max_depth, read, System, ConfigView, Ntsc, Pal, field_bytes, is_one}
+use Rattle.vbi_meta.proofs.Common.{max_depth, read, System, ConfigView, Ntsc, Pal, field_bytes}
 use Rattle.vbi_meta.proofs.Common.{recovered_without, recovered_record_of, document, recovered_document, whole_text}
 use Rattle.vbi_meta.proofs.Common.{fields_of, rest_of, rows_in, IsOfRun, document_with, document_value, recovered_value}
-use Rattle.vbi_meta.proofs.Common.{recovered_field_value, IsReadAs, Slicing}
-use Rattle.std.proofs.Common.{◌/◌, Some}
-use Rattle.std.specs.Prelude.{IsUtf8}
+use Rattle.vbi_meta.proofs.Common.{recovered_field_value, IsReadAs, Slicing, Some, IsUtf8}
+use Rattle.std.proofs.Common.{◌/◌}
 use Rattle.json.proofs.Printed.Trees.{value-json_tokens}
 use Rattle.json.specs.Json as json
 use Rattle.json.specs.Spaced.{print_spaced}
@@ -18,11 +17,10 @@ use Rattle.vbi_field.specs.Texts.{text_before_tail}
 use Rattle.vbi_meta.proofs.DocumentTexts.{tokens_of, Records, head_with, plain_head, recovered_head, document_json}
 use Rattle.vbi_meta.proofs.DocumentTexts.{pieces, pieces_tokens, pieces_gaps, pieces_print, tokens_gapped_then}
 use Rattle.vbi_meta.proofs.DocumentTexts.{gaps_gapped_then}
-use Rattle.vbi_meta.proofs.FieldWrites.{AreShort, is_written}
+use Rattle.vbi_meta.proofs.FieldWrites.{rows_written}
 use Rattle.vbi_meta.proofs.LineFeeds.{tokens-line_feed}
 use Rattle.vbi_meta.proofs.NearTexts.{recovered_json}
 use Rattle.vbi_meta.proofs.RecordTexts.{Pieces, gapped}
-use Rattle.vbi_meta.proofs.ShownLines.{short_row}
 use Rattle.vbi_meta.proofs.StreamRecords.{plain_records, plain_read, recovered_records, recovered_read}
 use Rattle.vbi_meta.proofs.StreamRecords.{recovered_prints, recovered_depth}
 use Rattle.vbi_meta.proofs.ValueReads.{Reads, AreUtf8, AreRead, printed_utf8, stream_reads, stream_depth}
@@ -145,15 +143,8 @@ pub record_is_read : (system : System) (slicing : Slicing) (number : ℕ) (bytes
     IsReadAs (recovered_record_of slicing number field) (recovered_field_value slicing number field)
 unfolding print_spaced
 record_is_read system slicing number bytes marks white small =
-    let rows = rows_in system bytes in
-    let field = recovered_without system slicing rows marks in
-    let short : AreShort rows = record {
-      first = short_row system bytes 0 0;
-      second = short_row system bytes 0 1;
-      third = short_row system bytes 0 2;
-    } in
-    let written = is_written system slicing rows marks field (omega (arith, white)) short
-    (is_one system slicing rows marks) in
+    let field = recovered_without system slicing (rows_in system bytes) marks in
+    let written = rows_written system slicing bytes 0 0 marks (omega (arith, white)) in
     let tree = recovered_json slicing number field in
     let value = recovered_field_value slicing number field in
     let ts = json_tokens tree in

@@ -3,8 +3,7 @@ use Rattle.vbi_meta.proofs.Common.{◌≡◌, ℕ, zero, suc, ◌+◌, ◌<◌, 
 use Rattle.vbi_meta.proofs.Common.{inl, inr, ◌⊎◌, map, arith, range_with_len, codes, Data, string, at, read, items_of}
 use Rattle.vbi_meta.proofs.Common.{cause_text_of, FieldReadings, Reading, fields_of, rest_of, ConfigView, value_of}
 use Rattle.vbi_meta.proofs.Common.{whole_of, lines_value, field_with, document_with, field_in, word_of, HasLine}
-use Rattle.vbi_meta.proofs.Common.{nearest_of}
-use Rattle.std.proofs.Common.{Option, Some, None}
+use Rattle.vbi_meta.proofs.Common.{nearest_of, Option, Some, None}
 use Rattle.std.proofs.lemmas.Bool.{cases_lt}
 use Rattle.serde_json.specs.Find.{get_item, as_str}
 use Rattle.vbi_meta.specs.ReadBack.{number_of, cause_of, pass_of, HasCut, HasFields}

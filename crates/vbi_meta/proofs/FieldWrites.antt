@@ -2,7 +2,7 @@
 use Rattle.vbi_meta.proofs.Common.{◌≡◌, ℕ, ◌<◌, ◌^◌, ◌==◌, Bool, true, false, List, length, refl, sym, subst}
 use Rattle.vbi_meta.proofs.Common.{if◌then◌else◌, System, Reading, line_at, Slicing, row_levels, Recovered, Line}
 use Rattle.vbi_meta.proofs.Common.{Candidates, unit_of, Seen, IsRecovered, alone, said_by, FieldRecovered, cause_line}
-use Rattle.vbi_meta.proofs.Common.{as_readings, joined_rows}
+use Rattle.vbi_meta.proofs.Common.{◌+◌, as_readings, is_one, joined_rows, recovered_without}
 use Rattle.vbi_words.specs.Readings.{IsReading}
 use Rattle.vbi_near.specs.Candidates.{row_of, marks_at}
 use Rattle.vbi_near.specs.Recovery.{AreSeen, are_open, stands_by, stands_of, row_at, recovered_of, field_line}
@@ -15,7 +15,7 @@ use Rattle.vbi_meta.proofs.ValueReads.{IsWritten}
 
 -- ---- rows
 
-pub record AreShort (rows : FieldRows) : Type 0 where
+record AreShort (rows : FieldRows) : Type 0 where
   pub first : IsShort rows.first
   pub second : IsShort rows.second
   pub third : IsShort rows.third
@@ -63,7 +63,7 @@ shown_field system slicing rows marks shown (first, second, third, both, seen, e
 cause_shown : (shown reading : Reading) → IsShown shown → IsShown reading → IsShown (cause_line shown reading)
 cause_shown shown reading is are = either IsShown (shown.pass == 3) reading shown (λ e. are) (λ e. is)
 
-pub is_written : (system : System) (slicing : Slicing) (rows : FieldRows) (marks : List Bool) (field : FieldRecovered)
+is_written : (system : System) (slicing : Slicing) (rows : FieldRows) (marks : List Bool) (field : FieldRecovered)
     → slicing.white < 65536 → AreShort rows → RowsRecover system slicing rows marks field → IsWritten slicing field
 is_written system slicing rows marks field small short is =
     let shown = shown_field system slicing (joined_rows rows) marks field.shown is.shown in
@@ -89,3 +89,14 @@ is_written system slicing rows marks field small short is =
       third = near_few system slicing (row_of rows.third (marks_at system marks 2)) field.third small short.third
           is.third;
     }
+
+-- that of three rows of a stream, one after the other
+pub rows_written : (system : System) (slicing : Slicing) (z : List ℕ) (i r : ℕ) (marks : List Bool)
+    → slicing.white < 65536
+    → let rows : FieldRows
+    = record { first = line_at system z i r; second = line_at system z i (r + 1); third = line_at system z i (r + 2) } in
+    IsWritten slicing (recovered_without system slicing rows marks)
+rows_written system slicing z i r marks small =
+    let short = short_row system z i in
+    is_written system slicing _ marks _ small
+    (record { first = short r; second = short (r + 1); third = short (r + 2) }) (is_one system slicing _ marks)

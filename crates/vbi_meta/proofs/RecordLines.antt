@@ -1,16 +1,16 @@
 -- A record of version 3 is on one line.
 use Rattle.vbi_meta.proofs.Common.{ℕ, ◌<◌, ◌^◌, ◌==◌, Bool, List, ◌++◌, decimal, refl, arith, All-from_recursion, codes}
-use Rattle.vbi_meta.proofs.Common.{System, Slicing, is_one, Near, FieldRecovered, cause_lines, word_or_zero, hundredths}
+use Rattle.vbi_meta.proofs.Common.{System, Slicing, Near, FieldRecovered, cause_lines, word_or_zero, hundredths}
 use Rattle.vbi_meta.proofs.Common.{recovered_record_of, recovered_without, as_readings, Reading, rows_in, FieldReadings}
 use Rattle.vbi_meta.proofs.Common.{IsPrinted}
 use Rattle.std.specs.Prelude.{All}
 use Rattle.vbi_field.specs.Document.{lines_of}
 use Rattle.vbi_field.specs.RecoveredDocument.{near_text_of, nears_text_of, record_with}
-use Rattle.vbi_meta.proofs.FieldWrites.{AreShort, is_written}
+use Rattle.vbi_meta.proofs.FieldWrites.{rows_written}
 use Rattle.vbi_meta.proofs.PrintedBytes.{Printed, then, known, count}
 use Rattle.vbi_meta.proofs.RecordTexts.{LineList, list_of, word_list, cause_list, pass_list}
 use Rattle.vbi_meta.proofs.RecoveredLines.{either}
-use Rattle.vbi_meta.proofs.ShownLines.{IsShown, AreShown, short_row}
+use Rattle.vbi_meta.proofs.ShownLines.{IsShown, AreShown}
 use Rattle.vbi_meta.proofs.ValueReads.{IsFew, IsWritten}
 
 list-printed : (list : LineList) → Printed list.opening → Printed list.closing → (readings : FieldReadings)
@@ -65,14 +65,7 @@ pub record_is_line : (system : System) (slicing : Slicing) (number : ℕ) (bytes
     → let field = recovered_without system slicing (rows_in system bytes) marks in
     All IsPrinted (recovered_record_of slicing number field)
 record_is_line system slicing number bytes marks white small =
-    let rows = rows_in system bytes in
-    let field = recovered_without system slicing rows marks in
-    let short : AreShort rows = record {
-      first = short_row system bytes 0 0;
-      second = short_row system bytes 0 1;
-      third = short_row system bytes 0 2;
-    } in
-    let written = is_written system slicing rows marks field (omega (arith, white)) short
-    (is_one system slicing rows marks) in
+    let field = recovered_without system slicing (rows_in system bytes) marks in
+    let written = rows_written system slicing bytes 0 0 marks (omega (arith, white)) in
     let printed = record-printed slicing number field small written in
     All-from_recursion IsPrinted (recovered_record_of slicing number field) printed.all

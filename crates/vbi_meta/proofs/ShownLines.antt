@@ -4,8 +4,7 @@ use Rattle.vbi_meta.proofs.Common.{ap₂, inl, inr, arith, lit<, true, decimal_i
 use Rattle.vbi_meta.proofs.Common.{digit_from_value, codes, AllDigits, are_ascii, IsUtf8-are_ascii, escape, Outcome}
 use Rattle.vbi_meta.proofs.Common.{Word, Blank, Unfinished, Change, Hold, cause_text_of, Reading, reading_at}
 use Rattle.vbi_meta.proofs.Common.{readings_at, row_levels, line_at, FieldReadings, System, ConfigView, Ntsc, Pal}
-use Rattle.vbi_meta.proofs.Common.{Slicing, samples_of, IsWord, is_reading, value_of}
-use Rattle.std.proofs.Common.{IsUtf8}
+use Rattle.vbi_meta.proofs.Common.{Slicing, samples_of, IsWord, is_reading, value_of, IsUtf8}
 use Rattle.std.proofs.lemmas.List.{length-take, length-map}
 use Rattle.std.proofs.lemmas.Fmt.{IsAscii-decimal}
 use Rattle.std.proofs.lemmas.Str.{IsUtf8-from_ascii}

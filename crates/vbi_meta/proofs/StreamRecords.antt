@@ -1,6 +1,6 @@
 -- The records of a stream's documents: their texts, their trees, and the values that these are read as.
 use Rattle.vbi_meta.proofs.Common.{◌≡◌, ℕ, ◌+◌, ◌≤◌, ◌==◌, Bool, true, false, cond, List, [], ◌∷◌, ◌++◌, ap, ◌∙◌, lit<}
-use Rattle.vbi_meta.proofs.Common.{lit≤, arith, json_tokens, depth, Slicing, none_erased, is_one, ConfigView, Near}
+use Rattle.vbi_meta.proofs.Common.{lit≤, arith, json_tokens, depth, Slicing, none_erased, ConfigView, Near}
 use Rattle.vbi_meta.proofs.Common.{FieldRecovered, cause_lines, hundredths, word_or_zero, recovered_record_of}
 use Rattle.vbi_meta.proofs.Common.{as_readings, Reading, readings_at, rows_at, field_value, recovered_field_value}
 use Rattle.json.specs.Json as json
@@ -9,10 +9,10 @@ use Rattle.vbi_field.specs.Document.{record_of}
 use Rattle.vbi_field.specs.RecoveredDocument.{nears_text_of, recovered_of}
 use Rattle.vbi_meta.specs.DocumentValue.{IsConfig}
 use Rattle.vbi_meta.proofs.DocumentTexts.{Records}
-use Rattle.vbi_meta.proofs.FieldWrites.{AreShort, is_written}
+use Rattle.vbi_meta.proofs.FieldWrites.{rows_written}
 use Rattle.vbi_meta.proofs.NearTexts.{near_json_by, near_json, near_members, recovered_json, nears_last}
 use Rattle.vbi_meta.proofs.RecordTexts.{Pieces, gapped, record_json, record_prints, plain_record, none_last}
-use Rattle.vbi_meta.proofs.ShownLines.{short_row, field_shown}
+use Rattle.vbi_meta.proofs.ShownLines.{field_shown}
 use Rattle.vbi_meta.proofs.ValueReads.{AreRead, IsWritten, field_reads, recovered_reads}
 
 -- ---- version 2
@@ -79,14 +79,7 @@ module _ (c : ConfigView) (config : IsConfig c) (z : List ℕ) where
   field_at i = recovered_of c (rows_at c z i)
 
   pub written : (i : ℕ) → IsWritten c.levels (field_at i)
-  written i =
-      let short : AreShort (rows_at c z i) = record {
-        first = short_row c.system z i 15;
-        second = short_row c.system z i 16;
-        third = short_row c.system z i 17;
-      } in
-      is_written c.system c.levels (rows_at c z i) (none_erased c.system) (field_at i) (omega (arith, config.white))
-      short (is_one c.system c.levels (rows_at c z i) (none_erased c.system))
+  written i = rows_written c.system c.levels z i 15 (none_erased c.system) (omega (arith, config.white))
 
   abbrev pub recovered_records : Records
   recovered_records = record {

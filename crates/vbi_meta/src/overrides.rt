@@ -41,11 +41,9 @@ pub fn settings(value: Option<&Value>, overrides: &Overrides) -> Result<Config, 
 {
     // Of several faults the first one is reported, in an order that docs/FORMATS.md promises: that of these calls.
     let parameters = parameters(value)?;
-    let system = system(
-        overrides.system,
-        member(parameters, "system"),
-        member(parameters, "isSourcePal"),
-    )?;
+    let name = member(parameters, "system");
+    let flag = member(parameters, "isSourcePal");
+    let system = system(overrides.system, name, flag)?;
     let black = level(
         overrides.black,
         member(parameters, "black16bIre"),
@@ -59,16 +57,10 @@ pub fn settings(value: Option<&Value>, overrides: &Overrides) -> Result<Config, 
         MetaFault::BadWhite,
     )?;
     let levels = ordered(black, white)?;
-    check_size(
-        member(parameters, "fieldWidth"),
-        system.width(),
-        MetaFault::WidthDiffers,
-    )?;
-    check_size(
-        member(parameters, "fieldHeight"),
-        system.height(),
-        MetaFault::HeightDiffers,
-    )?;
+    let width = member(parameters, "fieldWidth");
+    let height = member(parameters, "fieldHeight");
+    check_size(width, system.width(), MetaFault::WidthDiffers)?;
+    check_size(height, system.height(), MetaFault::HeightDiffers)?;
     config(system, levels, overrides.max_fields)
 }
 
@@ -207,7 +199,6 @@ fn config(system: System, levels: Levels, limit: Option<u32>) -> Result<Config, 
     ensures few { IfOk result (λ c. c.max_fields ≤ most_fields) }
     ensures err { IfErr result (λ e. first_refusal (limit_refusals limit) ≡ Some e) }
 {
-    Config::new(system, levels, limit.unwrap_or(MAX_FIELDS_LIMIT)).map_err(
-        |_| MetaFault::BadMaxFields,
-    )
+    let most = limit.unwrap_or(MAX_FIELDS_LIMIT);
+    Config::new(system, levels, most).map_err(|_| MetaFault::BadMaxFields)
 }
