@@ -1,9 +1,9 @@
 //! What a field of a capture shows: which number and which chapter of its disc, whether a picture stop, and whether
 //! an end of the side, judged by the fields around it.
 //!
-//! A line that was misread shows a number like any other. So a number is believed only if sightings of the same
-//! field and of the 24 before it and after it fit it at the disc's pace and weigh enough together. The definitions are
-//! in `specs/`, and the module `laws` says what holds of them: above all that if less than enough of what was read
+//! A line that was misread shows a number like any other. So a number is believed only if sightings of the same field
+//! and of the 24 before it and after it fit it at the disc's pace and weigh enough together. The definitions are in
+//! `specs/`, and the module `number_laws` says what holds of them: above all that if less than enough of what was read
 //! around a field is wrong, a believed number is the true one.
 //!
 //! `lines` takes what lines show to `sighting`, `belief` weighs sightings at a `pace`, `due_numbers` gives a field its
@@ -24,9 +24,9 @@ mod election;
 pub mod end_laws;
 mod ends;
 mod judging;
-pub mod laws;
 mod lines;
 mod number;
+pub mod number_laws;
 mod number_search;
 mod pace;
 mod pace_search;

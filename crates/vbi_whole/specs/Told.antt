@@ -3,7 +3,7 @@ use Rattle.std.specs.Prelude.{◌≡◌, ℕ, ◌+◌, ◌-◌, ◌/◌, ◌^◌
 use Rattle.std.specs.Prelude.{if◌then◌else◌, List, [], ◌∷◌, ◌++◌, length, Option, Some, None, slice_get}
 use Rattle.vbi_whole.specs.Types.{Clock, Gap, Rule, Tally}
 use Rattle.vbi_whole.specs.declared.detour.Waiting.{Waiting}
-use Rattle.vbi_whole.specs.declared.told.Telling.{Telling}
+use Rattle.vbi_whole.specs.declared.gaps_so_far.Telling.{Telling}
 use Rattle.vbi_whole.specs.Detours.{detoured, detoured_from}
 use Rattle.vbi_whole.specs.Gaps.{lost, held, back, still, joined, open_gap, inserted, replaced, skipped, AreGaps}
 use Rattle.vbi_whole.specs.Gaps.{Judged}

@@ -1,11 +1,11 @@
 -- Worked sides: what discs count, and gaps and fields written down.
-use Rattle.std.specs.Prelude.{ℕ, zero, suc, List, [], ◌∷◌, replicate, false}
+use Rattle.std.specs.Prelude.{ℕ, zero, suc, List, [], ◌∷◌, replicate, false, Option, Some}
 use Rattle.vbi_whole.specs.Types.{Ntsc, Pal, Pictures, Times, Numbering, Clock, Plain, Gap, Number, Sightings, Video}
 use Rattle.vbi_whole.specs.Types.{Film, Amid, Rule, Found}
 use Rattle.vbi_side.specs.Numbers.{believed, nothing}
 use Rattle.vbi_side.specs.Worked.{field_of, blank}
 use Rattle.vbi_whole.specs.Told.{tally_of}
-use Rattle.vbi_whole.specs.Gaps.{lost, still, gap_made, to_judge, Judged, rule_by, amid}
+use Rattle.vbi_whole.specs.Gaps.{lost, still, gap_of, gap_made, to_judge, Judged, rule_by, amid}
 use Rattle.vbi_side.specs.Paces.{spot}
 
 -- pictures, and times that keep to a clock or don't
@@ -34,6 +34,14 @@ by_film = rule_by Film 0 cav
 -- nothing is seen between two places
 abbrev pub unseen : Amid
 unseen = amid false 0
+
+-- what lies between number 5 in field 10 and number n in field k, if nothing is seen between
+abbrev pub after_5 : Rule → ℕ → ℕ → Option Gap
+after_5 rule k n = gap_of rule unseen (spot 10 5) (spot k n)
+
+-- the gap of this kind between these two places, of so many fields
+abbrev pub gap_after_5 : ℕ → ℕ → ℕ → ℕ → Option Gap
+gap_after_5 k n kind fields = Some (gap_made (spot 10 5) (spot k n) kind fields 0)
 
 -- times of a disc that leaves out numbers by this clock
 abbrev pub clv_by : Clock → Numbering

@@ -44,17 +44,17 @@ pub fn worked_aside()
     ensures rows { map (λ n. is_in_row by_pictures (spot 0 1) (spot 4 n)) (2 ∷ 3 ∷ 4 ∷ []) ≡ false ∷ true ∷ false ∷ [] }
     ensures both_rows { map (λ k. is_in_row (rule_by Video 1 cav) (spot 0 1) (spot k 3)) (2 ∷ 3 ∷ 4 ∷ 5 ∷ 6 ∷ [])
         ≡ false ∷ true ∷ true ∷ true ∷ false ∷ [] }
-    ensures film_rows { map (λ k. is_in_row by_film (spot 0 1) (spot k 3)) (2 ∷ 3 ∷ 5 ∷ 7 ∷ 8 ∷ [])
-        ≡ false ∷ true ∷ true ∷ true ∷ false ∷ [] }
+    ensures film_rows { map (λ k. is_in_row by_film (spot 0 1) (spot k 3)) (2 ∷ 3 ∷ 5 ∷ 7 ∷ 8 ∷ []) ≡ false ∷ true
+        ∷ true ∷ true ∷ false ∷ [] }
     ensures due { map (numbers_in Video) (1 ∷ 2 ∷ 3 ∷ 4 ∷ []) ≡ 0 ∷ 1 ∷ 1 ∷ 2 ∷ [] }
     ensures film_due { map (numbers_in Film) (1 ∷ 2 ∷ 4 ∷ 5 ∷ 7 ∷ []) ≡ 0 ∷ 1 ∷ 1 ∷ 2 ∷ 3 ∷ [] }
     ensures aside { map (λ i. is_aside by_pictures (run_of (spot 2 2) (spot 4 41) (spot 6 42) (spot 8 5))
-        (shown_by_turns (1 ∷ 2 ∷ 41 ∷ 42 ∷ 5 ∷ [])) i 2) (3 ∷ 4 ∷ 5 ∷ 6 ∷ 7 ∷ [])
-        ≡ false ∷ true ∷ true ∷ true ∷ false ∷ [] }
-    ensures as_heavy { is_aside by_pictures (run_of (spot 0 1) (spot 2 41) (spot 4 42) (spot 6 4))
-        (shown_by_turns (1 ∷ 41 ∷ 42 ∷ 4 ∷ [])) 2 2 ≡ false }
-    ensures few_skipped { is_aside by_pictures (run_of (spot 2 2) (spot 4 5) (spot 10 8) (spot 12 7))
-        (shown_by_turns (1 ∷ 2 ∷ 5 ∷ 6 ∷ 7 ∷ 8 ∷ 7 ∷ 8 ∷ 9 ∷ [])) 4 2 ≡ false }
-    ensures stays { is_aside by_pictures (run_of (spot 2 2) (spot 4 2) (spot 4 2) (spot 6 4))
-        (shown_by_turns (1 ∷ 2 ∷ 2 ∷ 4 ∷ [])) 4 2 ≡ false }
+        (shown_by_turns (1 ∷ 2 ∷ 41 ∷ 42 ∷ 5 ∷ [])) i 2) (3 ∷ 4 ∷ 5 ∷ 6 ∷ 7 ∷ []) ≡ false ∷ true ∷ true ∷ true ∷ false
+        ∷ [] }
+    ensures as_heavy { is_aside by_pictures (run_of (spot 0 1) (spot 2 41) (spot 4 42) (spot 6 4)) (shown_by_turns (1
+        ∷ 41 ∷ 42 ∷ 4 ∷ [])) 2 2 ≡ false }
+    ensures few_skipped { is_aside by_pictures (run_of (spot 2 2) (spot 4 5) (spot 10 8) (spot 12 7)) (shown_by_turns (1
+        ∷ 2 ∷ 5 ∷ 6 ∷ 7 ∷ 8 ∷ 7 ∷ 8 ∷ 9 ∷ [])) 4 2 ≡ false }
+    ensures stays { is_aside by_pictures (run_of (spot 2 2) (spot 4 2) (spot 4 2) (spot 6 4)) (shown_by_turns (1 ∷ 2 ∷ 2
+        ∷ 4 ∷ [])) 4 2 ≡ false }
 {}

@@ -4,7 +4,7 @@
 //! were read in place of others, or two cuts cancel each other: `REPLACED`. If they go on as if fields between weren't
 //! there, and the numbers go back at one of the two, the player left these fields and came back: `INSERTED`.
 //!
-//! told.rt asks this file of each gap and the one before it. A change of a bound changes `specs/Detours.antt`,
+//! gaps_so_far.rt asks this file of each gap and the one before it. A change of a bound changes `specs/Detours.antt`,
 //! `detour_laws`, include/ldvbi.h and docs/SIDES.md.
 
 ghost use Rattle.std.specs.Prelude.{◌≡◌, ◌<◌, ◌≤◌, ◌^◌};

@@ -104,53 +104,41 @@ pub fn replaced_costs_nothing()
 /// second one would be a detour with either.
 #[tactic(auto, unfolding(vbi_side::specs::Clocks::kept, crate::specs::Detours::detoured_from))]
 pub fn worked_detours()
-    ensures replaces { map (λ k. detour_of by_pictures (gap_made (spot 2 2) (spot 4 41) lost 74 0)
-        (gap_made (spot 8 43) (spot k 6) back 0 0))
-        (9 ∷ 10 ∷ 11 ∷ []) ≡ None ∷ Some replaced ∷ None ∷ [] }
-    ensures inserts { map (λ n. detour_of by_pictures (gap_made (spot 4 3) (spot 8 21) lost 32 0)
-        (gap_made (spot 8 21) (spot 11 n) back 0 0))
-        (2 ∷ 3 ∷ 4 ∷ 5 ∷ 6 ∷ 7 ∷ []) ≡ None ∷ None ∷ Some inserted ∷ Some inserted ∷ Some inserted ∷ None ∷ [] }
-    ensures kinds { map (λ kind. detour_of by_pictures (gap_made (spot 4 3) (spot 8 21) kind 0 0)
-        (gap_made (spot 8 21) (spot 11 6) back 0 0))
-        (lost ∷ held ∷ back ∷ still ∷ joined ∷ open_gap ∷ []) ≡ Some inserted ∷ Some inserted ∷ Some inserted ∷ None
-        ∷ None ∷ Some inserted ∷ [] }
-    ensures second_kinds { map
-        (λ kind. detour_of by_pictures (gap_made (spot 4 3) (spot 8 2) back 0 0)
-        (gap_made (spot 8 2) (spot 11 6) kind 0 0))
-        (lost ∷ held ∷ back ∷ still ∷ joined ∷ open_gap ∷ []) ≡ Some inserted ∷ Some inserted ∷ Some inserted ∷ None
-        ∷ None ∷ Some inserted ∷ [] }
-    ensures none_back { detour_of by_pictures (gap_made (spot 0 1) (spot 4 2) held 2 0)
-        (gap_made (spot 4 2) (spot 8 3) held 2 0) ≡ None }
+    ensures replaces { map (λ k. detour_of by_pictures (gap_made (spot 2 2) (spot 4 41) lost 74 0) (gap_made (spot 8 43)
+        (spot k 6) back 0 0)) (9 ∷ 10 ∷ 11 ∷ []) ≡ None ∷ Some replaced ∷ None ∷ [] }
+    ensures inserts { map (λ n. detour_of by_pictures (gap_made (spot 4 3) (spot 8 21) lost 32 0) (gap_made (spot 8 21)
+        (spot 11 n) back 0 0)) (2 ∷ 3 ∷ 4 ∷ 5 ∷ 6 ∷ 7 ∷ []) ≡ None ∷ None ∷ Some inserted ∷ Some inserted
+        ∷ Some inserted ∷ None ∷ [] }
+    ensures kinds { map (λ kind. detour_of by_pictures (gap_made (spot 4 3) (spot 8 21) kind 0 0) (gap_made (spot 8 21)
+        (spot 11 6) back 0 0)) (lost ∷ held ∷ back ∷ still ∷ joined ∷ open_gap ∷ []) ≡ Some inserted ∷ Some inserted
+        ∷ Some inserted ∷ None ∷ None ∷ Some inserted ∷ [] }
+    ensures second_kinds { map (λ kind. detour_of by_pictures (gap_made (spot 4 3) (spot 8 2) back 0 0) (gap_made (spot
+        8 2) (spot 11 6) kind 0 0)) (lost ∷ held ∷ back ∷ still ∷ joined ∷ open_gap ∷ []) ≡ Some inserted
+        ∷ Some inserted ∷ Some inserted ∷ None ∷ None ∷ Some inserted ∷ [] }
+    ensures none_back { detour_of by_pictures (gap_made (spot 0 1) (spot 4 2) held 2 0) (gap_made (spot 4 2) (spot 8 3)
+        held 2 0) ≡ None }
     ensures both { map (λ slack. detour_of (rule_by Video slack cav) (gap_made (spot 3 2) (spot 4 41) lost 77 0)
-        (gap_made (spot 7 42) (spot 8 3) back 0 0))
-        (0 ∷ 1 ∷ []) ≡ None ∷ Some inserted ∷ [] }
-    ensures film { map (λ n. detour_of by_film (gap_made (spot 2 2) (spot 5 41) lost 94 0)
-        (gap_made (spot 7 42) (spot 10 n) back 0 0))
-        (3 ∷ 4 ∷ 5 ∷ 6 ∷ []) ≡ Some inserted ∷ Some inserted ∷ Some replaced ∷ None ∷ [] }
-    ensures film_still { map
-        (λ pace. detour_of (rule_by pace 0 cav) (gap_made (spot 147 59) (spot 149 61) lost 2 0)
-        (gap_made (spot 149 61) (spot 151 61) still 2 0))
-        (Video ∷ Film ∷ []) ≡ None ∷ Some replaced ∷ [] }
+        (gap_made (spot 7 42) (spot 8 3) back 0 0)) (0 ∷ 1 ∷ []) ≡ None ∷ Some inserted ∷ [] }
+    ensures film { map (λ n. detour_of by_film (gap_made (spot 2 2) (spot 5 41) lost 94 0) (gap_made (spot 7 42) (spot
+        10 n) back 0 0)) (3 ∷ 4 ∷ 5 ∷ 6 ∷ []) ≡ Some inserted ∷ Some inserted ∷ Some replaced ∷ None ∷ [] }
+    ensures film_still { map (λ pace. detour_of (rule_by pace 0 cav) (gap_made (spot 147 59) (spot 149 61) lost 2 0)
+        (gap_made (spot 149 61) (spot 151 61) still 2 0)) (Video ∷ Film ∷ []) ≡ None ∷ Some replaced ∷ [] }
     ensures told { detoured by_pictures (gap_made (spot 4 3) (spot 6 21) lost 34 0
-        ∷ gap_made (spot 10 23) (spot 12 4) back 0 0 ∷ [])
-        ≡ gap_made (spot 4 3) (spot 6 21) inserted 6 0 ∷ gap_made (spot 10 23) (spot 12 4) inserted 0 0 ∷ [] }
+        ∷ gap_made (spot 10 23) (spot 12 4) back 0 0 ∷ []) ≡ gap_made (spot 4 3) (spot 6 21) inserted 6 0
+        ∷ gap_made (spot 10 23) (spot 12 4) inserted 0 0 ∷ [] }
     ensures once { detoured by_pictures (gap_made (spot 2 2) (spot 4 41) lost 74 0
-        ∷ gap_made (spot 4 41) (spot 6 4) back 0 0
-        ∷ gap_made (spot 6 4) (spot 8 43) lost 76 0 ∷ []) ≡ gap_made (spot 2 2) (spot 4 41) replaced 0 0
-        ∷ gap_made (spot 4 41) (spot 6 4) replaced 0 0
+        ∷ gap_made (spot 4 41) (spot 6 4) back 0 0 ∷ gap_made (spot 6 4) (spot 8 43) lost 76 0 ∷ [])
+        ≡ gap_made (spot 2 2) (spot 4 41) replaced 0 0 ∷ gap_made (spot 4 41) (spot 6 4) replaced 0 0
         ∷ gap_made (spot 6 4) (spot 8 43) lost 76 0 ∷ [] }
     ensures last { detoured by_pictures (gap_made (spot 2 2) (spot 4 41) lost 74 0
-        ∷ gap_made (spot 8 43) (spot 12 9) back 0 0
-        ∷ gap_made (spot 14 10) (spot 20 13) held 0 0 ∷ []) ≡ gap_made (spot 2 2) (spot 4 41) lost 74 0
-        ∷ gap_made (spot 8 43) (spot 12 9) back 0 0
+        ∷ gap_made (spot 8 43) (spot 12 9) back 0 0 ∷ gap_made (spot 14 10) (spot 20 13) held 0 0 ∷ [])
+        ≡ gap_made (spot 2 2) (spot 4 41) lost 74 0 ∷ gap_made (spot 8 43) (spot 12 9) back 0 0
         ∷ gap_made (spot 14 10) (spot 20 13) held 0 0 ∷ [] }
     ensures film_fields { detoured by_film (gap_made (spot 2 2) (spot 5 41) lost 94 0
-        ∷ gap_made (spot 7 42) (spot 10 3) back 0 0 ∷ [])
-        ≡ gap_made (spot 2 2) (spot 5 41) inserted 6 0 ∷ gap_made (spot 7 42) (spot 10 3) inserted 0 0 ∷ [] }
-    ensures open_gaps { (tally_of Plain
-        (gap_made (spot 2 2) (spot 4 41) replaced 0 0 ∷ gap_made (spot 8 43) (spot 10 6) replaced 0 0
-        ∷ []) 0).open_gaps ≡ 2 }
+        ∷ gap_made (spot 7 42) (spot 10 3) back 0 0 ∷ []) ≡ gap_made (spot 2 2) (spot 5 41) inserted 6 0
+        ∷ gap_made (spot 7 42) (spot 10 3) inserted 0 0 ∷ [] }
+    ensures open_gaps { (tally_of Plain (gap_made (spot 2 2) (spot 4 41) replaced 0 0
+        ∷ gap_made (spot 8 43) (spot 10 6) replaced 0 0 ∷ []) 0).open_gaps ≡ 2 }
     ensures away { (tally_of Plain (gap_made (spot 4 3) (spot 6 21) inserted 6 0
-        ∷ gap_made (spot 10 23) (spot 12 4) inserted 0 0 ∷ []) 0).inserted
-        ≡ 6 }
+        ∷ gap_made (spot 10 23) (spot 12 4) inserted 0 0 ∷ []) 0).inserted ≡ 6 }
 {}

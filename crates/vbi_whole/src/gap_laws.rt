@@ -31,9 +31,9 @@ ghost use Rattle.vbi_whole.specs.Verdicts.{is_end_unseen, too_few, HasNone, IsFi
 ghost use Rattle.vbi_whole.specs.SaidWhole.{IsSaidWhole, AreClearEnds, AreFewLost};
 ghost use Rattle.vbi_whole.specs.Drifts.{leads, IsDriftTold};
 ghost use Rattle.vbi_side.specs.Worked.{field_of};
-ghost use Rattle.vbi_whole.specs.WorkedSides.{cav, cav_pal, clv, clv_pal, two_stills, two_pictures, two_answers};
-ghost use Rattle.vbi_whole.specs.WorkedSides.{worked_side, worked_answers, worked_ends, by_pictures, by_times, by_film};
-ghost use Rattle.vbi_whole.specs.WorkedSides.{unseen};
+ghost use Rattle.vbi_whole.specs.WorkedSides.{cav, cav_pal, clv, clv_pal, by_pictures, by_times, by_film, unseen};
+ghost use Rattle.vbi_whole.specs.WorkedSides.{after_5, gap_after_5, two_stills, two_pictures, two_answers};
+ghost use Rattle.vbi_whole.specs.WorkedSides.{worked_side, worked_answers, worked_ends};
 ghost use Rattle.vbi_side.specs.Paces.{spot};
 
 /// What is told are gaps, each one is told, and in order: an earlier one ends where a later one begins, or before.
@@ -169,106 +169,78 @@ pub fn none_known()
 /// Gaps, worked by hand: of video between picture 5 in field 10 and others, of times, and of film.
 #[tactic(auto, unfolding(vbi_side::specs::Clocks::kept))]
 pub fn worked_gaps()
-    ensures goes_on { map (λ n. gap_of by_pictures unseen (spot 10 5) (spot (2 * n) n)) (6 ∷ 7 ∷ 1000 ∷ []) ≡ None
-        ∷ None ∷ None ∷
-        [] }
-    ensures lost { gap_of by_pictures unseen (spot 10 5) (spot 12 8)
-        ≡ Some (gap_made (spot 10 5) (spot 12 8) lost 4 0) }
+    ensures goes_on { map (λ n. after_5 by_pictures (2 * n) n) (6 ∷ 7 ∷ 1000 ∷ []) ≡ None ∷ None ∷ None ∷ [] }
+    ensures lost { after_5 by_pictures 12 8 ≡ gap_after_5 12 8 lost 4 }
     ensures one_lost { gap_of (rule_by Video 0 cav_pal) (amid false 7) (spot 10 5) (spot 11 6)
         ≡ Some (gap_made (spot 10 5) (spot 11 6) lost 1 7) }
-    ensures held { gap_of by_pictures unseen (spot 10 5) (spot 15 6)
-        ≡ Some (gap_made (spot 10 5) (spot 15 6) held 3 0) }
-    ensures twice { gap_of by_pictures unseen (spot 10 5) (spot 13 5)
-        ≡ Some (gap_made (spot 10 5) (spot 13 5) held 3 0) }
-    ensures still { gap_of (rule_by Video 0 cav_pal) unseen (spot 10 5) (spot 14 5)
-        ≡ Some (gap_made (spot 10 5) (spot 14 5) still 4 0) }
-    ensures back { gap_of by_pictures unseen (spot 10 5) (spot 12 4)
-        ≡ Some (gap_made (spot 10 5) (spot 12 4) back 0 0) }
-    ensures joined { gap_of by_pictures (amid true 0) (spot 10 5) (spot 99 1)
-        ≡ Some (gap_made (spot 10 5) (spot 99 1) joined 0 0) }
-    ensures both { map (λ k. gap_of (rule_by Video 1 cav) unseen (spot 10 5) (spot k 6)) (11 ∷ 12 ∷ 13 ∷ []) ≡ None
-        ∷ None ∷ None ∷ [] }
-    ensures both_lost { gap_of (rule_by Video 1 cav) unseen (spot 10 5) (spot 11 7)
-        ≡ Some (gap_made (spot 10 5) (spot 11 7) lost 2 0) }
-    ensures film { map (λ k. gap_of by_film unseen (spot 10 5) (spot k 7)) (14 ∷ 15 ∷ 16 ∷ []) ≡ None ∷ None ∷ None
-        ∷ [] }
-    ensures film_lost { map (λ n. gap_of by_film unseen (spot 10 5) (spot (2 * n - 1) n)) (6 ∷ 8 ∷ [])
-        ≡ Some (gap_made (spot 10 5) (spot 11 6) lost 1 0) ∷ Some (gap_made (spot 10 5) (spot 15 8) lost 2 0) ∷ [] }
-    ensures film_held { gap_of by_film unseen (spot 10 5) (spot 14 6)
-        ≡ Some (gap_made (spot 10 5) (spot 14 6) held 1 0) }
-    ensures film_cut { map (λ k. gap_of by_film unseen (spot 10 5) (spot k 7)) (12 ∷ 13 ∷ 17 ∷ 18 ∷ [])
-        ≡ Some (gap_made (spot 10 5) (spot 12 7) lost 2 0) ∷ Some (gap_made (spot 10 5) (spot 13 7) open_gap 1 0)
-        ∷ Some (gap_made (spot 10 5) (spot 17 7) open_gap 1 0) ∷ Some (gap_made (spot 10 5) (spot 18 7) held 2 0) ∷ [] }
-    ensures film_video { map (λ k. gap_of by_film unseen (spot 10 5) (spot k 10)) (19 ∷ 20 ∷ 21 ∷ []) ++ map
-        (λ k. gap_of by_film unseen (spot 10 5) (spot k 12)) (23 ∷ 24 ∷ 25 ∷ [])
-        ≡ Some (gap_made (spot 10 5) (spot 19 10) lost 3 0) ∷ Some (gap_made (spot 10 5) (spot 20 10) open_gap 2 0)
-        ∷ Some (gap_made (spot 10 5) (spot 21 10) open_gap 1 0) ∷ Some (gap_made (spot 10 5) (spot 23 12) lost 4 0)
-        ∷ Some (gap_made (spot 10 5) (spot 24 12) open_gap 3 0) ∷ Some (gap_made (spot 10 5) (spot 25 12) lost 2 0)
-        ∷ [] }
+    ensures held { after_5 by_pictures 15 6 ≡ gap_after_5 15 6 held 3 }
+    ensures twice { after_5 by_pictures 13 5 ≡ gap_after_5 13 5 held 3 }
+    ensures still { after_5 (rule_by Video 0 cav_pal) 14 5 ≡ gap_after_5 14 5 still 4 }
+    ensures back { after_5 by_pictures 12 4 ≡ gap_after_5 12 4 back 0 }
+    ensures joined { gap_of by_pictures (amid true 0) (spot 10 5) (spot 99 1) ≡ gap_after_5 99 1 joined 0 }
+    ensures both { map (λ k. after_5 (rule_by Video 1 cav) k 6) (11 ∷ 12 ∷ 13 ∷ []) ≡ None ∷ None ∷ None ∷ [] }
+    ensures both_lost { after_5 (rule_by Video 1 cav) 11 7 ≡ gap_after_5 11 7 lost 2 }
+    ensures film { map (λ k. after_5 by_film k 7) (14 ∷ 15 ∷ 16 ∷ []) ≡ None ∷ None ∷ None ∷ [] }
+    ensures film_lost { map (λ n. after_5 by_film (2 * n - 1) n) (6 ∷ 8 ∷ []) ≡ gap_after_5 11 6 lost 1
+        ∷ gap_after_5 15 8 lost 2 ∷ [] }
+    ensures film_held { after_5 by_film 14 6 ≡ gap_after_5 14 6 held 1 }
+    ensures film_cut { map (λ k. after_5 by_film k 7) (12 ∷ 13 ∷ 17 ∷ 18 ∷ []) ≡ gap_after_5 12 7 lost 2
+        ∷ gap_after_5 13 7 open_gap 1 ∷ gap_after_5 17 7 open_gap 1 ∷ gap_after_5 18 7 held 2 ∷ [] }
+    ensures film_video { map (λ k. after_5 by_film k 10) (19 ∷ 20 ∷ 21 ∷ []) ++ map (λ k. after_5 by_film k 12) (23 ∷ 24
+        ∷ 25 ∷ []) ≡ gap_after_5 19 10 lost 3 ∷ gap_after_5 20 10 open_gap 2 ∷ gap_after_5 21 10 open_gap 1
+        ∷ gap_after_5 23 12 lost 4 ∷ gap_after_5 24 12 open_gap 3 ∷ gap_after_5 25 12 lost 2 ∷ [] }
     ensures film_back { gap_of by_film unseen (spot 20 10) (spot 24 8)
         ≡ Some (gap_made (spot 20 10) (spot 24 8) back 0 0) }
-    ensures stays { map (λ numbering. gap_of (rule_by Video 0 numbering) unseen (spot 10 5) (spot 14 5))
-        (clv ∷ clv_pal ∷ [])
-        ≡ Some (gap_made (spot 10 5) (spot 14 5) held 4 0) ∷ Some (gap_made (spot 10 5) (spot 14 5) held 4 0) ∷ [] }
-    ensures stays_beside_an_end { map (λ numbering. gap_of (rule_by Video 0 numbering) (amid true 0) (spot 10 5)
-        (spot 13 5)) (cav ∷ clv ∷ [])
-        ≡ Some (gap_made (spot 10 5) (spot 13 5) held 3 0) ∷ Some (gap_made (spot 10 5) (spot 13 5) held 3 0) ∷ [] }
-    ensures clock { map (λ n. gap_of by_times unseen (spot 10 5) (spot 13 n)) (7 ∷ []) ++ map
-        (λ n. gap_of by_times unseen (spot 10 5) (spot 12 n)) (7 ∷ 8 ∷ 9 ∷ [])
-        ≡ Some (gap_made (spot 10 5) (spot 13 7) lost 1 0) ∷ Some (gap_made (spot 10 5) (spot 12 7) open_gap 2 0)
-        ∷ Some (gap_made (spot 10 5) (spot 12 8) open_gap 4 0) ∷ Some (gap_made (spot 10 5) (spot 12 9) lost 6 0) ∷ [] }
-    ensures no_clock { map (λ numbering. gap_of (rule_by Video 0 numbering) unseen (spot 10 5) (spot 12 7))
-        (cav ∷ clv_pal ∷ [])
-        ≡ Some (gap_made (spot 10 5) (spot 12 7) lost 2 0) ∷ Some (gap_made (spot 10 5) (spot 12 7) lost 2 0) ∷ [] }
+    ensures stays { map (λ numbering. after_5 (rule_by Video 0 numbering) 14 5) (clv ∷ clv_pal ∷ [])
+        ≡ gap_after_5 14 5 held 4 ∷ gap_after_5 14 5 held 4 ∷ [] }
+    ensures stays_beside_an_end { map (λ numbering. gap_of (rule_by Video 0 numbering) (amid true 0) (spot 10 5) (spot
+        13 5)) (cav ∷ clv ∷ []) ≡ gap_after_5 13 5 held 3 ∷ gap_after_5 13 5 held 3 ∷ [] }
+    ensures clock { map (λ n. after_5 by_times 13 n) (7 ∷ []) ++ map (λ n. after_5 by_times 12 n) (7 ∷ 8 ∷ 9 ∷ [])
+        ≡ gap_after_5 13 7 lost 1 ∷ gap_after_5 12 7 open_gap 2 ∷ gap_after_5 12 8 open_gap 4 ∷ gap_after_5 12 9 lost 6
+        ∷ [] }
+    ensures no_clock { map (λ numbering. after_5 (rule_by Video 0 numbering) 12 7) (cav ∷ clv_pal ∷ [])
+        ≡ gap_after_5 12 7 lost 2 ∷ gap_after_5 12 7 lost 2 ∷ [] }
     ensures shown { shown_between (field_of 8 2 8 2 ∷ field_of 7 2 7 2 ∷ field_of 8 1 8 2 ∷ field_of 6 2 8 2
         ∷ field_of 5 2 5 2 ∷ field_of 9 2 9 2 ∷ field_of 6 2 6 2 ∷ []) (spot 0 5) (spot 6 9) ≡ 1 }
     ensures numbers { map (lost_of Plain) (gap_made (spot 10 5) (spot 20 100) lost 180 0
-        ∷ gap_made (spot 10 5) (spot 20 100) lost 180 6
-        ∷ gap_made (spot 10 5) (spot 12 7) open_gap 2 0 ∷ gap_made (spot 10 5) (spot 20 6) held 8 0 ∷ []) ≡ 90 ∷ 88 ∷ 0
-        ∷ 0 ∷ [] }
+        ∷ gap_made (spot 10 5) (spot 20 100) lost 180 6 ∷ gap_made (spot 10 5) (spot 12 7) open_gap 2 0
+        ∷ gap_made (spot 10 5) (spot 20 6) held 8 0 ∷ []) ≡ 90 ∷ 88 ∷ 0 ∷ 0 ∷ [] }
     ensures undecided { map (undecided_of Plain) (gap_made (spot 10 5) (spot 20 100) lost 180 0
-        ∷ gap_made (spot 10 5) (spot 20 100) lost 180 6
-        ∷ gap_made (spot 10 5) (spot 12 7) open_gap 2 0 ∷ gap_made (spot 10 5) (spot 20 6) held 8 0 ∷ []) ≡ 4 ∷ 6 ∷ 1
-        ∷ 0 ∷ [] }
+        ∷ gap_made (spot 10 5) (spot 20 100) lost 180 6 ∷ gap_made (spot 10 5) (spot 12 7) open_gap 2 0
+        ∷ gap_made (spot 10 5) (spot 20 6) held 8 0 ∷ []) ≡ 4 ∷ 6 ∷ 1 ∷ 0 ∷ [] }
     ensures stills { (stills_of 0 two_stills ≡ 2) × (last_still 0 two_stills ≡ 21) }
     ensures since { map (since_end (1 ∷ 0 ∷ 2 ∷ 3 ∷ 0 ∷ [])) (0 ∷ 1 ∷ 2 ∷ 3 ∷ 4 ∷ 5 ∷ []) ≡ 0 ∷ 0 ∷ 1 ∷ 2 ∷ 0 ∷ 1 ∷ [] }
-    ensures ended { map (ended_between (1 ∷ 0 ∷ 2 ∷ 3 ∷ 0 ∷ []) 0)
-        (1 ∷ 2 ∷ 3 ∷ 4 ∷ []) ≡ false ∷ false ∷ false ∷ true ∷ [] }
-    ensures still_at_an_end { gap_of by_pictures (amid true 0) (spot 10 5) (spot 14 5)
-        ≡ Some (gap_made (spot 10 5) (spot 14 5) still 4 0) }
+    ensures ended { map (ended_between (1 ∷ 0 ∷ 2 ∷ 3 ∷ 0 ∷ []) 0) (1 ∷ 2 ∷ 3 ∷ 4 ∷ []) ≡ false ∷ false ∷ false ∷ true
+        ∷ [] }
+    ensures still_at_an_end { gap_of by_pictures (amid true 0) (spot 10 5) (spot 14 5) ≡ gap_after_5 14 5 still 4 }
 {}
 
 /// Swapped fields, numbers on both fields, and what verdicts go by, worked by hand.
 #[tactic(auto, unfolding(vbi_side::specs::Clocks::kept))]
 pub fn worked_verdicts()
     ensures off { map (λ k. stands_off (spot 10 5) (spot k 6)) (10 ∷ 11 ∷ 12 ∷ 13 ∷ 14 ∷ []) ≡ false ∷ true ∷ false
-        ∷ true ∷ false ∷
-        [] }
+        ∷ true ∷ false ∷ [] }
     ensures leads { map (λ k. leads Video (spot 10 5) (spot k 6)) (11 ∷ 12 ∷ 13 ∷ []) ≡ false ∷ true ∷ true ∷ [] }
     ensures film_leads { map (λ k. leads Film (spot 10 5) (spot k 7)) (14 ∷ 15 ∷ 16 ∷ []) ≡ false ∷ true ∷ true ∷ [] }
     ensures stray { map (is_stray Plain [] (spot 10 5) 11) (None ∷ Some (field_of 6 2 0 0) ∷ Some (field_of 0 0 6 2)
-        ∷ Some
-        (field_of 6 0 6 1)
-        ∷ Some (field_of 7 2 6 0) ∷ Some (field_of 0 0 0 0) ∷ []) ≡ false ∷ true ∷ true ∷ true ∷ false ∷ false ∷ [] }
-    ensures beside { map (λ n. is_stray Plain (nothing ∷ believed n ∷ nothing ∷ []) (spot 1 5) 2
-        (Some (field_of 5 2 0 0)))
-        (5 ∷ 4 ∷ []) ≡ false ∷ true ∷ [] }
-    ensures beside_next { map (λ n. is_stray Plain (nothing ∷ believed 5 ∷ nothing ∷ believed n ∷ []) (spot 1 5) 2
-        (Some (field_of 0 0 6 2))) (6 ∷ 7 ∷ []) ≡ false ∷ true ∷ [] }
-    ensures ends { map (λ outs. map (end_by outs) (0 ∷ 1 ∷ 2 ∷ [])) (0 ∷ 1 ∷ 2 ∷ [])
-        ≡ (0 ∷ 2 ∷ 3 ∷ []) ∷ (2 ∷ 2 ∷ 3 ∷ []) ∷ (1 ∷ 1 ∷ 1 ∷ []) ∷ [] }
-    ensures unseen { map (λ ends. is_end_unseen false ends 0)
-        ((1 ∷ 0 ∷ []) ∷ (0 ∷ 1 ∷ []) ∷ (0 ∷ 3 ∷ []) ∷ (0 ∷ 2 ∷ []) ∷ []) ≡ true ∷ false ∷ true ∷ true ∷ [] }
-    ensures both { map is_on_both ((believed 1 ∷ believed 1 ∷ believed 2 ∷ nothing ∷ []) ∷
-        (believed 1 ∷ nothing ∷ believed 2 ∷ [])
-        ∷ (believed 1 ∷ nothing ∷ nothing ∷ believed 2 ∷ []) ∷ (doubtful 1 ∷ doubtful 1 ∷ []) ∷ [])
+        ∷ Some (field_of 6 0 6 1) ∷ Some (field_of 7 2 6 0) ∷ Some (field_of 0 0 0 0) ∷ []) ≡ false ∷ true ∷ true ∷ true
+        ∷ false ∷ false ∷ [] }
+    ensures beside { map (λ n. is_stray Plain (nothing ∷ believed n ∷ nothing
+        ∷ []) (spot 1 5) 2 (Some (field_of 5 2 0 0))) (5 ∷ 4 ∷ []) ≡ false ∷ true ∷ [] }
+    ensures beside_next { map (λ n. is_stray Plain (nothing ∷ believed 5 ∷ nothing ∷ believed n
+        ∷ []) (spot 1 5) 2 (Some (field_of 0 0 6 2))) (6 ∷ 7 ∷ []) ≡ false ∷ true ∷ [] }
+    ensures ends { map (λ outs. map (end_by outs) (0 ∷ 1 ∷ 2 ∷ [])) (0 ∷ 1 ∷ 2 ∷ []) ≡ (0 ∷ 2 ∷ 3 ∷ []) ∷ (2 ∷ 2 ∷ 3
+        ∷ []) ∷ (1 ∷ 1 ∷ 1 ∷ []) ∷ [] }
+    ensures unseen { map (λ ends. is_end_unseen false ends 0) ((1 ∷ 0 ∷ []) ∷ (0 ∷ 1 ∷ []) ∷ (0 ∷ 3 ∷ []) ∷ (0 ∷ 2 ∷ [])
+        ∷ []) ≡ true ∷ false ∷ true ∷ true ∷ [] }
+    ensures both { map is_on_both ((believed 1 ∷ believed 1 ∷ believed 2 ∷ nothing ∷ []) ∷ (believed 1 ∷ nothing
+        ∷ believed 2 ∷ []) ∷ (believed 1 ∷ nothing ∷ nothing ∷ believed 2 ∷ []) ∷ (doubtful 1 ∷ doubtful 1 ∷ []) ∷ [])
         ≡ true ∷ false ∷ true ∷ false ∷ [] }
-    ensures few { map is_on_both
-        ((believed 1 ∷ nothing ∷ believed 2 ∷ nothing ∷ believed 3 ∷ nothing ∷ believed 4 ∷ believed 5 ∷ [])
-        ∷ (believed 1 ∷ nothing ∷ believed 2 ∷ nothing ∷ believed 3 ∷ nothing ∷ believed 4 ∷ nothing ∷ believed 5
-        ∷ believed 6 ∷ []) ∷ []) ≡ true ∷ false ∷ [] }
-    ensures frozen { map is_on_both ((believed 1 ∷ believed 1 ∷ believed 1 ∷ nothing ∷ believed 2 ∷ [])
-        ∷ (believed 1 ∷ believed 1 ∷ believed 1 ∷ believed 2 ∷ []) ∷ []) ≡ false ∷ true ∷ [] }
+    ensures few { map is_on_both ((believed 1 ∷ nothing ∷ believed 2 ∷ nothing ∷ believed 3 ∷ nothing ∷ believed 4
+        ∷ believed 5 ∷ []) ∷ (believed 1 ∷ nothing ∷ believed 2 ∷ nothing ∷ believed 3 ∷ nothing ∷ believed 4 ∷ nothing
+        ∷ believed 5 ∷ believed 6 ∷ []) ∷ []) ≡ true ∷ false ∷ [] }
+    ensures frozen { map is_on_both ((believed 1 ∷ believed 1 ∷ believed 1 ∷ nothing ∷ believed 2 ∷ []) ∷ (believed 1
+        ∷ believed 1 ∷ believed 1 ∷ believed 2 ∷ []) ∷ []) ≡ false ∷ true ∷ [] }
     ensures late { map (λ fields. too_few Video fields 5) (7 ∷ 8 ∷ []) ≡ true ∷ false ∷ [] }
     ensures film_late { map (λ fields. too_few Film fields 5) (8 ∷ 9 ∷ []) ≡ true ∷ false ∷ [] }
     ensures first { map (λ m. too_few Video 0 m) (0 ∷ 1 ∷ 2 ∷ []) ≡ false ∷ false ∷ true ∷ [] }

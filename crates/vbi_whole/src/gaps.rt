@@ -1,9 +1,9 @@
 //! Where the numbers of a capture and its fields don't go on together.
 //!
 //! `find_gaps` is one pass over the answers. It holds the last believed number, how many fields stand since the last
-//! end of a side, and what is told of the gaps so far (`Walk`; told.rt), and writes the gaps into the caller's room as
-//! far as it goes; the tally counts those too for which there is no room. `neighbours_at` says of each field which pair
-//! ends there, if one does, gap.rt what lies between the two, and detour.rt which gaps are a detour.
+//! end of a side, and what is told of the gaps so far (`Walk`; gaps_so_far.rt), and writes the gaps into the caller's
+//! room as far as it goes; the tally counts those too for which there is no room. `neighbours_at` says of each field
+//! which pair ends there, if one does, gap.rt what lies between the two, and detour.rt which gaps are a detour.
 //!
 //! clock_search.rt makes its pass with `neighbours_at` and `last_at`, and verdict.rt counts with `since_at`. What this
 //! file tells is `IsTold` of `specs/Told.antt`; a change of what counts as an end changes ends.rt and include/ldvbi.h
@@ -20,9 +20,9 @@ ghost use Rattle.vbi_side.specs.Sightings.{shows_between};
 
 use crate::detour::Waiting;
 use crate::gap::{Amid, Gap, Neighbours, between, skipped};
+use crate::gaps_so_far::Telling;
 use crate::side::Side;
 use crate::tally::Tally;
-use crate::told::Telling;
 use vbi_side::{Clock, LEAD_IN, LEAD_OUT, Number, Place, Sightings, believed_at};
 
 /// How many fields between the two show a number between theirs, on both lines in pass 1.

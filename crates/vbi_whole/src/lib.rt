@@ -1,13 +1,13 @@
 //! How a side goes on: what lies between its believed numbers, and whether its capture is whole.
 //!
 //! `gap` says what lies between two neighbouring numbers, by the rule of their disc; `gaps` walks over a side and asks
-//! it of each pair, `told` joins two gaps to a `detour`, and `tally` counts them. `clock_search` finds which numbers
-//! the disc leaves out, and `numbers_on_both` whether it has its numbers on both fields of a picture. `verdict` judges
-//! the whole side, by its gaps, by fields that are swapped (`swaps`), by numbers that drift (`drift`), and by many
-//! fields without a number (`blank_fields`). `aside_numbers` sets aside the numbers that replace others. What a field
-//! shows is `vbi_side`'s. The laws say what all this is worth: `gap_laws` of one gap, `detour_laws` and `aside_laws` of
-//! detours, `clock_laws` of clocks, `reason_laws` of reasons, `clean_laws` of sides that have to be called whole.
-//! Nothing allocates or fails.
+//! it of each pair, `gaps_so_far` joins two gaps to a `detour`, and `tally` counts them. `clock_search` finds which
+//! numbers the disc leaves out, and `numbers_on_both` whether it has its numbers on both fields of a picture. `verdict`
+//! judges the whole side, by its gaps, by fields that are swapped (`swaps`), by numbers that drift (`drift`), and by
+//! many fields without a number (`blank_fields`). `aside_numbers` sets aside the numbers that replace others. What a
+//! field shows is `vbi_side`'s. The laws say what all this is worth: `gap_laws` of one gap, `detour_laws` and
+//! `aside_laws` of detours, `clock_laws` of clocks, `reason_laws` of reasons, `clean_laws` of sides that have to be
+//! called whole. Nothing allocates or fails.
 #![tactic(auto)]
 
 pub mod aside_laws;
@@ -22,12 +22,12 @@ mod drift;
 mod gap;
 pub mod gap_laws;
 mod gaps;
+mod gaps_so_far;
 mod numbers_on_both;
 pub mod reason_laws;
 mod side;
 mod swaps;
 mod tally;
-mod told;
 mod verdict;
 
 pub use aside_numbers::set_aside;

@@ -58,7 +58,8 @@ pub fn worked_seen_reasons()
         ∷ record no_reason { many_doubtful = true } ∷ record no_reason { is_open = true }
         ∷ record no_reason { is_blank = true } ∷ []) ≡ replicate 7 CannotTell }
     ensures both { map verdict_of (record no_reason { is_lost = true; end_unseen = true }
-        ∷ record no_reason { is_inserted = true; is_open = true } ∷ record no_reason { is_padded = true; is_open = true }
+        ∷ record no_reason { is_inserted = true; is_open = true }
+        ∷ record no_reason { is_padded = true; is_open = true }
         ∷ record no_reason { is_inserted = true; is_blank = true }
         ∷ record no_reason { is_padded = true; is_blank = true } ∷ []) ≡ replicate 5 No }
     ensures many { map verdict_of (record no_reason { is_open = true; is_blank = true } ∷ record no_reason {

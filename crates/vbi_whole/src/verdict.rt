@@ -11,7 +11,7 @@
 
 ghost use Rattle.std.specs.Prelude.{◌≡◌, ◌<◌, ◌≤◌, ◌^◌, length, true};
 ghost use Rattle.vbi_whole.specs.Gaps.{judged_in, since_end};
-ghost use Rattle.vbi_whole.specs.Verdicts.{are_seen, leave_open, no_reason, verdict_of, too_few, is_off, padded_in};
+ghost use Rattle.vbi_whole.specs.Verdicts.{are_seen, leave_open, verdict_of, too_few, is_off, padded_in};
 ghost use Rattle.vbi_whole.specs.Verdicts.{lead_out_follows, count_of, are_doubtful, reasons_of, IsFinding};
 ghost use Rattle.vbi_whole.specs.Swaps.{IsSwapTold};
 
@@ -38,8 +38,8 @@ pub enum Verdict {
     CannotTell,
 }
 
-/// What speaks against a capture: why it isn't whole, or why that can't be told.
-#[derive(Clone, Copy)]
+/// What speaks against a capture: why it isn't whole, or why that can't be told. By default nothing does.
+#[derive(Clone, Copy, Default)]
 pub struct Reasons {
     /// Fields are lost.
     pub is_lost: bool,
@@ -77,29 +77,6 @@ pub struct Reasons {
 }
 
 impl Reasons {
-    /// Those of a capture without a number.
-    fn without_numbers() -> Reasons
-        ensures { result ≡ record no_reason { no_numbers = true } }
-    {
-        Reasons {
-            is_lost: false,
-            is_held: false,
-            goes_back: false,
-            is_joined: false,
-            begins_late: false,
-            is_swapped: false,
-            is_off: false,
-            no_numbers: true,
-            end_unseen: false,
-            begin_unseen: false,
-            many_doubtful: false,
-            is_open: false,
-            is_inserted: false,
-            is_padded: false,
-            is_blank: false,
-        }
-    }
-
     /// Whether one of them is seen on the capture itself.
     fn are_seen(self) -> bool
         ensures { result ≡ are_seen self }
@@ -335,7 +312,10 @@ pub fn judge_whole(side: &Side, may_end: bool, out: &mut [Gap]) -> Finding
     let padded = padded_in(side.ends);
     let blank = first_blank(side.numbers, side.rule);
     let Some(first) = first_believed(side.numbers) else {
-        let reasons = Reasons::without_numbers();
+        let reasons = Reasons {
+            no_numbers: true,
+            ..Reasons::default()
+        };
         return Finding {
             tally,
             first: 0,

@@ -1,4 +1,4 @@
-use Rattle.std.proofs.Common.{◌≡◌, ℕ, ◌<◌, List, refl, sym, subst, inl, inr, length}
+use Rattle.std.proofs.Common.{◌≡◌, ℕ, ◌<◌, List, arith, refl, sym, subst, inl, inr, length}
 use Rattle.std.specs.Prelude.{Option, Some, None, IfSome, unwrap_or}
 use Rattle.vbi_whole.specs.Types.{Number, Place}
 use Rattle.vbi_side.specs.Numbers.{IsMarked}
@@ -28,7 +28,7 @@ returns-in_default c = record {
   padded = c.padded_in-padded.ensures;
   blank = c.first_blank-blank.ensures;
   verdict = c.verdict.ensures;
-  reasons = inl (c.in_default.ensures.none refl, c.without_numbers-reasons.ensures, refl, refl);
+  reasons = inl (c.in_default.ensures.none refl, grind (arith, c.default.ensures), refl, refl);
 }
 
 pub returns : goal.returns

@@ -5,7 +5,7 @@ use Rattle.vbi_whole.specs.Types.{Gap}
 use Rattle.vbi_whole.specs.Detours.{turned, fields_by}
 use Rattle.vbi_whole.specs.Told.{AreTold, AreTelling, waiting, listed, stage}
 use Rattle.vbi_whole.proofs.Detouring.{one_waits, one_told, two_told}
-use Rattle.vbi_whole.proofs.told.Telling.with_gap.Goals as goal
+use Rattle.vbi_whole.proofs.gaps_so_far.Telling.with_gap.Goals as goal
 
 pub returns-in_default : goal.returns-in_default
 returns-in_default c = λ gaps unread old telling.

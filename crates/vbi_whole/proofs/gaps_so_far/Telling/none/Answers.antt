@@ -1,6 +1,6 @@
 use Rattle.std.proofs.Common.{[], refl}
 use Rattle.vbi_whole.proofs.Telling.{none_written}
-use Rattle.vbi_whole.proofs.told.Telling.none.Goals as goal
+use Rattle.vbi_whole.proofs.gaps_so_far.Telling.none.Goals as goal
 
 pub returns : goal.returns
 returns c = λ rule old. record {

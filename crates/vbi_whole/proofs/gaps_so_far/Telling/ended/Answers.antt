@@ -3,7 +3,7 @@ use Rattle.std.specs.Prelude.{Option}
 use Rattle.vbi_whole.specs.declared.detour.Waiting.{Waiting}
 use Rattle.vbi_whole.specs.Told.{AreTelling, waiting, listed, stage}
 use Rattle.vbi_whole.proofs.Detouring.{none_waits, last_told}
-use Rattle.vbi_whole.proofs.told.Telling.ended.Goals as goal
+use Rattle.vbi_whole.proofs.gaps_so_far.Telling.ended.Goals as goal
 
 pub returns-in-None : goal.returns-in-None
 returns-in-None c = λ gaps unread old telling.
