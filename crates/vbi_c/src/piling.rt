@@ -28,7 +28,7 @@ pub struct LdvbiNear {
     pub distance: u64,
     /// How far they are from the nearest drawn row of another word, or of none.
     pub rival: u64,
-    /// How far they are from the nearest drawn row on which the word goes on by one cell; the distance if there is none.
+    /// How far they are from the nearest drawn row on which the word goes on by one cell; without a word the distance.
     pub longer: u64,
 }
 
