@@ -17,9 +17,9 @@ use Rattle.vbi_seek.specs.declared.number_search.Sought.{Sought}
 use Rattle.vbi_seek.specs.Neighbours.{Way, down, up, IsNearest, IsNearestAt, IsBelieved, IsToldThere, TellNone, IsNone}
 use Rattle.vbi_seek.specs.Neighbours.{IsBeside, AreRising, IsGap, Span, span_of, all_of, AreNeighbours, AreAround}
 use Rattle.vbi_seek.specs.Neighbours.{IsLookedFor, AreLedTo}
-use Rattle.vbi_seek.specs.NumbersAround.{among, IsJudgedAround}
+use Rattle.vbi_seek.specs.NumbersAround.{among, numbers_of, IsJudgedAround}
 use Rattle.vbi_seek.specs.NumberSearch.{Numbers, shown_at, shown_of}
-use Rattle.vbi_seek.proofs.Answered.{all_shown, judged_among, one_among}
+use Rattle.vbi_seek.proofs.Answered.{all_shown, judged_among, judged_in, one_among}
 
 -- ---- the fields in which the number is looked for
 
@@ -107,8 +107,8 @@ IsFurther way shown span number = (field m i n : ℕ) → (span.from ≤ field) 
     → IsBelieved span.pace shown field m → (span.from ≤ i → i < span.to → ⊥) → IsBelieved span.pace shown i n
     → way.lies n number → way.lies n m ⊎ ((n ≡ m) × way.passed i field)
 
--- the nearest number of some fields is that of the whole side, if those of others are further off, and these fields tell
--- one if the side does
+-- the nearest number of some fields is that of the whole side, if those of others are further off, and these fields
+-- tell one if the side does
 whole_side : (way : Way) (shown : List Sightings) (count : ℕ) (span : Span) (number : ℕ) (neighbour : Neighbour)
     → span.to ≤ count → IsFurther way shown span number
     → ((i n : ℕ) → IsBelieved span.pace shown i n → way.lies n number → TellNone way shown span number → ⊥)
@@ -172,7 +172,7 @@ higher_further shown span number rising earlier field m i n inside its outside t
     ]
 
 -- if numbers rise along the side and both neighbours are told, they are those of the whole side
-pub both_whole : (shown : List Sightings) (count : ℕ) (span : Span) (number : ℕ) (before after : Neighbour)
+both_whole : (shown : List Sightings) (count : ℕ) (span : Span) (number : ℕ) (before after : Neighbour)
     → span.to ≤ count → AreRising span.pace shown → (before.field < count) × (after.field < count)
     → IsBeside down shown count span number before × IsBeside up shown count span number after
     → IsBeside down shown count (all_of span.pace count) number before
@@ -203,7 +203,7 @@ both_whole shown count span number before after inside rising has (inl (m, is, l
 )
 
 -- so they are, if there is a gap for the number at a field, and the number was looked for in all around it
-pub gap_whole : (shown : List Sightings) (count : ℕ) (span : Span) (number t : ℕ) (sought : Sought)
+gap_whole : (shown : List Sightings) (count : ℕ) (span : Span) (number t : ℕ) (sought : Sought)
     → span.to ≤ count → length shown ≡ count → AreAround count t span.from span.to → IsGap span.pace shown number t
     → AreNeighbours shown count span number sought → AreNeighbours shown count (all_of span.pace count) number sought
 gap_whole shown count span number t sought inside long around gap (before, after) = (
@@ -239,6 +239,25 @@ pub first_inside : (search : NumberSearch) (a : Around) (pace : paces.Pace) (num
     → (a.from ≤ a.from + at) × (a.from + at < a.to)
 first_inside search a pace numbers at judged ((answer, shown, known), others) =
     (omega arith, (judged_among search a pace numbers at answer judged shown).0)
+
+-- it was looked for in the fields in which it was, whatever was found
+pub looked_for : (search : NumberSearch) (a : Around) (pace : paces.Pace) (numbers : List Number) (sought : Sought)
+    → IsJudgedAround search a pace numbers → (a.from + 24 ≤ a.to) ⊎ ((a.from ≡ 0) × (a.to ≡ search.side.count))
+    → a.end - a.first ≤ sought.looked
+    → (sought.field < search.side.count
+    → (a.from ≤ sought.field) × (sought.field < a.to) × (sought.pace ≡ Some pace))
+    → AreNeighbours (all_shown search) search.side.count (span_of pace a) search.number sought
+    → IsLookedFor (numbers_of search) search.number sought (span_of pace a)
+looked_for search a pace numbers sought judged wide few found told = record {
+  inside = (omega (arith, judged.window.order), omega (arith, judged.window.order));
+  wide = wide;
+  judged = λ i from to.
+      (a.first, a.end - a.first, few, judged_in search a pace numbers i judged from to);
+  found = found;
+  told = told;
+  rising = λ rising has. both_whole (all_shown search) search.side.count (span_of pace a) search.number sought.before
+      sought.after (omega (arith, judged.window.order)) rising has told;
+}
 
 -- if it was looked for in all fields around one to which the fields lead, the neighbours are those of the whole side if
 -- there is a gap for the number

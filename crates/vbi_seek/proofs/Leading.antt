@@ -1,6 +1,6 @@
 -- What the fields of a side tell leads to the field with a number, or to the one in which a chapter begins.
-use Rattle.std.proofs.Common.{◌≡◌, ℕ, zero, suc, ◌+◌, ◌-◌, ◌*◌, ◌/◌, ◌<◌, ◌≤◌, sym, subst, ap, refl, inl, inr, arith}
-use Rattle.std.proofs.Common.{Bool, true, false, lit<}
+use Rattle.std.proofs.Common.{◌≡◌, ◌∙◌, ℕ, zero, suc, ◌+◌, ◌-◌, ◌*◌, ◌/◌, ◌<◌, ◌≤◌, sym, subst, ap, refl, inl, inr}
+use Rattle.std.proofs.Common.{arith, Bool, true, false, lit<}
 use Rattle.std.specs.Prelude.{Option, Some, None}
 use Rattle.std.proofs.lemmas.Bool.Decides.{leb_tells}
 use Rattle.vbi_seek.specs.declared.asked.Judging.{Judging}
@@ -17,7 +17,7 @@ use Rattle.vbi_seek.specs.Kinds.{TellFirst, longest_of, most_of}
 use Rattle.vbi_seek.specs.NumberSearch.{left_most}
 use Rattle.vbi_seek.specs.NumberSpots.{IsNarrowed, middle_of}
 use Rattle.vbi_seek.specs.Searches.{IsAlone, IsHalved, IsHalving, IsNarrowedAt, IsNarrower, IsPart, IsReadAtMost}
-use Rattle.vbi_seek.specs.Searches.{IsSilent, IsSpent, LeadsTo, middle_in}
+use Rattle.vbi_seek.specs.Searches.{IsSilent, LeadsTo, middle_in}
 use Rattle.vbi_seek.specs.Spots.{IsToldAt, IsWithin, half, left_by, past_of, three_quarters, whole}
 
 -- what is told reaches no further than is looked at
@@ -238,16 +238,13 @@ silent_halves search end old new wide silent alone is = λ t a b leads within to
     subst (IsNarrower search.kind t a b old) (sym is)
     (record { within = begun.within; told = begun.told; narrower = in_half search.kind end old wide })
 
--- if the middle is silent, only one end has told something
-pub not_both : (search : Search) (n m : ℕ) (old new : Between) → IsPart search old → IsSilent search (middle_in old)
-    → old.lower ≡ Some n → old.higher ≡ Some m → IsHalved search old new
-not_both search n m old new part silent lower higher = λ t a b leads within told.
-    absurd (never_both search t a b leads n m old part.0 silent lower higher within)
-
-pub spent_by_both : (search : Search) (n m : ℕ) (old : Between) (before after : Looked) → IsPart search old
-    → IsSilent search (middle_in old) → old.lower ≡ Some n → old.higher ≡ Some m → IsSpent search old before after
-spent_by_both search n m old before after part silent lower higher = λ t a b leads within.
-    absurd (never_both search t a b leads n m old part.0 silent lower higher within)
+-- if the middle is silent, nothing leads to where both ends have told something
+pub never_led : (search : Search) (n m t a b : ℕ) (old kept : Between) → IsPart search old → kept ≡ old
+    → IsSilent search (middle_in old) → kept.lower ≡ Some n → kept.higher ≡ Some m → LeadsTo search t a b
+    → IsWithin (most_of search.kind) t a b old → ⊥
+never_led search n m t a b old kept part same silent lower higher leads within =
+    never_both search t a b leads n m old part.0 silent (sym (ap (λ (b : Between). b.lower) same) ∙ lower)
+    (sym (ap (λ (b : Between). b.higher) same) ∙ higher) within
 
 -- no more than at one spot is little enough
 pub read_at_most : (kind : Kind) (before after : Looked)

@@ -35,7 +35,7 @@ IsToldBy Chapter seen i n = together ≤ said_below seen n (length seen)
 abbrev pub Tell : Kind → List Sightings → ℕ → Type 0
 Tell kind seen n = (i : ℕ) × Shows (slice_get seen i) n × IsToldBy kind seen i n
 
--- so many fields are read at a spot, and so many at most if many were worn
+-- so many fields are read at a spot, and so many at most if many are worn
 abbrev pub most_of : Kind → ℕ
 most_of (Number judging) = probe_most
 most_of Chapter = spot_most

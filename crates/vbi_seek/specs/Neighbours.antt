@@ -15,8 +15,8 @@ use Rattle.vbi_seek.specs.NumberSearch.{Numbers, numbers_by, shown_of, IsJudgedI
 
 -- ---- the two ways
 
--- a way from a number to a neighbour: whether a number lies that way of another, and whether a field comes no later that
--- way than another of the same number, of which the last one is the neighbour
+-- a way from a number to a neighbour: whether a number lies that way of another, and whether a field comes no later
+-- that way than another of the same number, of which the last one is the neighbour
 pub record Way : Type 1 where
   pub lies : ℕ → ℕ → Type 0
   pub passed : ℕ → ℕ → Type 0

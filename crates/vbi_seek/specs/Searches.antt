@@ -153,13 +153,14 @@ abbrev pub IsHalved : Search → Between → Between → Type 0
 IsHalved search old new = (t a b : ℕ) → LeadsTo search t a b → IsWithin (most_of search.kind) t a b old → IsToldAt old
     → IsNarrower search.kind t a b old new
 
--- for that no more fields are read than at one spot
+-- where the fields lead to what is sought, a step reads no more of them than at one spot
 abbrev pub IsSpent : Search → Between → Looked → Looked → Type 0
 IsSpent search old before after =
     (t a b : ℕ) → LeadsTo search t a b → IsWithin (most_of search.kind) t a b old
     → after.fields + after.spare ≤ before.fields + before.spare + most_of search.kind
 
--- nor whatever leads there, of a number; of a chapter no more than while its place is sought
+-- a step reads no more fields for a number than at one spot, wherever they lead, and for a chapter no more than may be
+-- read while its place is sought
 abbrev pub IsReadAtMost : Kind → Looked → Looked → Type 0
 IsReadAtMost (Number judging) before after =
     after.fields + after.spare ≤ before.fields + before.spare + probe_most

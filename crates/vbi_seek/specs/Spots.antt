@@ -16,12 +16,13 @@ pub record Spots : Type 1 where
   pub tells : ℕ → ℕ → ℕ → Type 0
   pub past : ℕ → ℕ → ℕ
 
--- those of numbers or of chapters. What tells a number begins in one of the fields that tell it, and what tells a
--- chapter in one of the 24 from the first of these on
+-- one past the last field in which what some fields tell may begin: a number begins in one of the fields that tell it,
+-- and a chapter in one of the 24 from the first of these on
 abbrev pub past_of : Kind → ℕ → ℕ → ℕ
 past_of (Number judging) f k = f + k
 past_of Chapter f k = f + spot_most
 
+-- the spots of numbers or of chapters of a side
 abbrev pub spots_in : Kind → Side → Spots
 spots_in kind side = record {
   count = side.count;

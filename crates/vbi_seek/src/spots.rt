@@ -151,7 +151,7 @@ fn weight_together(kind: Kind, seen: &[Sightings], field: usize, number: u32) ->
 }
 
 /// Whether enough of what these fields show says this number in this field: all of it at the pace of video, or what
-/// supports it around the field at either pace. Of a chapter all says it, however far apart.
+/// supports it around the field at either pace. Of a chapter all of it counts, however far apart.
 fn is_told(kind: Kind, seen: &[Sightings], field: usize, number: u32) -> bool
     requires inside { field < length seen.now }
     requires few { length seen.now ≤ probe_longest }

@@ -1,7 +1,7 @@
-use Rattle.std.proofs.Common.{◌∙◌, ap, sym, subst, arith}
+use Rattle.std.proofs.Common.{sym, subst, arith}
 use Rattle.vbi_seek.specs.declared.narrowing.Between.{Between}
 use Rattle.vbi_seek.specs.Searches.{AreSeenFrom, IsSilent, IsHalved, middle_in}
-use Rattle.vbi_seek.proofs.Leading.{not_both, spent_by_both, told_in_middle}
+use Rattle.vbi_seek.proofs.Leading.{never_led, told_in_middle}
 use Rattle.vbi_seek.proofs.Narrowed.{by_both}
 use Rattle.vbi_seek.proofs.Seen.{none_seen}
 use Rattle.vbi_seek.proofs.halving.halve.Goals as goal
@@ -12,29 +12,25 @@ returns-then-narrow-clause-halved c =
     (c.narrow.ensures.narrowed c.if-narrow.true)
 
 pub returns-in-Number-clause-halved : goal.returns-in-Number-clause-halved
-returns-in-Number-clause-halved c =
-    let kept = c.narrow.ensures.kept c.if-narrow.false in
-    not_both c.args.search.now c.in-Some-lower.lower c.in-Some.higher c.args.between.now c.narrow_between.new.between
-    c.requires.part (λ k n few. c.narrow.ensures.silent c.if-narrow.false k n (omega (arith, few)))
-    (sym (ap (λ (n : Between). n.lower) kept) ∙ c.in-Some-lower.is)
-    (sym (ap (λ (n : Between). n.higher) kept) ∙ c.in-Some.is)
+returns-in-Number-clause-halved c = λ t a b leads within told.
+    absurd (never_led c.args.search.now c.in-Some-lower.lower c.in-Some.higher t a b c.args.between.now
+    c.narrow.new.between c.requires.part (c.narrow.ensures.kept c.if-narrow.false)
+    (λ k n few. c.narrow.ensures.silent c.if-narrow.false k n (omega (arith, few))) c.in-Some-lower.is c.in-Some.is
+    leads within)
 
 pub returns-in-Chapter-clause-halved : goal.returns-in-Chapter-clause-halved
-returns-in-Chapter-clause-halved c =
-    let kept = c.narrow.ensures.kept c.if-narrow.false in
-    not_both c.args.search.now c.in-Some-lower.lower c.in-Some.higher c.args.between.now c.ask_beside.new.between
-    c.requires.part (λ k n few. c.narrow.ensures.silent c.if-narrow.false k n (omega (arith, few)))
-    (sym (ap (λ (n : Between). n.lower) kept) ∙ c.in-Some-lower.is)
-    (sym (ap (λ (n : Between). n.higher) kept) ∙ c.in-Some.is)
+returns-in-Chapter-clause-halved c = λ t a b leads within told.
+    absurd (never_led c.args.search.now c.in-Some-lower.lower c.in-Some.higher t a b c.args.between.now
+    c.narrow.new.between c.requires.part (c.narrow.ensures.kept c.if-narrow.false)
+    (λ k n few. c.narrow.ensures.silent c.if-narrow.false k n (omega (arith, few))) c.in-Some-lower.is c.in-Some.is
+    leads within)
 
 pub returns-in-Chapter-clause-spent : goal.returns-in-Chapter-clause-spent
-returns-in-Chapter-clause-spent c =
-    let kept = c.narrow.ensures.kept c.if-narrow.false in
-    spent_by_both c.args.search.now c.in-Some-lower.lower c.in-Some.higher c.args.between.now c.args.looked.now
-    c.ask_beside.new.looked c.requires.part
-    (λ k n few. c.narrow.ensures.silent c.if-narrow.false k n (omega (arith, few)))
-    (sym (ap (λ (n : Between). n.lower) kept) ∙ c.in-Some-lower.is)
-    (sym (ap (λ (n : Between). n.higher) kept) ∙ c.in-Some.is)
+returns-in-Chapter-clause-spent c = λ t a b leads within.
+    absurd (never_led c.args.search.now c.in-Some-lower.lower c.in-Some.higher t a b c.args.between.now
+    c.narrow.new.between c.requires.part (c.narrow.ensures.kept c.if-narrow.false)
+    (λ k n few. c.narrow.ensures.silent c.if-narrow.false k n (omega (arith, few))) c.in-Some-lower.is c.in-Some.is
+    leads within)
 
 pub narrow_in_silence-requires-clause-silent : goal.narrow_in_silence-requires-clause-silent
 narrow_in_silence-requires-clause-silent c =

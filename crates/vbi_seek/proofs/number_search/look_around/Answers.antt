@@ -1,7 +1,7 @@
-use Rattle.std.proofs.Common.{◌-◌, ◌≤◌, arith, inl, inr, refl}
+use Rattle.std.proofs.Common.{◌-◌, arith, inl, inr, refl}
 use Rattle.vbi_seek.specs.Neighbours.{span_of}
-use Rattle.vbi_seek.proofs.Beside.{both_whole, first_inside}
-use Rattle.vbi_seek.proofs.Answered.{all_shown, found_at, first_sought, judged_in}
+use Rattle.vbi_seek.proofs.Beside.{first_inside, looked_for}
+use Rattle.vbi_seek.proofs.Answered.{found_at, first_sought}
 use Rattle.vbi_seek.proofs.number_search.look_around.Goals as goal
 
 pub returns-in-Some-clause-sought : goal.returns-in-Some-clause-sought
@@ -54,47 +54,27 @@ returns-in-Some-clause-beside c =
     let search = c.args.search.now in
     let a = c.fields_around-around.result in
     let pace = c.judge_around-pace.result in
-    let numbers = c.judge_around-pace.new.numbers in
     let is = c.judge_around-pace.ensures in
-    let beside = c.neighbours_among.ensures in
-    let inside : a.to ≤ search.side.count = omega (arith, is.judged.window.order) in (
+    let beside = c.neighbours_among.ensures in (
       span_of pace a,
-      record {
-        inside = (omega (arith, is.judged.window.order), inside);
-        wide = c.fields_around-around.ensures.wide;
-        judged = λ i from to.
-            (a.first, a.end - a.first, omega (arith, is.counted), judged_in search a pace numbers i is.judged from to);
-        found = λ found.
-            let at = first_inside search a pace numbers c.in-Some.at is.judged c.in-Some.ensures.first in
-            (at.0, at.1, refl);
-        told = (beside.before pace is.judged, beside.after pace is.judged);
-        rising = λ rising has. both_whole (all_shown search) search.side.count (span_of pace a) search.number
-            c.neighbours_among.result.0 c.neighbours_among.result.1 inside rising has
-            (beside.before pace is.judged, beside.after pace is.judged);
-      },
+      looked_for search a pace c.judge_around-pace.new.numbers _ is.judged c.fields_around-around.ensures.wide
+          (omega (arith, is.counted))
+          (λ found.
+          let at = first_inside search a pace c.judge_around-pace.new.numbers c.in-Some.at is.judged
+          c.in-Some.ensures.first in
+          (at.0, at.1, refl))
+          (beside.before pace is.judged, beside.after pace is.judged),
       c.fields_around-around.ensures.reached,
     )
 
 pub returns-in-None-clause-beside : goal.returns-in-None-clause-beside
 returns-in-None-clause-beside c =
-    let search = c.args.search.now in
-    let a = c.fields_around-around.result in
-    let pace = c.judge_around-pace.result in
-    let numbers = c.judge_around-pace.new.numbers in
     let is = c.judge_around-pace.ensures in
-    let beside = c.neighbours_among.ensures in
-    let inside : a.to ≤ search.side.count = omega (arith, is.judged.window.order) in (
-      span_of pace a,
-      record {
-        inside = (omega (arith, is.judged.window.order), inside);
-        wide = c.fields_around-around.ensures.wide;
-        judged = λ i from to.
-            (a.first, a.end - a.first, omega (arith, is.counted), judged_in search a pace numbers i is.judged from to);
-        found = λ found. absurd (omega (arith, found));
-        told = (beside.before pace is.judged, beside.after pace is.judged);
-        rising = λ rising has. both_whole (all_shown search) search.side.count (span_of pace a) search.number
-            c.neighbours_among.result.0 c.neighbours_among.result.1 inside rising has
-            (beside.before pace is.judged, beside.after pace is.judged);
-      },
+    let beside = c.neighbours_among.ensures in (
+      span_of c.judge_around-pace.result c.fields_around-around.result,
+      looked_for c.args.search.now c.fields_around-around.result c.judge_around-pace.result
+          c.judge_around-pace.new.numbers _ is.judged c.fields_around-around.ensures.wide (omega (arith, is.counted))
+          (λ found. absurd (omega (arith, found)))
+          (beside.before c.judge_around-pace.result is.judged, beside.after c.judge_around-pace.result is.judged),
       c.fields_around-around.ensures.reached,
     )
