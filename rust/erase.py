@@ -42,7 +42,7 @@ ATTRIBUTE = re.compile(r"#!?\[(\w+)")
 REWRITTEN = [(re.compile(pattern, re.M), other) for pattern, other in [
     (r"\bprove!", "assert!"),
     # What contracts compare by their views, Rust compares and prints by these.
-    (r"^#\[derive\(Clone, Copy\)\]$", "#[derive(Clone, Copy, Debug, PartialEq, Eq)]"),
+    (r"^#\[derive\(Clone, Copy(, Default)?\)\]$", r"#[derive(Clone, Copy, Debug\1, PartialEq, Eq)]"),
     (r"<W: fmt::Write>\(&self, f: &mut fmt::Formatter<W>\)", "(&self, f: &mut fmt::Formatter<'_>)"),
     (r"(#\[derive\(.*)\bDrop, ", r"\1"), (r"\bDrop\)\]", ")]"), (r", \)\]", ")]"), (r"^[ \t]*#\[derive\(\)\]$", ""),
     (r"^use std::(?:marker::Model|simd::prelude::\*|alloc::Global);$", ""),
