@@ -21,28 +21,20 @@ use Rattle.vbi_seek.specs.NumberLeads.{Tells, number_spots}
 use Rattle.vbi_seek.specs.Spots.{Leads}
 use Rattle.vbi_seek.specs.NumberSearch.{Numbers, shown_at, shown_of}
 use Rattle.vbi_seek.specs.NumberSpots.{TellsFrom}
+use Rattle.vbi_seek.proofs.ChapterPlaces.{at as field_at}
 use Rattle.vbi_seek.proofs.Tellers.{told_other, first_told}
 
 -- what this many fields from this one on show
 abbrev pub part : Numbers → ℕ → ℕ → List Sightings
 part numbers field k = map (shown_at numbers) (range_with_len field k)
 
-pub part_at : (numbers : Numbers) (field k i : ℕ) → i < k
-    → slice_get (part numbers field k) i ≡ Some (shown_at numbers (field + i))
-part_at numbers field k i inside =
-    let other = shown_at numbers (field + i) in
-    slice_get-get_or (part numbers field k) i other
-    (omega (arith, inside, length-map-range_with_len (shown_at numbers) field k))
-    ∙ ap Some (get_or-map-range_with_len (shown_at numbers) field k i (field + i) other inside refl)
-
 -- a field of a part is one of the side
 same_field : (numbers : Numbers) (field k i : ℕ) → i < k → field + k ≤ numbers.side.count
     → slice_get (part numbers field k) i ≡ slice_get (shown_of numbers) (field + i)
 same_field numbers field k i inside within =
-    let place : 0 + (field + i) ≡ field + i = omega arith in
-    part_at numbers field k i inside
-    ∙ sym (part_at numbers 0 numbers.side.count (field + i) (omega (arith, inside, within))
-    ∙ ap (λ (j : ℕ). Some (shown_at numbers j)) place)
+    field_at (shown_at numbers) field k i (field + i) inside refl
+    ∙ sym (field_at (shown_at numbers) 0 numbers.side.count (field + i) (field + i) (omega (arith, inside, within))
+    (omega arith))
 
 module _ (numbers : Numbers) (clock : Clock) (number : ℕ → ℕ) (begin last : ℕ)
     (each : (p : ℕ) → p ≤ last → IsReadTwice (shown_of numbers) (begin + 2 * p) (number p))

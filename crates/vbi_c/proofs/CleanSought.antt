@@ -27,7 +27,8 @@ use Rattle.vbi_seek.specs.declared.asked.Asked.TheVariants.{Given, Found}
 use Rattle.vbi_c.specs.Judging.{IsGiven}
 use Rattle.vbi_seek.specs.NumberLeads.{IsFirstKnown}
 use Rattle.vbi_seek.specs.NumberSearch.{Numbers, shown_at, shown_of, around_most, HasOther, IsJudgedIn}
-use Rattle.vbi_c.proofs.CleanLeading.{part, part_at, inside, two_more, in_part, part_twice}
+use Rattle.vbi_seek.proofs.ChapterPlaces.{at as field_at}
+use Rattle.vbi_c.proofs.CleanLeading.{part, inside, two_more, in_part, part_twice}
 
 -- of times the pace is that of video
 of_times : (system : System) (found : Pace) (fields : List Sightings) → IsFound system Times fields found
@@ -109,15 +110,15 @@ module _ (numbers : Numbers) (clock : Clock) (number : ℕ → ℕ) (begin last 
           never_known (number p) (number q) apart,
         )
     | inr blank ↦
-        let place : 0 + i ≡ i = omega arith in
-        let at = part_at numbers 0 numbers.side.count i (omega (arith, before, low, in_count)) in (
-          doubtful_of (shown_at numbers (0 + i)),
+        let at = field_at (shown_at numbers) 0 numbers.side.count i i (omega (arith, before, low, in_count))
+        (omega arith) in (
+          doubtful_of (shown_at numbers i),
           inr (inr (
             λ n b. let (p, inside_run, is) = others i n b.shown in blank p is,
             λ n d. blank_due i n blank d,
-            (shown_at numbers (0 + i), at, refl),
+            (shown_at numbers i, at, refl),
           )),
-          blank_known (shown_at numbers (0 + i)) (number q),
+          blank_known (shown_at numbers i) (number q),
         )
   ]
 

@@ -3,18 +3,13 @@ use Rattle.std.proofs.Common.{◌≡◌, ℕ, suc, zero, ◌+◌, ◌-◌, ◌<�
 use Rattle.std.proofs.Common.{get_or, drop, refl, ap, ◌∙◌, sym, arith, inl, inr}
 use Rattle.std.specs.Prelude.{◌&&◌, All, IsTrue}
 use Rattle.std.specs.List.{list_all}
-use Rattle.std.proofs.lemmas.Bool.{false≢true}
+use Rattle.std.proofs.lemmas.Bool.{and_parts}
 use Rattle.std.proofs.lemmas.Bool.Decides.{nat_tests}
 use Rattle.std.proofs.lemmas.List.Elements.{All-cons, All-nil, All-same}
 use Rattle.std.proofs.Math.Nat.{eq-or-lt_of_le}
 use Rattle.std.proofs.lemmas.List.{drop_more, drop_all}
 use Rattle.vbi_c.specs.declared.erased.LdvbiErased.{LdvbiErased}
 use Rattle.vbi_c.specs.Erased.{is_code_line, is_entry, may_follow, are_sorted, is_taken}
-
--- both of two tests hold
-and_both : (a b : Bool) → (a && b) ≡ true → (a ≡ true) × (b ≡ true)
-and_both true b both = (refl, both)
-and_both false b both = absurd (false≢true both)
 
 -- stands where there is no entry
 abbrev pub no_entry : LdvbiErased
@@ -46,7 +41,7 @@ are_sorted-last (x ∷ list) i long =
 -- what is left after the first entry is sorted
 are_sorted-tail : (x : LdvbiErased) (list : List LdvbiErased) → are_sorted (x ∷ list) ≡ true → are_sorted list ≡ true
 are_sorted-tail x [] sorted = refl
-are_sorted-tail x (y ∷ list) sorted = (and_both (may_follow x y) (are_sorted (y ∷ list)) sorted).1
+are_sorted-tail x (y ∷ list) sorted = (and_parts (may_follow x y) (are_sorted (y ∷ list)) sorted).1
 
 -- what is left from a place on is sorted
 pub are_sorted-drop : (i : ℕ) (list : List LdvbiErased) → are_sorted list ≡ true → are_sorted (drop i list) ≡ true
@@ -65,7 +60,7 @@ are_later field x [] sorted later =
     All-cons (λ (entry : LdvbiErased). field < entry.field) x [] later
     (All-nil (λ (entry : LdvbiErased). field < entry.field))
 are_later field x (y ∷ list) sorted later =
-    let both = and_both (may_follow x y) (are_sorted (y ∷ list)) sorted in
+    let both = and_parts (may_follow x y) (are_sorted (y ∷ list)) sorted in
     let order = field_order x y both.0 in
     All-cons (λ (entry : LdvbiErased). field < entry.field) x (y ∷ list) later
     (are_later field y list both.1 (omega (arith, order)))
@@ -74,15 +69,15 @@ are_later field x (y ∷ list) sorted later =
 
 -- it is sorted
 pub taken-sorted : (count : ℕ) (list : List LdvbiErased) → IsTrue (is_taken count list) → are_sorted list ≡ true
-taken-sorted count list taken = (and_both (list_all (is_entry count) list) (are_sorted list) taken).1
+taken-sorted count list taken = (and_parts (list_all (is_entry count) list) (are_sorted list) taken).1
 
 -- a test that all pass holds of each
 each_of_all : (test : LdvbiErased → Bool) (list : List LdvbiErased) (i : ℕ) (d : LdvbiErased)
     → list_all test list ≡ true → i < length list → test (get_or list i d) ≡ true
 each_of_all test [] i d all inside = absurd (omega arith)
-each_of_all test (x ∷ list) zero d all inside = (and_both (test x) (list_all test list) all).0
+each_of_all test (x ∷ list) zero d all inside = (and_parts (test x) (list_all test list) all).0
 each_of_all test (x ∷ list) (suc i) d all inside =
-    each_of_all test list i d (and_both (test x) (list_all test list) all).1 (omega arith)
+    each_of_all test list i d (and_parts (test x) (list_all test list) all).1 (omega arith)
 
 -- an entry is of a line with code words
 line_of_entry : (count : ℕ) (entry : LdvbiErased) → is_entry count entry ≡ true → IsTrue (is_code_line entry.line)
@@ -93,7 +88,7 @@ pub taken-line : (count : ℕ) (list : List LdvbiErased) (i : ℕ) (d : LdvbiEra
     → i < length list → IsTrue (is_code_line (get_or list i d).line)
 taken-line count list i d taken inside =
     line_of_entry count (get_or list i d) (each_of_all (is_entry count) list i d
-    (and_both (list_all (is_entry count) list) (are_sorted list) taken).0 inside)
+    (and_parts (list_all (is_entry count) list) (are_sorted list) taken).0 inside)
 
 -- where the entry at a place is of a later field, so are those after it
 pub taken-later : (count : ℕ) (list : List LdvbiErased) (i field : ℕ) (d : LdvbiErased)

@@ -4,8 +4,8 @@ use Rattle.std.proofs.Common.{ap, sym, ◌∙◌, refl, subst, arith, inl, inr, 
 use Rattle.std.specs.Prelude.{Option}
 use Rattle.std.specs.List.{range_with_len}
 use Rattle.std.proofs.Math.Nat.{eq-or-lt_of_le, mul-le-mul_left}
-use Rattle.std.proofs.lemmas.List.{drop-take}
-use Rattle.std.proofs.lemmas.List.FromFn.{map-range_with_len_more}
+use Rattle.std.proofs.lemmas.List.{drop-take, take-take}
+use Rattle.std.proofs.lemmas.List.FromFn.{fill_by_all, get_or-map-range_with_len, length-map-range_with_len}
 use Rattle.vbi_words.specs.declared.system.System.{System}
 use Rattle.vbi_words.specs.Geometry.{width_of, line_at}
 use Rattle.vbi_near.specs.Candidates.{Row, row_of}
@@ -14,13 +14,6 @@ use Rattle.vbi_c.specs.declared.erased.LdvbiErased.{LdvbiErased}
 use Rattle.vbi_c.specs.Erased.{line_marks}
 use Rattle.vbi_c.specs.Piling.{HasMarks, row_erased, rows_erased, count_in}
 use Rattle.vbi_seek.specs.declared.side_bytes.Setup.{Setup}
-
--- the first items of the first items
-take-take : (n m : ℕ) (xs : List Bool) → n ≤ m → take n (take m xs) ≡ take n xs
-take-take zero m xs few = refl
-take-take (suc n) zero xs few = absurd (omega (arith, few))
-take-take (suc n) (suc m) [] few = refl
-take-take (suc n) (suc m) (x ∷ xs) few = ap (λ (rest : List Bool). x ∷ rest) (take-take n m xs (omega (arith, few)))
 
 -- a part of what lies before a place stays where all before the place does
 part-kept : (old new : List Bool) (w from to : ℕ) → from + w ≤ to → take to new ≡ take to old
@@ -47,25 +40,16 @@ marks-next system line list n old new are kept here place below =
           part-kept old new w (w * place) (w * n) (omega (arith, rows)) kept ∙ are place less
     ]
 
--- what is the same of each is the same of all
-pub map-same : (f g : ℕ → Row) (n : ℕ) → ((i : ℕ) → i < n → f i ≡ g i)
-    → map f (range_with_len 0 n) ≡ map g (range_with_len 0 n)
-map-same f g zero same = refl
-map-same f g (suc n) same =
-    let e : n + 1 ≡ suc n = omega arith in
-    subst (λ (m : ℕ). map f (range_with_len 0 m) ≡ map g (range_with_len 0 m)) e
-    (map-range_with_len_more f 0 n n (zero-add n)
-    ∙ ap (λ (rows : List Row). rows ++ f n ∷ []) (map-same f g n (λ i less. same i (omega (arith, less))))
-    ∙ ap (λ (row : Row). map g (range_with_len 0 n) ++ row ∷ []) (same n (omega arith))
-    ∙ sym (map-range_with_len_more g 0 n n (zero-add n)))
-
 -- rows by such marks are those of the list
 pub rows-marked : (system : System) (line : ℕ) (bytes : List ℕ) (list : List LdvbiErased) (n : ℕ) (marks : List Bool)
     → HasMarks system line list n marks
     → rows_in system bytes marks n ≡ map (row_erased system line bytes list) (range_with_len 0 n)
 rows-marked system line bytes list n marks are =
-    map-same (row_in system bytes marks) (row_erased system line bytes list) n
-    (λ i less. ap (λ (erased : List Bool). row_of (line_at system bytes 0 i) erased) (are i less))
+    let by_marks = row_in system bytes marks in
+    fill_by_all (row_erased system line bytes list) (map by_marks (range_with_len 0 n)) n (by_marks 0)
+    (length-map-range_with_len by_marks 0 n) (λ i less.
+    get_or-map-range_with_len by_marks 0 n i i (by_marks 0) less (omega arith)
+    ∙ ap (λ (erased : List Bool). row_of (line_at system bytes 0 i) erased) (are i less))
 
 -- what lines by such marks say, those of the list say
 pub said-marked : (setup : Setup) (line : ℕ) (known : Bool) (bytes : List ℕ) (list : List LdvbiErased) (n : ℕ)
