@@ -1,14 +1,16 @@
 -- What a run's clause says with the words that are read back, and a job's clause by its command's.
-use Rattle.std.proofs.Common.{◌≡◌, subst, ℕ, Bool, List, Option, Result, Ok, Err, IfOk}
+use Rattle.std.proofs.Common.{◌≡◌, subst, ℕ, Bool, true, false, List, Option, Result, Ok, Err, IfOk}
 use Rattle.vbi_field.specs.ConfigView.{ConfigView}
 use Rattle.vbi_field.specs.Extracts.{Extracts}
-use Rattle.vbi_field.specs.Texts.{Kind, whole_text}
+use Rattle.vbi_field.specs.Texts.{Kind, document, recovered_document, whole_text}
 use Rattle.vbi_field.specs.Ran.{Counts, Ran}
 use Rattle.vbi_field.specs.declared.summary.RunFault.{RunFault}
 use Rattle.vbi_field.specs.declared.summary.Summary.{Summary}
+use Rattle.vbi_meta.proofs.DocumentReadings.{extracted, extracted_recovered}
 use Rattle.vbi_meta.specs.DocumentValue.{IsConfig, IsOfRun}
+use Rattle.vbi_meta.specs.ReadBack.{ReadsBack, RecoversBack}
 use Rattle.vbi_meta.specs.declared.overrides.Overrides.{Overrides}
-use Rattle.vbi_cli.specs.Jobs.{Counting, Did, ExtractsWords, Settles, Under, UnlessMeta, recovers}
+use Rattle.vbi_cli.specs.Jobs.{Counting, Did, ExtractsWords, IsEndedBy, Settles, Under, UnlessMeta, recovers}
 use Rattle.vbi_cli.specs.declared.command_line.Verb.{Verb}
 use Rattle.vbi_cli.specs.declared.command_line.Verb.TheVariants.{Line, Extract, Show, Draw}
 use Rattle.vbi_cli.specs.declared.fault.AppFault.{AppFault}
@@ -29,7 +31,7 @@ read_back t Back reads c input n (Ok summary) z text numbers says =
 read_back t Back reads c input n (Err fault) z text numbers says = tt
 
 -- what a run of `extract` did, with the words that a reader of JSON finds
-pub with_read : (t : Kind) (Back : ConfigView → List ℕ → List ℕ → Type 0) → IsReadBack t Back
+with_read : (t : Kind) (Back : ConfigView → List ℕ → List ℕ → Type 0) → IsReadBack t Back
     → {c : ConfigView} {input0 input output0 output : Option (List ℕ)} {n : Counts}
     {result : Result Summary RunFault} → IsConfig c
     → Ran input0 input output0 output n (Extracts t c input n result)
@@ -45,6 +47,27 @@ with_read t Back reads {c = c} {input = input} {n = n} {result = result} numbers
     says = ran.says;
     read_back = read_back t Back reads c input n result ran.z ran.text numbers ran.says;
   };
+}
+
+-- what a run of `extract` did, with its answer, by whether it recovers words
+pub did_document : {c : ConfigView} {input0 input output0 output : Option (List ℕ)} {n : Counts}
+    {result : Result Summary RunFault} {answer : Result Ended AppFault} → IsConfig c
+    → Ran input0 input output0 output n (Extracts document c input n result) → IsEndedBy result answer
+    → Did c input0 input output0 output n Extract false answer
+did_document {result = result} numbers ran answered = record {
+  result = result;
+  ran = with_read document ReadsBack extracted numbers ran;
+  answered = answered;
+}
+
+pub did_recovered : {c : ConfigView} {input0 input output0 output : Option (List ℕ)} {n : Counts}
+    {result : Result Summary RunFault} {answer : Result Ended AppFault} → IsConfig c
+    → Ran input0 input output0 output n (Extracts recovered_document c input n result) → IsEndedBy result answer
+    → Did c input0 input output0 output n Extract true answer
+did_recovered {result = result} numbers ran answered = record {
+  result = result;
+  ran = with_read recovered_document RecoversBack extracted_recovered numbers ran;
+  answered = answered;
 }
 
 -- what a command did that recovers words if it can and is asked to
