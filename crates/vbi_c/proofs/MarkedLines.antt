@@ -1,6 +1,6 @@
 -- The marks of lines that lie one after the other: of one line more, and of the rows that they make.
-use Rattle.std.proofs.Common.{◌≡◌, ℕ, ◌+◌, ◌-◌, ◌*◌, ◌<◌, ◌≤◌, List, [], ◌∷◌, ◌++◌, Bool, map, take, drop, length}
-use Rattle.std.proofs.Common.{ap, sym, ◌∙◌, refl, subst, arith, inl, inr, zero-add, suc, zero}
+use Rattle.std.proofs.Common.{◌≡◌, ℕ, ◌+◌, ◌-◌, ◌*◌, ◌≤◌, List, Bool, map, take, drop, length}
+use Rattle.std.proofs.Common.{ap, sym, ◌∙◌, subst, arith, inl, inr}
 use Rattle.std.specs.Prelude.{Option}
 use Rattle.std.specs.List.{range_with_len}
 use Rattle.std.proofs.Math.Nat.{eq-or-lt_of_le, mul-le-mul_left}
