@@ -6,24 +6,18 @@ use Rattle.std.proofs.lemmas.Bool.{leb-true}
 use Rattle.std.proofs.Math.Nat.{mul-le-mul_right}
 use Rattle.vbi_near.proofs.Common.{Word, Near, Nears, IsPlace, unit_of, codes_of, IsCodePlace, is_beyond_79999}
 use Rattle.vbi_near.proofs.Common.{IsNearestBy, far_from}
+use Rattle.vbi_near.proofs.{Chosen.code-place, Asked.both-hold, OneSeen.open_asked, NeverBeyond.own-few}
 use Rattle.vbi_words.specs.Outcomes.{word_of}
-use Rattle.vbi_near.specs.declared.margins.Margins.{Margins}
-use Rattle.vbi_near.specs.declared.margins.MarginSet.{MarginSet}
-use Rattle.vbi_near.specs.declared.word_rule.Stand.{Stand}
 use Rattle.vbi_near.specs.declared.word_rule.Stand.TheVariants.{Alone, Apart, Together}
-use Rattle.vbi_near.specs.declared.recovery.Recovered.{Recovered}
-use Rattle.vbi_near.specs.LevelledLines.{levelled_unit}
 use Rattle.vbi_near.specs.WordRule.{said_of, unless_beyond, recovered_by, first_said, said_in, is_ahead, is_clear}
 use Rattle.vbi_near.specs.WordRule.{word_in, code_in, is_close}
-use Rattle.vbi_near.specs.Margins.{levelled_margins, given_margins}
 use Rattle.vbi_near.specs.Candidates.{HasNear, HasNearIf, Candidates, Row, Line, Lines, AreOf, AreOfBoth, has_swing}
 use Rattle.vbi_near.specs.Candidates.{are_alike, given_line, levelled_line, given_pair, levelled_pair}
 use Rattle.vbi_near.specs.Recovery.{Seen, IsSeen, Stands, alone, own_of, is_open, said_by, recovered_as, shown_in}
 use Rattle.vbi_near.specs.Ahead.{IsAhead, IsAheadBy, IsAheadOn, IsAheadOnBoth}
-use Rattle.vbi_near.proofs.Chosen.{code-place}
-use Rattle.vbi_near.proofs.Asked.{both-hold}
-use Rattle.vbi_near.proofs.OneSeen.{open_asked}
-use Rattle.vbi_near.proofs.NeverBeyond.{own-few}
+use Rattle.vbi_near.specs.{declared.margins.Margins.Margins, declared.margins.MarginSet.MarginSet}
+use Rattle.vbi_near.specs.{declared.word_rule.Stand.Stand, declared.recovery.Recovered.Recovered}
+use Rattle.vbi_near.specs.{LevelledLines.levelled_unit, Margins.levelled_margins, Margins.given_margins}
 
 -- ---- nearest words
 
@@ -212,8 +206,7 @@ by-ahead line first other stands near both word same are pair says = go (first-o
 said-shown : (opened : Bool) (own : Recovered) (said : Option ℕ) (word : ℕ) → own.pass ≤ 2
     → (if opened then recovered_as own said else own) ≡ record { outcome = Word word; pass = 3 }
     → (opened ≡ true) × (said ≡ Some word)
-said-shown false own said word few e =
-    absurd (omega (arith, few, ap (λ (r : Recovered). r.pass) e))
+said-shown false own said word few e = grind arith
 said-shown true own None word few e = absurd (omega (arith, few, ap (λ (r : Recovered). r.pass) e))
 said-shown true own (Some w) word few e = (refl, ap (λ (r : Recovered). word_of r.outcome) e)
 

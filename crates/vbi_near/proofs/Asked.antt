@@ -1,21 +1,18 @@
 -- What is searched only if it is asked for says the same as what is always searched.
 -- The functions of line_rule, pair_rule and recovery stand on it.
-use Rattle.std.proofs.Common.{◌≡◌, ℕ, Bool, true, false, List, refl, sym, ap, ◌∙◌, subst}
-use Rattle.std.specs.Prelude.{◌*◌, nat_le, Option, Some, None, is_some, IsTrue, if◌then◌else◌, ◌&&◌}
+use Rattle.std.proofs.Common.{arith, ◌≡◌, ℕ, Bool, true, false, List, refl, sym, ap, ◌∙◌, subst}
+use Rattle.std.specs.Prelude.{Option, Some, None, is_some, IsTrue, ◌&&◌, if◌then◌else◌}
 use Rattle.vbi_near.proofs.Common.{Slicing, samples_of, Nears, unit_of, known_but}
-use Rattle.vbi_near.specs.declared.margins.Margins.{Margins}
-use Rattle.vbi_near.specs.declared.margins.MarginSet.{MarginSet}
-use Rattle.vbi_near.specs.declared.word_rule.PairNears.{PairNears}
-use Rattle.vbi_near.specs.declared.word_rule.Stand.TheVariants.{Apart, Together}
-use Rattle.vbi_near.specs.declared.recovery.Recovered.{Recovered}
-use Rattle.vbi_near.specs.WordRule.{said_of, said_if, unless_beyond, said_in, stand_of, may_agree, first_said, is_said}
+use Rattle.vbi_near.proofs.OneSeen.{one_nears, open_asked}
+use Rattle.vbi_near.specs.WordRule.{said_of, said_if, said_in, stand_of, first_said, is_said}
 use Rattle.vbi_near.specs.LevelledLines.{levelled, is_swing}
-use Rattle.vbi_near.specs.Candidates.{Candidates, Line, Lines, HasNear, HasNearIf, AreOf, has_swing}
-use Rattle.vbi_near.specs.Candidates.{filled_samples, levelled_samples, are_alike_by}
+use Rattle.vbi_near.specs.Candidates.{Candidates, Line, Lines, HasNear, HasNearIf, AreOf, has_swing, filled_samples}
+use Rattle.vbi_near.specs.Candidates.{levelled_samples, are_alike_by}
 use Rattle.vbi_near.specs.Silence.{HasNearUnlessSilent, HasNearIfUnlessSilent}
 use Rattle.vbi_near.specs.Recovery.{said_by, stands_by, stands_of, alone, IsSeen, IsOwn, own_of, is_open, are_open}
 use Rattle.vbi_near.specs.Recovery.{recovered_as, shown_in, Seen, Stands}
-use Rattle.vbi_near.proofs.OneSeen.{one_nears, open_asked}
+use Rattle.vbi_near.specs.{declared.margins.Margins.Margins, declared.margins.MarginSet.MarginSet}
+use Rattle.vbi_near.specs.{declared.word_rule.PairNears.PairNears, declared.recovery.Recovered.Recovered}
 
 -- ---- what is found first
 
@@ -41,8 +38,7 @@ pub heard-says : (margins : Margins) (count : ℕ) (lines : Lines) (found : Opti
     → HasNearUnlessSilent margins count lines found → HasNear lines near
     → said_if (unit_of lines.slicing) margins count found ≡ said_of (unit_of lines.slicing) margins count near
 heard-says margins count lines None near silent has = sym (silent near has)
-heard-says margins count lines (Some found) near is has =
-    ap (said_of (unit_of lines.slicing) margins count) (one_nears lines found near is has)
+heard-says margins count lines (Some found) near is has = grind (arith, one_nears)
 
 -- lines that may have nearest words say nothing if they are silent, or if they may have none
 pub silent_if : (margins : Margins) (count : ℕ) (can : Bool) (lines : Lines)
@@ -54,10 +50,7 @@ silent_if margins count can lines silent (Some near) (can_be, has) = silent can_
 pub same_if : (can other : Bool) (lines others : Lines) (near : Option Nears) → can ≡ other
     → (other ≡ true → lines ≡ others) → HasNearIf lines can near → HasNearIf others other near
 same_if can other lines others None e same none = sym e ∙ none
-same_if can other lines others (Some near) e same (can_be, has) = (
-  sym e ∙ can_be,
-  subst (λ (l : Lines). HasNear l near) (same (sym e ∙ can_be)) has,
-)
+same_if can other lines others (Some near) e same (can_be, has) = grind arith
 
 -- lines that may have no nearest words have none
 pub none_if : (lines : Lines) (can : Bool) (near : Option Nears) → can ≡ false → HasNearIf lines can near → near ≡ None
@@ -70,8 +63,7 @@ pub says_if : (margins : Margins) (count : ℕ) (can : Bool) (lines others : Lin
     → ((n : Nears) → HasNear others n → said ≡ said_of (unit_of lines.slicing) margins count n)
     → HasNearIf lines can near → said ≡ said_if (unit_of lines.slicing) margins count near
 says_if margins count can lines others None said is same says none = cc
-says_if margins count can lines others (Some near) said is same says (can_be, has) =
-    says near (subst (λ (l : Lines). HasNear l near) same has)
+says_if margins count can lines others (Some near) said is same says (can_be, has) = grind arith
 
 -- ---- levelled rows
 
@@ -87,17 +79,12 @@ pub levelled_as : (line is : Line) (bytes : List ℕ) → is ≡ line
     → samples_of bytes ≡ levelled is.system (filled_samples is.slicing is.row))
     → has_swing line.system line.slicing line.row ≡ true
     → levelled_samples line.system line.slicing line.row ≡ known_but line.row.erased (samples_of bytes)
-levelled_as line is bytes same found swings =
-    let of = found ((λ j. has_swing (same j).system (same j).slicing (same j).row) ∙ swings) in
-    ap (λ (samples : List ℕ). known_but line.row.erased samples)
-    (sym (of ∙ (λ j. levelled (same j).system (filled_samples (same j).slicing (same j).row))))
+levelled_as line is bytes same found swings = grind arith
 
 -- two rows that may be levelled together swing so
 pub swing_each : (unit swing other : ℕ) → are_alike_by unit swing other ≡ true
     → (is_swing unit swing ≡ true) × (is_swing unit other ≡ true)
-swing_each unit swing other alike =
-    both-hold (is_swing unit swing) (is_swing unit other)
-    (both-hold _ (nat_le swing (2 * other)) (both-hold _ _ alike).0).0
+swing_each unit swing other alike = grind (arith, both-hold)
 
 -- ---- lines that stand to each other
 
@@ -105,12 +92,7 @@ swing_each unit swing other alike =
 pub pair-silent : (margins : MarginSet) (unit : ℕ) (pair : PairNears) (near : Option Nears)
     → said_if unit margins.both 2 pair.both ≡ None → said_if unit margins.apart 1 near ≡ None
     → None ≡ said_in margins (stand_of margins unit pair) unit near pair.both
-pair-silent margins unit pair near together apart =
-    by_stand (may_agree unit margins.lone.ends pair.second pair.third pair.both)
-  where
-    by_stand : (b : Bool) → None ≡ said_in margins (if b then Together else Apart) unit near pair.both
-    by_stand true = ap unless_beyond (sym together)
-    by_stand false = ap unless_beyond (sym apart)
+pair-silent margins unit pair near together apart = grind arith
 
 -- ---- open lines
 
@@ -139,20 +121,14 @@ module _ (line : Line) (own : Recovered) (owns : IsOwn line own) where
   -- an open line's nearest words are asked for
   pub open-near : (seen : Seen) → IsSeen line seen → IsTrue (is_open own.outcome)
       → AreOf line seen.near
-  open-near seen is opened =
-      is.near (open_asked line seen (unit_of line.slicing) is (seen-open seen is opened))
+  open-near seen is opened = grind (arith, open_asked, seen-open)
 
   -- an open line shows what it is found to say
   pub open-shows : (stands : Stands) (seen : Seen) (both : Candidates) (said : Option ℕ)
       → IsSeen line seen → IsTrue (is_open own.outcome)
       → said ≡ said_by stands (unit_of line.slicing) seen.near both
       → recovered_as own said ≡ shown_in stands (unit_of line.slicing) seen both
-  open-shows stands seen both said is opened says =
-      let e = owns seen is in
-      let shown = own_of (unit_of line.slicing) seen in
-      (λ j. recovered_as (e j) (says j))
-      ∙ when-true (is_open shown.outcome)
-      (recovered_as shown (said_by stands (unit_of line.slicing) seen.near both)) shown (seen-open seen is opened)
+  open-shows stands seen both said is opened says = grind (arith, seen-open, when-true)
 
 -- ---- lines 17 and 18
 
@@ -161,24 +137,18 @@ module _ (line other : Line) (levels : other.slicing ≡ line.slicing) (own besi
     (has : IsOwn other beside) (second third : Seen) (is : IsSeen line second) (are : IsSeen other third) where
   -- both are open as they are found so
   both-same : (is_open own.outcome && is_open beside.outcome) ≡ are_open (unit_of line.slicing) second third
-  both-same =
-      let shown = has third are ∙ ap (λ (s : Slicing). own_of (unit_of s) third) levels in
-      λ j. is_open (owns second is j).outcome && is_open (shown j).outcome
+  both-same = grind arith
 
   -- if both are open, they stand to each other by their nearest words
   stands-open : (both : Candidates) → (is_open own.outcome && is_open beside.outcome) ≡ true
       → stands_by (unit_of line.slicing) second.near third.near both
       ≡ stands_of (unit_of line.slicing) second third both
-  stands-open both opened =
-      when-holds (are_open (unit_of line.slicing) second third)
-      (stands_by (unit_of line.slicing) second.near third.near both) alone (sym both-same ∙ opened)
+  stands-open both opened = grind (arith, both-same, when-holds)
 
   -- if they aren't both open, each is alone
   pub stands-alone : (both : Candidates) → (is_open own.outcome && is_open beside.outcome) ≡ false
       → alone ≡ stands_of (unit_of line.slicing) second third both
-  stands-alone both closed =
-      when-false (are_open (unit_of line.slicing) second third)
-      (stands_by (unit_of line.slicing) second.near third.near both) alone (sym both-same ∙ closed)
+  stands-alone both closed = grind (arith, both-same, when-false)
 
   -- the nearest words of both together are asked for if both are open
   pub pair-open : (is_open own.outcome && is_open beside.outcome) ≡ true

@@ -2,17 +2,15 @@
 -- longer_distance and with_cell_at stand on it, CellsAt on its columns, Chosen on its rows.
 use Rattle.std.proofs.Common.{◌≡◌, ℕ, ◌≤◌, ◌<◌, ◌+◌, ◌-◌, List, ◌++◌, Bool, false, length, inl, inr, refl, arith, ap}
 use Rattle.std.proofs.Common.{sym, ◌∙◌, get_or, true, min, ◌⊎◌}
-use Rattle.std.proofs.Math.ListN.{replicate}
+use Rattle.std.proofs.Math.{ListN.replicate, Nat.min-le_left, Nat.min-le_right}
 use Rattle.std.proofs.lemmas.List.{length-append, length-replicate}
-use Rattle.std.proofs.Math.Nat.{min-le_left, min-le_right}
 use Rattle.vbi_near.proofs.Common.{System, width_of, start_of, cell_of, halves_of, boundary, Found, column_of}
 use Rattle.vbi_near.proofs.Common.{word_length, drawn_halves, starts, Shades, distance_from, AreRowSums, total_in, span}
 use Rattle.vbi_near.proofs.Common.{AreBoth, IsRising, cell_cost, place_cost, cell_length, begun_earlier, ended_later}
 use Rattle.vbi_near.proofs.Common.{GoesOn, IsLeastRow, IsBeside, IsWithCell, IsLongerFound}
 use Rattle.vbi_near.proofs.Columns.{column-first, column-drawn, word-drawn, word-fits}
 use Rattle.vbi_near.proofs.Costs.{distance-append, distance-run, cell-at, word-at, cell-read}
-use Rattle.vbi_near.proofs.BestBits.{min_is}
-use Rattle.vbi_near.proofs.Rising.{risen_to}
+use Rattle.vbi_near.proofs.{BestBits.min_is, Rising.risen_to}
 
 -- ---- columns
 

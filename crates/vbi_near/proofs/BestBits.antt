@@ -153,21 +153,4 @@ module _ (sums : Shades) (system : System) (start : ℕ) (best : Bits)
     distance = best.distance + around;
     rival = best.distance + around + best.margin;
   })
-  found_at_is = record {
-    word = is.word;
-    from = omega arith;
-    before = omega arith;
-    exact = omega (arith, here best.word, is.exact);
-    least = λ s w from before word. omega (arith, there s w from before, cheapest w word);
-    rival = λ s w from before word other. omega (arith, there s w from before, is.ahead w word other);
-    first = λ s w from before word same.
-        inr (omega arith, is.first w word (omega (arith, there s w from before, same)));
-    other = another is.other;
-  }
-    where
-      another : ((◌≡◌ {A = ℕ} 23 0) × (2 ^ 26 ≤ best.margin)) ⊎ HasOther (cell_cost sums system start) 23 best
-          → (s : ℕ) × (w : ℕ) × (start ≤ s) × (s < start + 1) × IsWord w × (w ≢ best.word)
-          × (place_cost sums system s w ≡ best.distance + around + best.margin)
-      another (inl (e, wide)) = absurd (omega (arith, e))
-      another (inr (small, (v, bits, differs, costs))) =
-          (start, v, omega arith, omega arith, bits, differs, omega (arith, here v, costs))
+  found_at_is = grind (arith, cheapest, here, least, there)

@@ -2,8 +2,8 @@
 -- best_digits and with_digit stand on it.
 use Rattle.std.proofs.Common.{◌≡◌, ◌≢◌, ℕ, suc, ◌≤◌, ◌<◌, ◌+◌, ◌-◌, ◌*◌, ◌^◌, min, ◌⊎◌, inl, inr, arith}
 use Rattle.vbi_near.proofs.Common.{Bits, digits_cost, AreDigits, IsChoice, AreBest}
-use Rattle.vbi_near.specs.declared.codes.Choice.{Choice}
 use Rattle.vbi_near.proofs.BestBits.{min_is}
+use Rattle.vbi_near.specs.declared.codes.Choice.{Choice}
 
 -- the choice stays if the values of the digit cost the same
 pub choice-same : (f g : ℕ → ℕ) (low high : ℕ) (choice : Choice) → ((v : ℕ) → v < high → f v ≡ g v)
@@ -90,10 +90,4 @@ module _ (cost : ℕ → ℕ → ℕ) (base : ℕ) (least greatest : ℕ → ℕ
 
   pub with_digit_is : AreBest cost base least greatest (suc n) longer
   unfolding AreOther
-  with_digit_is = record {
-    word = are-joined best.word choice.value small is.word chosen.from (omega (arith, chosen.before));
-    exact = omega (arith, cost-joined best.word choice.value small, is.exact, chosen.exact);
-    ahead = ahead;
-    first = first;
-    other = another;
-  }
+  with_digit_is = grind (arith, ahead, another, are-joined, cost-joined, first, small)

@@ -10,12 +10,9 @@ use Rattle.vbi_near.proofs.Common.{place_cost, IsFound, IsChosen, IsBefore, Prec
 use Rattle.vbi_near.proofs.Common.{HasLeastRow, GoesOn, IsShorterFound, IsCutShort, Range, IsOneOf, codes_of}
 use Rattle.vbi_near.proofs.Common.{IsCodePlace, Places, all_codes, code_cost, IsLead, IsClose, IsCodeChosen, shades_of}
 use Rattle.vbi_near.proofs.Common.{word_cost_by, code_cost_by, IsRowOf, IsNearOf, IsNearWord, IsNearCode}
-use Rattle.vbi_near.proofs.Columns.{word-fits, starts-few}
-use Rattle.vbi_near.proofs.Costs.{blank-cost, word-cost}
-use Rattle.vbi_near.proofs.CutShort.{length-shorter, least_shorter}
-use Rattle.vbi_near.proofs.Beside.{length-longer, least_longer}
-use Rattle.vbi_near.proofs.Piles.{far-same, row-same}
-use Rattle.vbi_near.proofs.Priced.{code-word}
+use Rattle.vbi_near.proofs.{Columns.word-fits, Columns.starts-few, Costs.blank-cost, Costs.word-cost}
+use Rattle.vbi_near.proofs.{CutShort.length-shorter, CutShort.least_shorter, Beside.length-longer, Beside.least_longer}
+use Rattle.vbi_near.proofs.{Piles.far-same, Piles.row-same, Priced.code-word}
 
 -- ---- places
 

@@ -6,13 +6,13 @@ use Rattle.std.specs.Prelude.{Bool, true, IsTrue, ◌↔◌, ◌&&◌, not}
 use Rattle.std.proofs.lemmas.Bool.{cases_lt, cases_eq, ltb-true, lt-ltb, true≢false, false_from_ne_true}
 use Rattle.vbi_near.proofs.Common.{System, Ntsc, Pal, IsWord, digit_of, IsBetween, range, IsIn, IsOneOf, codes_of}
 use Rattle.vbi_near.proofs.Common.{codes_of_16, codes_of_17, is_beyond_79999}
+use Rattle.vbi_near.proofs.Digits.{between, beyond-digits, digits-beyond}
 use Rattle.vbi_words.specs.declared.code.Code.{Code}
 use Rattle.vbi_words.specs.declared.code.Code.TheVariants.{Picture, Chapter, Time, ClvPicture, CxOn, CxOff, Users}
 use Rattle.vbi_words.specs.declared.code.Code.TheVariants.{LeadIn, LeadOut, PictureStop, ClvMark, Other}
 use Rattle.vbi_words.specs.Codes.{Pattern, patterns_of, HasPattern, HasCodeOf, code_of, may_stand, last_two, picture_of}
 use Rattle.vbi_words.specs.Codes.{chapter_of, seconds_of, last_three, pictures_in_second}
 use Rattle.vbi_words.proofs.OneCode.{code_of_is, only_code_of}
-use Rattle.vbi_near.proofs.Digits.{between, beyond-digits, digits-beyond}
 
 -- ---- the pattern of a word's code
 
@@ -25,8 +25,7 @@ Matched word (pattern ∷ patterns) code = (HasPattern word pattern × (code ≡
 matched : (word : ℕ) (patterns : List Pattern) (code : Code) → HasCodeOf patterns word code
     → Matched word patterns code
 matched word [] code (i, p, l, here, x) = absurd (omega arith)
-matched word (r ∷ patterns) code (zero, p, l, here, (x, e)) =
-    inl (subst (HasPattern word) (sym here) x, e ∙ ap (λ (t : Pattern). t.code) (sym here))
+matched word (r ∷ patterns) code (zero, p, l, here, (x, e)) = grind arith
 matched word (r ∷ patterns) code (suc i, p, l, here, x) = inr (matched word patterns code (i, p, omega arith, here, x))
 
 -- a code of no class
@@ -108,11 +107,7 @@ module _ (w : ℕ) where
   high-in x high = grind (arith, between)
 
   picture-in : IsBetween 0xF00000 0xFF9999 w → is_beyond_79999 w ≡ false → IsBetween 0xF00000 0xF79999 w
-  picture-in x within = go (cases_lt (digit_of w 2) 8)
-    where
-      go : (digit_of w 2 < 8) ⊎ (8 ≤ digit_of w 2) → IsBetween 0xF00000 0xF79999 w
-      go (inl low) = low-in x low
-      go (inr high) = absurd (true≢false (sym (digits-beyond w (high-in x high)) ∙ within))
+  picture-in x within = grind (arith, digits-beyond, high-in, low-in)
 
   picture-of : IsBetween 0xF00000 0xF79999 w → IsBetween 0xF00000 0xFF9999 w
   picture-of x = grind (arith, between)
@@ -135,16 +130,12 @@ module _ (system : System) (w : ℕ) (is : IsWord w) where
   in_17 code (inr (inr (inr (inr (inl (x, e)))))) within stands = inr (inr (inr (inr (inl (is, x)))))
   in_17 code (inr (inr (inr (inr (inr (inl (x, e))))))) within stands = inr (inr (inr (inr (inr (inl (is, x))))))
   in_17 code (inr (inr (inr (inr (inr (inr (inl (x, e)))))))) within stands = grind (arith, ltb-true, may, time-in)
-  in_17 code (inr (inr (inr (inr (inr (inr (inr (inl (x, e))))))))) within stands =
-      absurd (barred system 17 code (ClvPicture (seconds_of w) (last_two w)) e refl stands)
-  in_17 code (inr (inr (inr (inr (inr (inr (inr (inr (inl (x, e)))))))))) within stands =
-      absurd (barred system 17 code (CxOn (last_three w)) e refl stands)
-  in_17 code (inr (inr (inr (inr (inr (inr (inr (inr (inr (inl (x, e))))))))))) within stands =
-      absurd (barred system 17 code (CxOff (last_three w)) e refl stands)
+  in_17 code (inr (inr (inr (inr (inr (inr (inr (inl (x, e))))))))) within stands = grind (arith, barred)
+  in_17 code (inr (inr (inr (inr (inr (inr (inr (inr (inl (x, e)))))))))) within stands = grind (arith, barred)
+  in_17 code (inr (inr (inr (inr (inr (inr (inr (inr (inr (inl (x, e))))))))))) within stands = grind (arith, barred)
   in_17 code (inr (inr (inr (inr (inr (inr (inr (inr (inr (inr (inl (x, e)))))))))))) within stands =
       absurd (barred system 17 code (Users (digit_of w 2) (last_three w)) e refl stands)
-  in_17 code (inr (inr (inr (inr (inr (inr (inr (inr (inr (inr (inr e))))))))))) within stands =
-      absurd (barred system 17 code Other e refl stands)
+  in_17 code (inr (inr (inr (inr (inr (inr (inr (inr (inr (inr (inr e))))))))))) within stands = grind (arith, barred)
 
   -- a CLV picture, and other codes of line 16, in the table of each system
   clv_16 : (system : System) → IsBetween 0x8AE000 0x8FE999 w → last_two w < pictures_in_second system
@@ -175,17 +166,14 @@ module _ (system : System) (w : ℕ) (is : IsWord w) where
   in_16 code (inr (inl (x, e))) stands = absurd (barred system 16 code LeadOut e refl stands)
   in_16 code (inr (inr (inl (x, e)))) stands = absurd (barred system 16 code (Picture (picture_of w)) e refl stands)
   in_16 code (inr (inr (inr (inl (x, e))))) stands = stop_16 system x
-  in_16 code (inr (inr (inr (inr (inl (x, e)))))) stands =
-      absurd (barred system 16 code (Chapter (chapter_of w)) e refl stands)
+  in_16 code (inr (inr (inr (inr (inl (x, e)))))) stands = grind (arith, barred)
   in_16 code (inr (inr (inr (inr (inr (inl (x, e))))))) stands = absurd (barred system 16 code ClvMark e refl stands)
-  in_16 code (inr (inr (inr (inr (inr (inr (inl (x, e)))))))) stands =
-      absurd (barred system 16 code (Time (digit_of w 2) (last_two w)) e refl stands)
+  in_16 code (inr (inr (inr (inr (inr (inr (inl (x, e)))))))) stands = grind (arith, barred)
   in_16 code (inr (inr (inr (inr (inr (inr (inr (inl (x, e))))))))) stands = grind (arith, clv_16, ltb-true, may)
   in_16 code (inr (inr (inr (inr (inr (inr (inr (inr (inl (x, e)))))))))) stands = cx_on_16 system x
   in_16 code (inr (inr (inr (inr (inr (inr (inr (inr (inr (inl (x, e))))))))))) stands = cx_off_16 system x
   in_16 code (inr (inr (inr (inr (inr (inr (inr (inr (inr (inr (inl (x, e)))))))))))) stands = users_16 system x
-  in_16 code (inr (inr (inr (inr (inr (inr (inr (inr (inr (inr (inr e))))))))))) stands =
-      absurd (barred system 16 code Other e refl stands)
+  in_16 code (inr (inr (inr (inr (inr (inr (inr (inr (inr (inr (inr e))))))))))) stands = grind (arith, barred)
 
   -- the code of a word that matches a pattern
   abbrev Has : Code → Type 0

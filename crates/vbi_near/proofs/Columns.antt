@@ -2,8 +2,7 @@
 -- Most modules here stand on it, and the functions that need to know that a row fits.
 use Rattle.std.proofs.Common.{◌≡◌, ℕ, suc, ◌≤◌, ◌+◌, ◌-◌, ◌*◌, List, [], ◌∷◌, Bool, length, arith, ap, ◌∙◌, refl, sym}
 use Rattle.std.proofs.Common.{◌++◌, false, Option}
-use Rattle.std.specs.Prelude.{Some, None}
-use Rattle.std.specs.List.{flat_map}
+use Rattle.std.specs.{Prelude.Some, Prelude.None, List.flat_map}
 use Rattle.std.proofs.lemmas.List.{length-append, length-replicate}
 use Rattle.std.proofs.Math.ListN.{replicate}
 use Rattle.vbi_near.proofs.Common.{lowest_bits, cell_of, halves_of, System, width_of, column_of, half_length}

@@ -3,16 +3,13 @@
 use Rattle.std.proofs.Common.{◌≡◌, ℕ, suc, zero, ◌≤◌, ◌<◌, ◌+◌, ◌*◌, List, [], ◌∷◌, Bool, true, false, length, ◌++◌}
 use Rattle.std.proofs.Common.{get_or, arith, ap, sym, ◌∙◌, refl, cond}
 use Rattle.std.proofs.Math.ListN.{replicate, take}
-use Rattle.std.proofs.lemmas.List.{length-take-le, length-replicate, take-replicate}
-use Rattle.std.proofs.lemmas.List.Elements.{All-append}
-use Rattle.std.specs.List.{All}
-use Rattle.std.specs.Prelude.{Some, None, min}
-use Rattle.std.specs.Int.{abs_diff}
+use Rattle.std.proofs.lemmas.{List.length-take-le, List.length-replicate, List.take-replicate, List.Elements.All-append}
+use Rattle.std.specs.{List.All, Prelude.Some, Prelude.None, Prelude.min, Int.abs_diff}
 use Rattle.vbi_near.proofs.Common.{System, Ntsc, Pal, width_of, line_bytes, Slicing, samples_of, sample_at, sample_of}
 use Rattle.vbi_near.proofs.Common.{Samples, most_of, off_by, known, known_but, shade, shades, column_cost, IsPile}
 use Rattle.vbi_near.proofs.Common.{AreFew}
-use Rattle.vbi_line.proofs.Slicing.{length-samples_of}
 use Rattle.vbi_near.proofs.Columns.{width-few}
+use Rattle.vbi_line.proofs.Slicing.{length-samples_of}
 
 -- ---- no line yet
 

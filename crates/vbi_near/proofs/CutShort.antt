@@ -7,9 +7,8 @@ use Rattle.vbi_near.proofs.Common.{System, width_of, lowest_bits, halves_of, Fou
 use Rattle.vbi_near.proofs.Common.{Shades, distance_from, AreBoth, half_cost, cell_cost, bits_cost, place_cost}
 use Rattle.vbi_near.proofs.Common.{begun_later, ended_earlier, row_of_halves, IsCutShort, bit_in_cell, IsShorterFound}
 use Rattle.vbi_near.proofs.Common.{IsLeastRow, halves_cost}
-use Rattle.vbi_near.proofs.BestBits.{min_is}
-use Rattle.vbi_near.proofs.Columns.{column-first, column-next}
 use Rattle.vbi_near.proofs.Costs.{row-cost, word-row, drawn-with, row-long}
+use Rattle.vbi_near.proofs.{BestBits.min_is, Columns.column-first, Columns.column-next}
 
 -- ---- half cells
 

@@ -1,7 +1,7 @@
 -- The six digits of words in a range, and those of picture numbers of 80,000 and more.
 -- CodesStand and NeverBeyond stand on it.
 use Rattle.std.proofs.Common.{◌≡◌, ℕ, zero, suc, ◌≤◌, refl, arith}
-use Rattle.std.specs.Prelude.{Bool, true, false, ◌&&◌, ◌==◌, nat_le}
+use Rattle.std.specs.Prelude.{Bool, true, false, ◌&&◌}
 use Rattle.std.proofs.lemmas.Bool.{leb-true, le-leb, eqb-true, eq-eqb}
 use Rattle.vbi_near.proofs.Common.{digit_of, IsBetween, is_beyond_79999}
 
@@ -45,10 +45,7 @@ hold-six a b c d e f p q r s t u = λ j. p j && q j && r j && s j && t j && u j
 module _ (w : ℕ) where
   -- its digits are those of one
   pub beyond-digits : is_beyond_79999 w ≡ true → IsBetween 0xF80000 0xFF9999 w
-  beyond-digits is =
-      let all = six-hold (digit_of w 1 == 15) (nat_le 8 (digit_of w 2)) (nat_le (digit_of w 3) 9)
-      (nat_le (digit_of w 4) 9) (nat_le (digit_of w 5) 9) (nat_le (digit_of w 6) 9) is in
-      grind (arith, between, eqb-true, leb-true)
+  beyond-digits is = grind (arith, between, eqb-true, leb-true, six-hold)
 
   -- with such digits it is one
   pub digits-beyond : IsBetween 0xF80000 0xFF9999 w → is_beyond_79999 w ≡ true

@@ -3,26 +3,18 @@
 use Rattle.std.proofs.Common.{◌≡◌, ◌≢◌, ℕ, suc, ◌≤◌, ◌<◌, ◌+◌, ◌-◌, ◌*◌, List, [], ◌∷◌, ◌++◌, Bool, true, false, length}
 use Rattle.std.proofs.Common.{map, refl, arith, ap, ap₂, sym, ◌∙◌, subst, Option, ◌⊎◌, inl, inr, suc-mul, append_assoc}
 use Rattle.std.proofs.Common.{append-nil}
-use Rattle.std.specs.Prelude.{Some, None, min}
-use Rattle.std.specs.List.{All}
-use Rattle.std.specs.Int.{abs_diff}
-use Rattle.std.proofs.Math.ListN.{replicate}
-use Rattle.std.proofs.Math.Nat.{add-mul}
-use Rattle.std.proofs.lemmas.Nat.{mul-le}
-use Rattle.std.proofs.lemmas.List.{replicate-append-replicate}
+use Rattle.std.specs.{Prelude.Some, Prelude.None, Prelude.min, List.All, Int.abs_diff}
+use Rattle.std.proofs.Math.{ListN.replicate, Nat.add-mul}
+use Rattle.std.proofs.lemmas.{Nat.mul-le, List.replicate-append-replicate}
 use Rattle.vbi_near.proofs.Common.{System, width_of, Slicing, IsWord, halves_of, differences, Near, word_length}
 use Rattle.vbi_near.proofs.Common.{drawn_halves, picture_of, IsPlace, sample_of, drawn_as, known, most_of, row_distance}
 use Rattle.vbi_near.proofs.Common.{distance_of, IsNearest, far_from}
-use Rattle.vbi_words.specs.Jitter.{differs}
-use Rattle.vbi_words.proofs.Shown.{word_bits}
-use Rattle.vbi_words.proofs.Apart.{differences_sym}
-use Rattle.vbi_near.proofs.Most.{most_of-within}
-use Rattle.vbi_near.specs.Apart.{picture_distance}
-use Rattle.vbi_near.proofs.Columns.{length-picture}
-use Rattle.vbi_near.proofs.Certain.{same_or_not}
 use Rattle.vbi_near.proofs.Highs.{highs, differences-append, low-differs, highs-append, bits_levels, bits-high}
 use Rattle.vbi_near.proofs.Highs.{far-apart}
-use Rattle.vbi_near.proofs.Shifted.{within-cell}
+use Rattle.vbi_near.proofs.{Most.most_of-within, Columns.length-picture, Certain.same_or_not, Shifted.within-cell}
+use Rattle.vbi_words.specs.Jitter.{differs}
+use Rattle.vbi_words.proofs.{Shown.word_bits, Apart.differences_sym}
+use Rattle.vbi_near.specs.Apart.{picture_distance}
 use Rattle.vbi_words.proofs.Bits
 
 -- ---- two words
@@ -141,8 +133,7 @@ triangles : (slicing : Slicing) (width : ℕ) (lines : List (List ℕ)) (x y : L
     ≤ distance_of (most_of slicing) (map known lines) (drawn_as slicing x)
     + distance_of (most_of slicing) (map known lines) (drawn_as slicing y)
 unfolding distance_of
-triangles slicing width [] x y a b all =
-    let none : 0 * (differences x y * most_of slicing) ≡ 0 = omega arith in omega (arith, none)
+triangles slicing width [] x y a b all = grind arith
 triangles slicing width (line ∷ lines) x y a b all =
     let long : length line ≡ width = all 0 [] (omega arith) in
     let rest = triangles slicing width lines x y a b (λ k d l. all (suc k) d (omega arith)) in

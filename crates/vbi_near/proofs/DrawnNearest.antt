@@ -3,27 +3,20 @@
 use Rattle.std.proofs.Common.{◌≡◌, ℕ, zero, suc, ◌≤◌, ◌<◌, ◌+◌, ◌-◌, ◌*◌, List, [], ◌∷◌, ◌++◌, Bool, true, false}
 use Rattle.std.proofs.Common.{length, get_or, refl, arith, ap, sym, subst, ◌∙◌, ◌⊎◌, inl, inr, Option, append_assoc}
 use Rattle.std.proofs.Common.{map, suc-mul}
-use Rattle.std.specs.Prelude.{Some, None}
+use Rattle.std.specs.{Prelude.Some, Prelude.None, List.All, List.flat_map, Int.abs_diff}
 use Rattle.std.proofs.Math.ListN.{replicate, get_or-append}
-use Rattle.std.proofs.lemmas.Bool.{cases_lt}
 use Rattle.std.proofs.lemmas.List.{length-replicate, get_or-replicate, get_or-append_right, get_or-map, length-map}
-use Rattle.std.specs.List.{All, flat_map}
-use Rattle.std.specs.Int.{abs_diff}
-use Rattle.std.proofs.lemmas.Nat.{mul-le}
+use Rattle.std.proofs.lemmas.{Bool.cases_lt, Nat.mul-le}
 use Rattle.vbi_near.proofs.Common.{System, width_of, start_of, Slicing, IsWordOrNone, lowest_bits, halves_of, IsWord}
 use Rattle.vbi_near.proofs.Common.{cell_of, boundary, drawn_row_of, differences, half_length, word_length, drawn_halves}
 use Rattle.vbi_near.proofs.Common.{picture_of, sample_of, drawn_as, IsPlace, Near, most_of, known, row_distance}
 use Rattle.vbi_near.proofs.Common.{distance_of, IsNearest, far_from}
-use Rattle.vbi_words.proofs.Bits.{length-lowest_bits}
-use Rattle.vbi_words.specs.Drawn.{IsDrawnHigh, IsDrawnSample}
-use Rattle.vbi_words.proofs.HalfCells.{all_low}
-use Rattle.vbi_words.proofs.DrawnSamples.{only_drawn_row}
-use Rattle.vbi_words.proofs.Shown.{word_bits}
-use Rattle.vbi_near.proofs.Most.{most_of-some}
-use Rattle.vbi_near.specs.Apart.{picture_distance}
-use Rattle.vbi_near.proofs.Columns.{length-cells, length-picture}
 use Rattle.vbi_near.proofs.Certain.{some_is, none_some, some_none}
 use Rattle.vbi_near.proofs.Distinct.{rows, rows_apart, few_misread}
+use Rattle.vbi_near.proofs.{Most.most_of-some, Columns.length-cells, Columns.length-picture}
+use Rattle.vbi_words.proofs.{Bits.length-lowest_bits, HalfCells.all_low, DrawnSamples.only_drawn_row, Shown.word_bits}
+use Rattle.vbi_words.specs.Drawn.{IsDrawnHigh, IsDrawnSample}
+use Rattle.vbi_near.specs.Apart.{picture_distance}
 
 -- ---- from the system's own start on
 
@@ -48,8 +41,7 @@ module _ (system : System) where
     parts : get_or (levels_from (h ∷ halves) j after) k false
         ≡ get_or (replicate (half_length system j) h ++ levels_from halves (suc j) after) k false
     unfolding drawn_halves
-    parts = ap (λ (s : List Bool). get_or s k false)
-        (append_assoc (replicate (half_length system j) h) (drawn_halves system (suc j) halves) (replicate after false))
+    parts = grind (arith, append_assoc)
 
     pub first-level : k < half_length system j → get_or (levels_from (h ∷ halves) j after) k false ≡ h
     first-level l = grind (arith, parts, get_or-append, replicate, length-replicate, get_or-replicate)
@@ -179,8 +171,7 @@ row-itself most (sample ∷ row) = grind (arith, row-itself most row, no_differe
 distance-each : (most : ℕ) (row other : List ℕ) (lines : List (List ℕ)) → All (λ line. line ≡ row) lines
     → distance_of most (map known lines) other ≡ length lines * row_distance most (known row) other
 unfolding distance_of
-distance-each most row other [] all =
-    let none : 0 * row_distance most (known row) other ≡ 0 = omega arith in omega (arith, none)
+distance-each most row other [] all = grind arith
 distance-each most row other (line ∷ lines) all =
     let first : row_distance most (known line) other ≡ row_distance most (known row) other
     = ap (λ (l : List ℕ). row_distance most (known l) other) (all 0 [] (omega arith)) in
@@ -217,8 +208,7 @@ module _ (system : System) (w : ℕ) (is : IsWord w) where
 
   level-of : (start k : ℕ) → get_or (levels_from system (halves_of w) 0 (after system start w)) k false
       ≡ get_or (levels_from system (false ∷ true ∷ rest) 0 (after system start w)) k false
-  level-of start k =
-      ap (λ (halves : List Bool). get_or (levels_from system halves 0 (after system start w)) k false) begun
+  level-of start k = grind (arith, begun)
 
   low-first : (start c : ℕ) → c < start + half_length system 0
       → get_or (picture_of system (Some w) start) c false ≡ false

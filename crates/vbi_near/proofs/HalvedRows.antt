@@ -9,9 +9,7 @@ use Rattle.std.specs.Prelude.{Some, None, not, ◌&&◌}
 use Rattle.vbi_near.proofs.Common.{System, width_of, Slicing, lowest_bits, halves_of, Near, IsPlace, word_length}
 use Rattle.vbi_near.proofs.Common.{drawn_as, AreBoth, halves_cost, Samples, most_of, distance_of, Shades, IsPile}
 use Rattle.vbi_near.proofs.Common.{row_of_halves, half_of, halved_far, row_cost, halved_cost}
-use Rattle.vbi_near.proofs.Costs.{row-cost}
-use Rattle.vbi_near.proofs.Piles.{levels-same}
-use Rattle.vbi_near.proofs.CutShort.{row-wide}
+use Rattle.vbi_near.proofs.{Costs.row-cost, Piles.levels-same, CutShort.row-wide}
 
 -- ---- half cells
 

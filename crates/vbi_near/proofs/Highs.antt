@@ -6,10 +6,10 @@ use Rattle.std.specs.List.{flat_map}
 use Rattle.std.proofs.Math.ListN.{replicate}
 use Rattle.std.proofs.lemmas.List.{length-replicate, replicate-append-replicate}
 use Rattle.vbi_near.proofs.Common.{System, Ntsc, Pal, cell_of, differences, half_length, column_of, drawn_halves}
+use Rattle.vbi_near.proofs.Columns.{column-drawn, length-cells}
 use Rattle.vbi_words.specs.Jitter.{differs}
 use Rattle.vbi_words.proofs.Apart.{differences_sym}
 use Rattle.vbi_near.specs.Apart.{picture_distance}
-use Rattle.vbi_near.proofs.Columns.{column-drawn, length-cells}
 
 -- ---- high columns
 

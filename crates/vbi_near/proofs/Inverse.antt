@@ -1,8 +1,7 @@
 -- A quotient by a division that was made once: with m, what k is divided by s, x * m divided by k is what x is
 -- divided by s, or too small by one. quotient and Levelling stand on it.
 use Rattle.std.proofs.Common.{◌≡◌, ℕ, ◌≤◌, ◌<◌, ◌+◌, ◌-◌, ◌*◌, ◌/◌, ◌^◌, ◌⊎◌, inl, inr, min, arith, ap, sym, ◌∙◌, subst}
-use Rattle.std.proofs.lemmas.Bool.{cases_lt}
-use Rattle.std.proofs.lemmas.Nat.{le-div}
+use Rattle.std.proofs.lemmas.{Bool.cases_lt, Nat.le-div}
 use Rattle.std.proofs.Math.Nat.{mul-le-mul_left, mul-le-mul_right, le_of_mul-le-mul_right, lt_of_mul-lt-mul_right}
 use Rattle.std.proofs.Math.Nat.{div-mul-le_self, lt-div-mul-add, div-eq_of_lt-le, div-le_of_le-mul, mul-div_cancel}
 use Rattle.std.proofs.Math.Nat.{add-mul-div_right}
@@ -40,13 +39,7 @@ nearly k s x some positive few =
 -- the product of a dividend with this inverse of its divisor is the quotient, or too small by one
 pub near_quotient : (s x inverse : ℕ) → 0 < s → x ≤ 2 ^ 48 → inverse ≡ 2 ^ 48 / s
     → (x * inverse / 2 ^ 48 * s ≤ x) × (x < (x * inverse / 2 ^ 48 + 1 + 1) * s)
-near_quotient s x inverse positive few is =
-    let both = nearly (2 ^ 48) s x (omega arith) positive few in
-    let same : x * inverse / 2 ^ 48 ≡ x * (2 ^ 48 / s) / 2 ^ 48 = ap (λ (n : ℕ). x * n / 2 ^ 48) is in
-    let two : x * (2 ^ 48 / s) / 2 ^ 48 + 2 ≡ x * inverse / 2 ^ 48 + 1 + 1 = omega (arith, same) in (
-      subst (λ (n : ℕ). n * s ≤ x) (sym same) both.0,
-      subst (λ (n : ℕ). x < n * s) two both.1,
-    )
+near_quotient s x inverse positive few is = grind (arith, nearly)
 
 -- a number whose product with the divisor is just within the dividend is the quotient
 pub quotient_low : (q s x : ℕ) → q * s ≤ x → x < (q + 1) * s → x / s ≡ q

@@ -3,10 +3,9 @@
 use Rattle.std.proofs.Common.{◌≡◌, ℕ, Bool, false, refl, arith}
 use Rattle.std.specs.Prelude.{if◌then◌else◌}
 use Rattle.vbi_near.proofs.Common.{Outcome, Word, Blank, Unfinished, Change, Hold, Reading}
-use Rattle.vbi_near.specs.declared.recovery.Recovered.{Recovered}
-use Rattle.vbi_near.specs.Candidates.{Candidates}
-use Rattle.vbi_near.specs.Recovery.{Seen, Stands, IsSureBy, own_by, is_open, shown_in}
 use Rattle.vbi_near.proofs.OneSeen.{word_own}
+use Rattle.vbi_near.specs.Recovery.{Seen, Stands, IsSureBy, own_by, is_open, shown_in}
+use Rattle.vbi_near.specs.{declared.recovery.Recovered.Recovered, Candidates.Candidates}
 
 -- by its own levels it shows what was read
 sure-own : (o : Outcome) (pass : ℕ) (plain : Outcome) (confirms : ℕ → Bool) → IsSureBy o pass

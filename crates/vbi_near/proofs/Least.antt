@@ -1,4 +1,4 @@
--- The least of some numbers, if it can be told which of them count.
+-- The least of some numbers, if it can be decided which of them count.
 -- SomeNear and SomeSeen stand on it.
 use Rattle.std.proofs.Common.{◌≡◌, ℕ, zero, suc, ◌≤◌, ◌<◌, ◌⊎◌, inl, inr, arith}
 use Rattle.std.proofs.lemmas.Bool.{cases_lt}
@@ -44,29 +44,29 @@ module _ (f : ℕ → ℕ) (P : ℕ → Type 0) (tells : (k : ℕ) → P k ⊎ (
   pub found : (n k : ℕ) → k ≤ n → P k → Least f P n
   found n k le p = grind (arith, find)
 
--- ---- what can be told
+-- ---- what can be decided
 
--- whether a fact holds can be told
-abbrev pub IsTold : Type 0 → Type 0
-IsTold P = P ⊎ (P → ⊥)
+-- whether a fact holds can be decided
+abbrev pub IsDecided : Type 0 → Type 0
+IsDecided P = P ⊎ (P → ⊥)
 
 -- of two facts, of one of them, and of what is not so
-pub both_told : (P Q : Type 0) → IsTold P → IsTold Q → IsTold (P × Q)
-both_told P Q told_too told = grind arith
+pub both_decided : (P Q : Type 0) → IsDecided P → IsDecided Q → IsDecided (P × Q)
+both_decided P Q decided_too decided = grind arith
 
-pub either_told : (P Q : Type 0) → IsTold P → IsTold Q → IsTold (P ⊎ Q)
-either_told P Q (inl p) told = inl (inl p)
-either_told P Q (inr not) (inl q) = inl (inr q)
-either_told P Q (inr not) (inr nor) = grind arith
+pub either_decided : (P Q : Type 0) → IsDecided P → IsDecided Q → IsDecided (P ⊎ Q)
+either_decided P Q (inl p) decided = inl (inl p)
+either_decided P Q (inr not) (inl q) = inl (inr q)
+either_decided P Q (inr not) (inr nor) = grind arith
 
 -- of an order
-pub at_most_told : (a b : ℕ) → IsTold (a ≤ b)
-at_most_told a b = grind arith
+pub at_most_decided : (a b : ℕ) → IsDecided (a ≤ b)
+at_most_decided a b = grind arith
 
 -- of all numbers below n
-pub all_told : (P : ℕ → Type 0) → ((k : ℕ) → IsTold (P k)) → (n : ℕ) → IsTold ((k : ℕ) → k < n → P k)
-all_told P told zero = inl (λ k l. absurd (omega arith))
-all_told P told (suc n) = go (all_told P told n) (told n)
+pub all_decided : (P : ℕ → Type 0) → ((k : ℕ) → IsDecided (P k)) → (n : ℕ) → IsDecided ((k : ℕ) → k < n → P k)
+all_decided P decided zero = inl (λ k l. absurd (omega arith))
+all_decided P decided (suc n) = go (all_decided P decided n) (decided n)
   where
-    go : IsTold ((k : ℕ) → k < n → P k) → IsTold (P n) → IsTold ((k : ℕ) → k < suc n → P k)
-    go told any = grind arith
+    go : IsDecided ((k : ℕ) → k < n → P k) → IsDecided (P n) → IsDecided ((k : ℕ) → k < suc n → P k)
+    go decided any = grind arith

@@ -6,10 +6,8 @@ use Rattle.vbi_near.proofs.Common.{System, width_of, Slicing, halves_of, drawn_a
 use Rattle.vbi_near.proofs.Common.{Shades, distance_from, IsPile, stretched_offset, stretched_half, stretched_length}
 use Rattle.vbi_near.proofs.Common.{stretched_picture, stretched_row_cost, IsLeastAt, IsStretched, IsAtRate}
 use Rattle.vbi_near.proofs.Common.{IsStartBefore, IsRateBefore, AreBoth}
-use Rattle.vbi_near.proofs.BestBits.{min_is}
 use Rattle.vbi_near.proofs.Costs.{many-halves, row-far, row-long}
-use Rattle.vbi_near.proofs.Piles.{levels-same}
-use Rattle.vbi_near.proofs.Stretches.{offset-first, offset-next}
+use Rattle.vbi_near.proofs.{BestBits.min_is, Piles.levels-same, Stretches.offset-first, Stretches.offset-next}
 
 -- the least at the same places
 pub same-least : (A C : ℕ → ℕ → Type 0) (far : ℕ → ℕ → ℕ) (a : ℕ) → ((r s : ℕ) → C r s → A r s)

@@ -2,16 +2,13 @@
 -- same_at_any_level stands on it.
 use Rattle.std.proofs.Common.{◌≡◌, ℕ, suc, zero, ◌≤◌, ◌<◌, ◌+◌, ◌*◌, ◌/◌, List, [], ◌∷◌, length, get_or, map, arith, ap}
 use Rattle.std.proofs.Common.{◌∙◌, refl}
-use Rattle.std.specs.List.{sum, range_with_len}
-use Rattle.std.specs.Int.{abs_diff}
-use Rattle.std.proofs.lemmas.Bool.{le-leb, lt-leb}
+use Rattle.std.specs.{List.sum, List.range_with_len, Int.abs_diff}
 use Rattle.std.proofs.lemmas.List.{take-map, drop-map, get_or-map, length-take-le, length-drop}
-use Rattle.std.proofs.lemmas.List.Sums.{sum_by-cons}
-use Rattle.vbi_near.proofs.Common.{System, width_of}
+use Rattle.std.proofs.lemmas.{Bool.le-leb, Bool.lt-leb, List.Sums.sum_by-cons}
+use Rattle.vbi_near.proofs.{Common.System, Common.width_of, Levelling.window_inside}
 use Rattle.vbi_near.specs.LevelledLines.{window_of, first_of, columns_of, window_sum, sum_from, off_mean, off_in}
 use Rattle.vbi_near.specs.LevelledLines.{swing_of, levelled_sample, levelled_at, levelled_each, smoothed, levelled}
 use Rattle.vbi_near.specs.WorkedLevels.{raised}
-use Rattle.vbi_near.proofs.Levelling.{window_inside}
 
 -- ---- sums and samples
 
@@ -69,8 +66,7 @@ sample-raised scale own mean e = grind (arith, lt-leb, le-leb)
 at-raised : (system : System) (scale d : ℕ) (samples : List ℕ) (column : ℕ)
     → length samples ≡ width_of system → column < width_of system
     → levelled_at system scale (raised d samples) column ≡ levelled_at system scale samples column
-at-raised system scale d samples column long inside =
-    grind (arith, own-raised, get_or, window-raised, sample-raised)
+at-raised system scale d samples column long inside = grind (arith, own-raised, sample-raised, window-raised)
 
 -- a line at another level is levelled to the same samples
 each-raised : (system : System) (d : ℕ) (samples : List ℕ) → length samples ≡ width_of system

@@ -3,18 +3,16 @@
 use Rattle.std.proofs.Common.{◌≡◌, ℕ, suc, zero, ◌≤◌, ◌<◌, ◌+◌, ◌-◌, ◌*◌, ◌/◌, List, [], ◌∷◌, Bool, true, false, cond}
 use Rattle.std.proofs.Common.{length, ◌⊎◌, inl, inr, get_or, set, take, drop, map, arith, ap, sym, ◌∙◌, refl}
 use Rattle.std.proofs.Common.{get_or-set_same, get_or-set_other}
-use Rattle.std.specs.List.{sum, range_with_len}
-use Rattle.std.specs.Prelude.{nat_le, min}
-use Rattle.std.proofs.lemmas.Bool.{cases_lt, le-leb, lt-leb}
-use Rattle.std.proofs.lemmas.List.{ext_get_or, take-take, drop-take}
-use Rattle.std.proofs.lemmas.List.FromFn.{fill_by_all, sum_by-map-range_with_len_more}
-use Rattle.std.proofs.lemmas.List.Sums.{sum_by-take-drop, sum_by_more}
+use Rattle.std.specs.{List.sum, List.range_with_len, Prelude.nat_le, Prelude.min}
+use Rattle.std.proofs.lemmas.{Bool.cases_lt, Bool.le-leb, Bool.lt-leb, List.ext_get_or, List.take-take, List.drop-take}
+use Rattle.std.proofs.lemmas.{List.FromFn.fill_by_all, List.FromFn.sum_by-map-range_with_len_more}
+use Rattle.std.proofs.lemmas.{List.Sums.sum_by-take-drop, List.Sums.sum_by_more}
 use Rattle.vbi_near.proofs.Common.{System, width_of, Slicing, samples_of, sample_at}
+use Rattle.vbi_near.proofs.Inverse.{quotient-above, quotient-below}
 use Rattle.vbi_line.proofs.Slicing.{sample_of, length-samples_of}
 use Rattle.vbi_near.specs.LevelledLines.{window_of, first_of, end_of, window_start, window_sum, sum_from, off_mean}
 use Rattle.vbi_near.specs.LevelledLines.{off_in, middle_of, levelled_unit, levelled_sample, filled, AreSampleSums}
 use Rattle.vbi_near.specs.LevelledLines.{smoothed_sample, smoothed_after, smoothed}
-use Rattle.vbi_near.proofs.Inverse.{quotient-above, quotient-below}
 
 -- ---- sums of samples
 
@@ -25,8 +23,7 @@ SumsTo samples sums i = (k : ℕ) → k ≤ i → get_or sums k 0 ≡ sum (take 
 -- one sum more
 pub sums_more : (samples sums : List ℕ) (i v : ℕ) → i < length samples → i + 1 < length sums
     → v ≡ get_or sums i 0 + get_or samples i 0 → SumsTo samples sums i → SumsTo samples (set sums (i + 1) v) (i + 1)
-sums_more samples sums i v inside room is before k le =
-    grind (arith, get_or, get_or-set_other, sum_by_more, get_or-set_same)
+sums_more samples sums i v inside room is before k le = grind (arith, get_or-set_other, get_or-set_same, sum_by_more)
 
 -- what stands before a column and the next ones sum up to what stands before the last of them
 sum-split : (samples : List ℕ) (i n : ℕ)
@@ -100,8 +97,7 @@ WindowsTo system samples windows i = (k : ℕ) → k < i → get_or windows k 0 
 pub windows_more : (system : System) (samples windows : List ℕ) (i v : ℕ) → i < length windows
     → v ≡ window_sum system samples i → WindowsTo system samples windows i
     → WindowsTo system samples (set windows i v) (i + 1)
-windows_more system samples windows i v inside is before k less =
-    grind (arith, get_or, get_or-set_other, get_or-set_same)
+windows_more system samples windows i v inside is before k less = grind (arith, get_or-set_other, get_or-set_same)
 
 pub inside : (system : System) → end_of system ≤ width_of system
 inside system = grind arith
@@ -245,9 +241,7 @@ unfolding smoothed_after
 smoothed_after-read before [] k less = absurd (omega arith)
 smoothed_after-read before (own ∷ []) zero less = refl
 smoothed_after-read before (own ∷ []) (suc k) less = absurd (omega arith)
-smoothed_after-read before (own ∷ after ∷ samples) zero less =
-    let next : 1 ≡ min 1 (length (own ∷ after ∷ samples) - 1) = omega arith in
-    ap (λ (i : ℕ). smoothed_sample before own (get_or (own ∷ after ∷ samples) i 0)) next
+smoothed_after-read before (own ∷ after ∷ samples) zero less = grind arith
 smoothed_after-read before (own ∷ after ∷ samples) (suc k) less =
     let next : suc (min (k + 1) (length (after ∷ samples) - 1))
     ≡ min (suc k + 1) (length (own ∷ after ∷ samples) - 1) = omega arith in
@@ -267,11 +261,7 @@ pub smoothed-read : (samples : List ℕ) (k : ℕ) → k < length samples
 unfolding smoothed
 smoothed-read [] k less = absurd (omega arith)
 smoothed-read (first ∷ samples) zero less = smoothed_after-read first (first ∷ samples) zero less
-smoothed-read (first ∷ samples) (suc k) less =
-    let last : k ≡ suc k - 1 = omega arith in
-    smoothed_after-read first (first ∷ samples) (suc k) less
-    ∙ ap (λ (i : ℕ). smoothed_sample (get_or (first ∷ samples) i 0) (get_or (first ∷ samples) (suc k) 0)
-    (get_or (first ∷ samples) (min (suc k + 1) (length (first ∷ samples) - 1)) 0)) last
+smoothed-read (first ∷ samples) (suc k) less = grind (arith, smoothed_after-read)
 
 -- bytes that have each sample smoothed
 pub smoothed_all : (samples bytes : List ℕ) → length bytes ≡ 2 * length samples

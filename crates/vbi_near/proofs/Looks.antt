@@ -6,8 +6,8 @@ use Rattle.std.proofs.Math.Nat.{min-le_left, min-le_right}
 use Rattle.std.proofs.lemmas.Bool.{cases_lt}
 use Rattle.vbi_near.proofs.Common.{System, IsWord, Found, IsBefore, Places, IsLead, IsAhead, Look, look, at_start}
 use Rattle.vbi_near.proofs.Common.{IsSeen, with_ranges, looks_before, all_codes, starts, Range, range, IsOneOf}
-use Rattle.vbi_near.specs.Prices.{ranges_of}
 use Rattle.vbi_near.proofs.BestBits.{min_is}
+use Rattle.vbi_near.specs.Prices.{ranges_of}
 
 -- ---- the nearer of two leads
 
@@ -64,8 +64,7 @@ module _ (cost : ℕ → ℕ → ℕ) (seen more : Places) (near far : Found) (i
       → (2 ^ 31 ≤ far.rival) ⊎ ((s : ℕ) × (w : ℕ) × more s w × (w ≢ far.word) × (cost s w ≡ far.rival)) → AreOther
   unfolding AreOther
   by_far e (inl (same, b)) (inl wide) = inl (omega (arith, e, b, wide))
-  by_far e (inl (same, b)) (inr (s, w, there, differs, costs)) =
-      inr (s, w, inr there, λ f. differs (f ∙ sym same), costs ∙ sym b ∙ sym e)
+  by_far e (inl (same, b)) (inr (s, w, there, differs, costs)) = grind arith
   by_far e (inr (differs, b)) other = inr (far.start, far.word, inr are.there, differs, are.exact ∙ sym b ∙ sym e)
 
   another : AreOther

@@ -1,27 +1,22 @@
 -- No word that is recovered is a picture number of 80,000 or more.
 -- never_beyond_79999 stands on it.
 use Rattle.std.proofs.Common.{◌≡◌, ℕ, zero, suc, ◌≤◌, inl, inr, Bool, true, false, List, [], ◌∷◌, refl, sym, ap, ◌∙◌}
+use Rattle.std.specs.Prelude.{if◌then◌else◌}
 use Rattle.std.proofs.Common.{subst, arith}
-use Rattle.std.specs.Prelude.{Option, Some, None, if◌then◌else◌}
-use Rattle.std.specs.List.{All}
+use Rattle.std.specs.{Prelude.Option, Prelude.Some, Prelude.None, List.All}
 use Rattle.std.proofs.lemmas.Bool.{true≢false}
 use Rattle.vbi_near.proofs.Common.{System, Outcome, Word, Blank, Unfinished, Change, Hold, Reading, IsBetween, Slicing}
 use Rattle.vbi_near.proofs.Common.{row_levels, Nears, is_beyond_79999, unit_of}
-use Rattle.vbi_words.specs.Outcomes.{word_of}
-use Rattle.vbi_words.specs.Readings.{Reads}
+use Rattle.vbi_near.proofs.Digits.{digits-beyond}
+use Rattle.vbi_words.specs.{Outcomes.word_of, Readings.Reads}
 use Rattle.vbi_line.proofs.OneReading.{is_reading}
-use Rattle.vbi_near.specs.declared.recovery.Recovered.{Recovered}
-use Rattle.vbi_near.specs.declared.margins.Margins.{Margins}
-use Rattle.vbi_near.specs.declared.margins.MarginSet.{MarginSet}
-use Rattle.vbi_near.specs.declared.word_rule.Stand.{Stand}
 use Rattle.vbi_near.specs.declared.word_rule.Stand.TheVariants.{Alone, Apart, Together}
-use Rattle.vbi_near.specs.LevelledLines.{levelled_unit}
-use Rattle.vbi_near.specs.Margins.{levelled_margins, given_margins}
 use Rattle.vbi_near.specs.WordRule.{said_if, unless_beyond, recovered_by, first_said, said_in}
 use Rattle.vbi_near.specs.Candidates.{Candidates, Line}
 use Rattle.vbi_near.specs.Recovery.{Seen, IsSeen, Stands, alone, own_of, is_open, is_confirmed, stands_of, said_by}
 use Rattle.vbi_near.specs.Recovery.{stays, recovered_as, shown_in, IsRecovered}
-use Rattle.vbi_near.proofs.Digits.{digits-beyond}
+use Rattle.vbi_near.specs.{declared.recovery.Recovered.Recovered, declared.margins.Margins.Margins}
+use Rattle.vbi_near.specs.{declared.margins.MarginSet.MarginSet, declared.word_rule.Stand.Stand}
 
 -- ---- what is said
 
@@ -57,11 +52,7 @@ in-within margins Apart unit near both = recovered-within unit margins.apart 1 n
 in-within margins Together unit near both = recovered-within unit margins.both 2 both
 
 by-within : (stands : Stands) (unit : ℕ) (near both : Candidates) → IsWithin (said_by stands unit near both)
-by-within stands unit near both =
-    first-within (said_in levelled_margins stands.levelled levelled_unit near.levelled both.levelled)
-    (said_in given_margins stands.given unit (Some near.given) (Some both.given))
-    (in-within levelled_margins stands.levelled levelled_unit near.levelled both.levelled)
-    (in-within given_margins stands.given unit (Some near.given) (Some both.given))
+by-within stands unit near both = grind (arith, first-within, in-within)
 
 -- ---- what a line shows
 

@@ -1,13 +1,12 @@
 -- The bytes of three rows, some of whose columns are erased, show one thing.
 -- one_recovered stands on it.
-use Rattle.std.proofs.Common.{◌≡◌, ℕ, Bool, true, false, List, [], ◌∷◌, refl, sym, ap, ◌∙◌, subst}
-use Rattle.std.specs.Prelude.{IsTrue, if◌then◌else◌, ◌&&◌}
+use Rattle.std.proofs.Common.{arith, ◌≡◌, ℕ, Bool, true, false, List, [], ◌∷◌, refl, sym, ◌∙◌, subst}
+use Rattle.std.specs.Prelude.{IsTrue, ◌&&◌, if◌then◌else◌}
 use Rattle.vbi_near.proofs.Common.{System, Slicing, unit_of}
-use Rattle.vbi_near.specs.declared.recovery.Recovered.{Recovered}
-use Rattle.vbi_near.specs.Candidates.{Line, Candidates}
+use Rattle.vbi_near.proofs.OneSeen.{one_of_both, one_own, one_open_near}
 use Rattle.vbi_near.specs.Recovery.{Seen, IsSeen, IsRecovered, Stands, alone, is_open, own_of, are_open, stands_by}
 use Rattle.vbi_near.specs.Recovery.{said_by, recovered_as, recovered_of, field_line}
-use Rattle.vbi_near.proofs.OneSeen.{one_of_both, one_own, one_open_near}
+use Rattle.vbi_near.specs.{declared.recovery.Recovered.Recovered, Candidates.Line, Candidates.Candidates}
 
 -- ---- a line
 
@@ -25,11 +24,7 @@ if_same false x y z h = refl
 alone_same : (unit : ℕ) (own other : Recovered) (near again both too : Candidates) → own ≡ other
     → (IsTrue (is_open own.outcome) → near ≡ again)
     → shown_by alone unit own near both ≡ shown_by alone unit other again too
-alone_same unit own other near again both too e same =
-    if_same (is_open own.outcome) (recovered_as own (said_by alone unit near both))
-    (recovered_as own (said_by alone unit again too)) own
-    (λ opened. ap (λ (x : Candidates). recovered_as own (said_by alone unit x both)) (same opened))
-    ∙ ap (λ (o : Recovered). shown_by alone unit o again too) e
+alone_same unit own other near again both too e same = grind (arith, if_same)
 
 -- what is the same of a line that is seen twice
 pub record IsSame (unit : ℕ) (seen again : Seen) : Type 0 where
@@ -75,11 +70,7 @@ module _ (unit : ℕ) (first second third first' second' third' : Seen) (both bo
       → (IsTrue (is_open own.outcome) → near ≡ again) → are_open unit second third ≡ false
       → shown_by (stands_if (are_open unit second third) second.near third.near both) unit own near both
       ≡ shown_by (stands_if (are_open unit second' third') second'.near third'.near both') unit other again both'
-  closed_same own other near again e same closed =
-      ap (λ (o : Bool). shown_by (stands_if o second.near third.near both) unit own near both) closed
-      ∙ alone_same unit own other near again both both' e same
-      ∙ ap (λ (o : Bool). shown_by (stands_if o second'.near third'.near both') unit other again both')
-      (sym closed ∙ same_open)
+  closed_same own other near again e same closed = grind (arith, alone_same, same_open)
 
   -- the lines show the same, by whether lines 17 and 18 are both open
   by_open : (b : Bool) → are_open unit second third ≡ b

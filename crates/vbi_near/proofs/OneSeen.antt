@@ -4,12 +4,12 @@ use Rattle.std.proofs.Common.{◌≡◌, ◌≢◌, ℕ, Bool, true, false, List
 use Rattle.std.specs.Prelude.{Option, IsTrue}
 use Rattle.vbi_near.proofs.Common.{System, Outcome, Word, Blank, Unfinished, Change, Hold, Reading, Slicing, reading_of}
 use Rattle.vbi_near.proofs.Common.{Nears, Samples, IsLeastAt, IsStretched}
+use Rattle.vbi_near.proofs.OneNear.{one_near, one_near_code}
 use Rattle.vbi_words.specs.Readings.{reading_from}
 use Rattle.vbi_line.proofs.OneReading.{by_outcomes}
 use Rattle.vbi_near.specs.Candidates.{HasNear, Row, Line, Lines, Candidates, HasNearIf, AreOf, AreOfBoth, given_samples}
 use Rattle.vbi_near.specs.Candidates.{given_line, levelled_line, given_pair, levelled_pair}
 use Rattle.vbi_near.specs.Recovery.{Seen, IsSeen, is_asked, is_open, is_confirmed, own_by, own_of}
-use Rattle.vbi_near.proofs.OneNear.{one_near, one_near_code}
 
 -- ---- nearest words
 
@@ -95,12 +95,9 @@ pub open_asked_by : (o : Outcome) (pass : ℕ) (plain : Outcome) (confirms : ℕ
     → IsTrue (is_asked o pass)
 open_asked_by (Word w) pass plain confirms none opened = grind (arith, asked_word, word_own)
 open_asked_by Blank pass plain confirms none opened = cc
-open_asked_by Unfinished pass plain confirms none opened =
-    subst (λ (k : ℕ). IsTrue (is_asked Unfinished k)) (sym (none refl)) refl
-open_asked_by (Change c) pass plain confirms none opened =
-    subst (λ (k : ℕ). IsTrue (is_asked (Change c) k)) (sym (none refl)) refl
-open_asked_by (Hold c) pass plain confirms none opened =
-    subst (λ (k : ℕ). IsTrue (is_asked (Hold c) k)) (sym (none refl)) refl
+open_asked_by Unfinished pass plain confirms none opened = grind arith
+open_asked_by (Change c) pass plain confirms none opened = grind arith
+open_asked_by (Hold c) pass plain confirms none opened = grind arith
 
 -- a line's reading is of no pass if it shows no word and isn't blank
 pub open_pass : (line : Line) (seen : Seen) → IsSeen line seen → IsTrue (is_open seen.reading.outcome)
@@ -139,8 +136,7 @@ module _ (line : Line) (seen again : Seen) (unit : ℕ) (is : IsSeen line seen) 
 
   -- its nearest words are the same if they are asked for
   pub one_asked_near : IsTrue (is_asked seen.reading.outcome seen.reading.pass) → seen.near ≡ again.near
-  one_asked_near asked =
-      one_candidates line seen.near again.near (is.near asked) (are.near (asked_again asked))
+  one_asked_near asked = grind (arith, asked_again, one_candidates)
 
   -- its word of pass 2 is confirmed each time or never
   confirms_same : (word : ℕ) → seen.reading.outcome ≡ Word word → seen.reading.pass ≡ 2

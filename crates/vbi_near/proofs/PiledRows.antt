@@ -2,16 +2,14 @@
 -- near_of_all, levelled_near_of_all and recover_pile stand on it.
 use Rattle.std.proofs.Common.{◌≡◌, ℕ, suc, zero, ◌+◌, ◌<◌, List, [], ◌∷◌, ◌++◌, length, map, get_or, Bool, true, ap}
 use Rattle.std.proofs.Common.{◌∙◌, refl, subst, arith, zero-add, ◌≤◌, take, replicate}
-use Rattle.std.specs.Prelude.{◌&&◌, Option, Some}
+use Rattle.std.specs.{Prelude.◌&&◌, Prelude.Option, Prelude.Some, List.list_all, List.range_with_len}
 use Rattle.std.proofs.lemmas.List.{length-take-le, length-replicate}
-use Rattle.std.specs.List.{list_all, range_with_len}
 use Rattle.std.proofs.lemmas.List.FromFn.{map-range_with_len_more, length-map-range_with_len, get_or-map-range_with_len}
 use Rattle.vbi_near.proofs.Common.{line_bytes, System, Slicing, unit_of}
-use Rattle.vbi_near.specs.declared.margins.Margins.{Margins}
-use Rattle.vbi_near.specs.WordRule.{recovered_by, first_said}
 use Rattle.vbi_near.specs.Candidates.{Row, Candidates, swing_in, has_swing, are_alike_by}
 use Rattle.vbi_near.specs.LevelledLines.{is_swing, levelled_unit}
 use Rattle.vbi_near.specs.PileRule.{row_in, rows_in, are_all_alike, pile_margins, said_together}
+use Rattle.vbi_near.specs.{declared.margins.Margins.Margins, WordRule.recovered_by, WordRule.first_said}
 
 -- ---- the next line
 

@@ -2,8 +2,7 @@
 -- nears_of stands on it, and Chosen, HalvedRows and LeastAt.
 use Rattle.std.proofs.Common.{◌≡◌, ℕ, suc, ◌<◌, ◌+◌, List, [], ◌∷◌, Bool, length, get_or, refl, arith, ap, sym, ◌∙◌}
 use Rattle.std.proofs.Common.{Option}
-use Rattle.std.specs.List.{All}
-use Rattle.std.specs.Prelude.{None}
+use Rattle.std.specs.{List.All, Prelude.None}
 use Rattle.vbi_near.proofs.Common.{System, width_of, Slicing, IsPlace, picture_of, sample_of, drawn_as, Samples}
 use Rattle.vbi_near.proofs.Common.{most_of, off_by, row_distance, distance_of, Shades, shade, column_cost}
 use Rattle.vbi_near.proofs.Common.{distance_from, IsPile, far_from, IsLeastRow}

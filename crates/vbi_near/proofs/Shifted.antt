@@ -4,13 +4,11 @@ use Rattle.std.proofs.Common.{◌≡◌, ◌≢◌, ℕ, suc, zero, ◌≤◌, �
 use Rattle.std.proofs.Common.{length, take, drop, min, leb, eqb, ◌&&◌, refl, arith, ap, ap₂, sym, ◌∙◌, ◌⊎◌, le_trans}
 use Rattle.std.proofs.Common.{append_assoc, take-append-drop, length-append, length-take-le, length-drop}
 use Rattle.std.proofs.Math.ListN.{replicate}
-use Rattle.std.proofs.lemmas.List.{length-replicate}
-use Rattle.std.proofs.lemmas.Bool.{leb-true}
-use Rattle.std.proofs.lemmas.Bool.Decides.{leb_tells, eqb_tells}
+use Rattle.std.proofs.lemmas.{List.length-replicate, Bool.leb-true, Bool.Decides.leb_tells, Bool.Decides.eqb_tells}
 use Rattle.vbi_near.proofs.Common.{System, Ntsc, Pal, differences, drawn_halves}
-use Rattle.vbi_near.specs.Apart.{picture_distance}
 use Rattle.vbi_near.proofs.Highs.{highs, differences-append, low-differs, cell_columns, cell_levels, length-cell}
 use Rattle.vbi_near.proofs.Highs.{bits_levels, bits-begin, cell-long}
+use Rattle.vbi_near.specs.Apart.{picture_distance}
 
 -- a cell that lies some columns later: its levels beside the same cell of the other word, and beside what follows
 abbrev pub levels_beside : System → ℕ → ℕ → Bool → List Bool

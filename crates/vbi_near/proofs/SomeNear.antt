@@ -10,10 +10,9 @@ use Rattle.vbi_near.proofs.Common.{distance_of, IsNearestBy, IsFirstBy, IsNeares
 use Rattle.vbi_near.proofs.Common.{IsNearestCode, IsFirstCode, GoesOn, IsLeastRow, HasLeastRow, IsLonger, cell_length}
 use Rattle.vbi_near.proofs.Common.{begun_earlier, ended_later, begun_later, ended_earlier, row_of_halves, IsCutShort}
 use Rattle.vbi_near.proofs.Common.{IsShorter}
-use Rattle.vbi_near.proofs.Chosen.{code-place}
 use Rattle.vbi_near.proofs.Certain.{same_or_not, some_none, none_some}
-use Rattle.vbi_near.proofs.Columns.{word-fits}
-use Rattle.vbi_near.proofs.Least.{Least, found, IsTold, both_told, either_told, at_most_told, all_told}
+use Rattle.vbi_near.proofs.Least.{Least, found, IsDecided, both_decided, either_decided, at_most_decided, all_decided}
+use Rattle.vbi_near.proofs.{Chosen.code-place, Columns.word-fits}
 
 -- ---- places by number, in their order
 
@@ -42,11 +41,7 @@ module _ (system : System) where
   numbered : (word : Option ℕ) (start : ℕ) → IsPlace system word start → Numbered word start
   unfolding word_at start_at number_of last
   numbered None start place = record { within = omega arith; word_is = refl; start_is = sym place }
-  numbered (Some w) start ((low, high), room) = record {
-    within = let l : start < starts system = omega arith in omega arith;
-    word_is = ap Some (omega arith);
-    start_is = omega arith;
-  }
+  numbered (Some w) start ((low, high), room) = grind arith
 
   precedes : (word other : Option ℕ) (start at : ℕ) → IsPlace system word start → IsPlace system other at
       → number_of word start ≤ number_of other at → Precedes word start other at
@@ -61,13 +56,13 @@ unfolding word_at start_at number_of
 renumbered zero = refl
 renumbered (suc m) = ap suc (omega arith)
 
-other_word : (a b : Option ℕ) → IsTold (a ≢ b)
-other_word a b = grind (arith, same_or_not, IsTold)
+other_word : (a b : Option ℕ) → IsDecided (a ≢ b)
+other_word a b = grind (arith, same_or_not, IsDecided)
 
 -- the first of the nearest of some places: that of none is one, and so is a word at the first column
 module _ (system : System) (IsThere : Option ℕ → ℕ → Type 0)
     (fits : (word : Option ℕ) (start : ℕ) → IsThere word start → IsPlace system word start)
-    (told : (word : Option ℕ) (start : ℕ) → IsTold (IsThere word start)) (none : IsThere None 0) (word : ℕ)
+    (decided : (word : Option ℕ) (start : ℕ) → IsDecided (IsThere word start)) (none : IsThere None 0) (word : ℕ)
     (one : IsThere (Some word) 0) (far : Option ℕ → ℕ → ℕ) where
   cost : ℕ → ℕ
   cost k = far (word_at k) (start_at k)
@@ -82,18 +77,18 @@ module _ (system : System) (IsThere : Option ℕ → ℕ → Type 0)
 
   cost-of : (word : Option ℕ) (start : ℕ) → IsThere word start → cost (number_of word start) ≡ far word start
   unfolding cost
-  cost-of word start place =
-      let n = numbered system word start (fits word start place) in λ j. far (n.word_is j) (n.start_is j)
+  cost-of word start place = grind (arith, numbered)
 
   has : (word : Option ℕ) (start : ℕ) → IsThere word start → Has (number_of word start)
   has word start place = grind (arith, numbered, word_at, number_of)
 
   best : Least cost Has (last system)
   unfolding word_at start_at
-  best = found cost Has (λ k. told (word_at k) (start_at k)) (last system) 0 (omega arith) none
+  best = found cost Has (λ k. decided (word_at k) (start_at k)) (last system) 0 (omega arith) none
 
-  others : (other : Option ℕ) (k : ℕ) → IsTold (HasOther other k)
-  others other k = both_told (Has k) (word_at k ≢ other) (told (word_at k) (start_at k)) (other_word (word_at k) other)
+  others : (other : Option ℕ) (k : ℕ) → IsDecided (HasOther other k)
+  others other k =
+      both_decided (Has k) (word_at k ≢ other) (decided (word_at k) (start_at k)) (other_word (word_at k) other)
 
   another : (other : Option ℕ) → Least cost (HasOther other) (last system)
   another None =
@@ -148,11 +143,11 @@ module _ (system : System) (IsThere : Option ℕ → ℕ → Type 0)
 
 -- of four rows that there may be, if there is one, one has the least distance
 some_row : (IsRow : List Bool → Type 0) (far : List Bool → ℕ) (levels : ℕ → List Bool) (Has : ℕ → Type 0)
-    → ((k : ℕ) → IsTold (Has k)) → (k : ℕ) → k ≤ 3 → Has k → ((k : ℕ) → Has k → IsRow (levels k))
+    → ((k : ℕ) → IsDecided (Has k)) → (k : ℕ) → k ≤ 3 → Has k → ((k : ℕ) → Has k → IsRow (levels k))
     → ((x : List Bool) → IsRow x → (k : ℕ) × (k ≤ 3) × Has k × (x ≡ levels k))
     → (distance : ℕ) × IsLeastRow IsRow far distance
-some_row IsRow far levels Has told k le one are all =
-    let l = found (λ (k : ℕ). far (levels k)) Has told 3 k le one in (
+some_row IsRow far levels Has decided k le one are all =
+    let l = found (λ (k : ℕ). far (levels k)) Has decided 3 k le one in (
       far (levels l.at),
       record {
         least = λ x row. let n = all x row in omega (arith, l.least n.0 n.1 n.2, ap far n.3);
@@ -184,10 +179,10 @@ module _ (system : System) (far : List Bool → ℕ) (word start : ℕ) where
   HasRoom (suc zero) = cell_length system ≤ start
   HasRoom (suc (suc k)) = start + word_length system + cell_length system ≤ width_of system
 
-  has_room : (k : ℕ) → IsTold (HasRoom k)
-  has_room zero = at_most_told (cell_length system) start
-  has_room (suc zero) = at_most_told (cell_length system) start
-  has_room (suc (suc k)) = at_most_told (start + word_length system + cell_length system) (width_of system)
+  has_room : (k : ℕ) → IsDecided (HasRoom k)
+  has_room zero = at_most_decided (cell_length system) start
+  has_room (suc zero) = at_most_decided (cell_length system) start
+  has_room (suc (suc k)) = at_most_decided (start + word_length system + cell_length system) (width_of system)
 
   goes_on : (k : ℕ) → HasRoom k → GoesOn system word start (levels_at k)
   unfolding levels_at
@@ -245,69 +240,69 @@ module _ (system : System) (far : List Bool → ℕ) (word start : ℕ) where
 -- the first of the nearest at these places, with the least longer and the least shorter distance
 pub some_near_by : (system : System) (IsThere : Option ℕ → ℕ → Type 0)
     → ((word : Option ℕ) (start : ℕ) → IsThere word start → IsPlace system word start)
-    → ((word : Option ℕ) (start : ℕ) → IsTold (IsThere word start)) → IsThere None 0 → (word : ℕ)
+    → ((word : Option ℕ) (start : ℕ) → IsDecided (IsThere word start)) → IsThere None 0 → (word : ℕ)
     → IsThere (Some word) 0 → (far : Option ℕ → ℕ → ℕ) (longer_far : List Bool → ℕ)
     → (near : Near) × IsNearestBy IsThere far near × IsFirstBy IsThere far near
     × HasLeastRow (GoesOn system) longer_far near.word near near.longer
     × HasLeastRow (IsCutShort system) longer_far near.word near near.shorter
 unfolding near_with
-some_near_by system IsThere fits told none word one far longer_far =
-    let b = best system IsThere fits told none word one far in
+some_near_by system IsThere fits decided none word one far longer_far =
+    let b = best system IsThere fits decided none word one far in
     let w : Option ℕ = word_at b.at in
     let s : ℕ = start_at b.at in
-    let c : ℕ = cost system IsThere fits told none word one far b.at in
+    let c : ℕ = cost system IsThere fits decided none word one far b.at in
     let place : IsPlace system w s = fits w s b.holds in
     let l = row_of (GoesOn system) longer_far w s c (λ v e. some_longer system longer_far v s
     (subst (λ (o : Option ℕ). IsPlace system o s) e place).1) in
     let m = row_of (IsCutShort system) longer_far w s c (λ v e. some_shorter system longer_far v s) in
-    let near : Near = near_with system IsThere fits told none word one far l.0 m.0 in (
+    let near : Near = near_with system IsThere fits decided none word one far l.0 m.0 in (
       near,
-      near_is system IsThere fits told none word one far l.0 m.0,
-      first_near system IsThere fits told none word one far l.0 m.0,
+      near_is system IsThere fits decided none word one far l.0 m.0,
+      first_near system IsThere fits decided none word one far l.0 m.0,
       l.1 near refl refl,
       m.1 near refl refl,
     )
 
 -- ---- places
 
--- which words there are, and at which places they and codes stand, can be told
-word_told : (w : ℕ) → IsTold (IsWord w)
-word_told w = both_told _ _ (at_most_told 8388608 w) (at_most_told (suc w) 16777216)
+-- which words there are, and at which places they and codes stand, can be decided
+word_decided : (w : ℕ) → IsDecided (IsWord w)
+word_decided w = both_decided _ _ (at_most_decided 8388608 w) (at_most_decided (suc w) 16777216)
 
-place_told : (system : System) (word : Option ℕ) (start : ℕ) → IsTold (IsPlace system word start)
-place_told system None start = cases_eq start 0
-place_told system (Some w) start = grind (arith, both_told, word_told, at_most_told)
+place_decided : (system : System) (word : Option ℕ) (start : ℕ) → IsDecided (IsPlace system word start)
+place_decided system None start = cases_eq start 0
+place_decided system (Some w) start = grind (arith, both_decided, word_decided, at_most_decided)
 
 -- a digit is in the range of those at its place from 0
 abbrev Fits : ℕ → ℕ → ℕ → ℕ → Type 0
 Fits least greatest w k =
     (digit_of least (suc k) ≤ digit_of w (suc k)) × (digit_of w (suc k) ≤ digit_of greatest (suc k))
 
-between_told : (least greatest w : ℕ) → IsTold (IsBetween least greatest w)
-between_told least greatest w =
-    go (all_told (Fits least greatest w) (λ k. both_told (digit_of least (suc k) ≤ digit_of w (suc k))
-    (digit_of w (suc k) ≤ digit_of greatest (suc k)) (at_most_told (digit_of least (suc k)) (digit_of w (suc k)))
-    (at_most_told (digit_of w (suc k)) (digit_of greatest (suc k)))) 6)
+between_decided : (least greatest w : ℕ) → IsDecided (IsBetween least greatest w)
+between_decided least greatest w =
+    go (all_decided (Fits least greatest w) (λ k. both_decided (digit_of least (suc k) ≤ digit_of w (suc k))
+    (digit_of w (suc k) ≤ digit_of greatest (suc k)) (at_most_decided (digit_of least (suc k)) (digit_of w (suc k)))
+    (at_most_decided (digit_of w (suc k)) (digit_of greatest (suc k)))) 6)
   where
     at : ((k : ℕ) → k < 6 → Fits least greatest w k) → IsBetween least greatest w
     at all zero low high = absurd (omega arith)
     at all (suc k) low high = all k (omega arith)
 
-    go : IsTold ((k : ℕ) → k < 6 → Fits least greatest w k) → IsTold (IsBetween least greatest w)
+    go : IsDecided ((k : ℕ) → k < 6 → Fits least greatest w k) → IsDecided (IsBetween least greatest w)
     go (inl all) = inl (at all)
     go (inr not) = inr (λ is. not (λ k l. is (suc k) (omega arith) (omega arith)))
 
-one_told : (ranges : List Range) (w : ℕ) → IsTold (IsOneOf ranges w)
-one_told [] w = inr (λ none. none)
-one_told (words ∷ ranges) w =
-    either_told (IsIn words w) (IsOneOf ranges w)
-    (both_told (IsWord w) (IsBetween words.least words.greatest w) (word_told w)
-    (between_told words.least words.greatest w)) (one_told ranges w)
+one_decided : (ranges : List Range) (w : ℕ) → IsDecided (IsOneOf ranges w)
+one_decided [] w = inr (λ none. none)
+one_decided (words ∷ ranges) w =
+    either_decided (IsIn words w) (IsOneOf ranges w)
+    (both_decided (IsWord w) (IsBetween words.least words.greatest w) (word_decided w)
+    (between_decided words.least words.greatest w)) (one_decided ranges w)
 
-code_told : (ranges : List Range) (system : System) (word : Option ℕ) (start : ℕ)
-    → IsTold (IsCodePlace ranges system word start)
-code_told ranges system None start = cases_eq start 0
-code_told ranges system (Some w) start = grind (arith, both_told, one_told, at_most_told)
+code_decided : (ranges : List Range) (system : System) (word : Option ℕ) (start : ℕ)
+    → IsDecided (IsCodePlace ranges system word start)
+code_decided ranges system None start = cases_eq start 0
+code_decided ranges system (Some w) start = grind (arith, both_decided, one_decided, at_most_decided)
 
 -- picture stop, which may stand on each line
 stop_between : IsBetween 0x82CFFF 0x82CFFF 0x82CFFF
@@ -323,7 +318,7 @@ pub some_near : (system : System) (slicing : Slicing) (lines : List Samples)
     → (near : Near) × IsNearest system slicing lines near × IsFirst system slicing lines near
     × IsLonger system slicing lines near × IsShorter system slicing lines near
 some_near system slicing lines =
-    some_near_by system (IsPlace system) (λ word start place. place) (place_told system) refl 8388608
+    some_near_by system (IsPlace system) (λ word start place. place) (place_decided system) refl 8388608
     ((omega arith, omega arith), omega (arith, word-fits system)) (far_from system slicing lines)
     (λ levels. distance_of (most_of slicing) lines (drawn_as slicing levels))
 
@@ -332,6 +327,6 @@ pub some_near_code : (system : System) (line : ℕ) (slicing : Slicing) (lines :
     × IsLonger system slicing lines near × IsShorter system slicing lines near
 some_near_code system line slicing lines =
     some_near_by system (IsCodePlace (codes_of system line) system) (code-place (codes_of system line) system)
-    (code_told (codes_of system line) system) refl 0x82CFFF
+    (code_decided (codes_of system line) system) refl 0x82CFFF
     (stop_stands system line, omega (arith, word-fits system)) (far_from system slicing lines)
     (λ levels. distance_of (most_of slicing) lines (drawn_as slicing levels))

@@ -1,11 +1,9 @@
 -- There is something that any three rows show, whichever of their columns are erased.
 -- some_recovered stands on it.
 use Rattle.std.proofs.Common.{ℕ, Bool, List, refl}
-use Rattle.vbi_near.proofs.Common.{System, Slicing, unit_of}
-use Rattle.vbi_near.specs.declared.recovery.Recovered.{Recovered}
-use Rattle.vbi_near.specs.Candidates.{Line}
+use Rattle.vbi_near.proofs.{Common.System, Common.Slicing, Common.unit_of, SomeSeen.some_of_both, SomeSeen.some_seen}
 use Rattle.vbi_near.specs.Recovery.{IsRecovered, recovered_of, field_line}
-use Rattle.vbi_near.proofs.SomeSeen.{some_of_both, some_seen}
+use Rattle.vbi_near.specs.{declared.recovery.Recovered.Recovered, Candidates.Line}
 
 -- three rows show something
 pub some_recovered : (system : System) (slicing : Slicing) (rows : List ℕ) (erased : List Bool)

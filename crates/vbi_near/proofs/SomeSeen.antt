@@ -6,12 +6,11 @@ use Rattle.vbi_near.proofs.Common.{System, Outcome, Word, width_of, Slicing, row
 use Rattle.vbi_near.proofs.Common.{drawn_as, Samples, most_of, distance_of, stretched_length, stretched_picture}
 use Rattle.vbi_near.proofs.Common.{IsLeastAt, IsAtRate, IsRateBefore, IsStretchedPlace, IsStretched, halved_far}
 use Rattle.vbi_near.proofs.Common.{far_from}
+use Rattle.vbi_near.proofs.LeastAt.{same-least, first_rate, rate-more}
+use Rattle.vbi_near.proofs.{SomeNear.some_near, SomeNear.some_near_code, Least.found, Least.at_most_decided}
 use Rattle.vbi_near.specs.Candidates.{HasNear, Row, Line, Lines, Candidates, HasNearIf, AreOf, AreOfBoth, given_samples}
 use Rattle.vbi_near.specs.Candidates.{given_line, levelled_line, given_pair, levelled_pair, has_swing, are_alike}
 use Rattle.vbi_near.specs.Recovery.{Seen, IsSeen}
-use Rattle.vbi_near.proofs.SomeNear.{some_near, some_near_code}
-use Rattle.vbi_near.proofs.Least.{found, at_most_told}
-use Rattle.vbi_near.proofs.LeastAt.{same-least, first_rate, rate-more}
 
 -- ---- nearest words
 
@@ -75,7 +74,7 @@ some_at_rate : (system : System) (far : ℕ → ℕ → ℕ) (rate : ℕ) → ra
     → (distance : ℕ) × IsLeastAt (IsAtRate system rate) far distance
 some_at_rate system far rate le =
     let l = found (far rate) (λ s. s + stretched_length system rate ≤ width_of system)
-    (λ s. at_most_told (s + stretched_length system rate) (width_of system)) (width_of system) 0 (omega arith)
+    (λ s. at_most_decided (s + stretched_length system rate) (width_of system)) (width_of system) 0 (omega arith)
     (rate_fits system rate le) in (
       far rate l.at,
       record {

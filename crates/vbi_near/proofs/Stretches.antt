@@ -2,16 +2,14 @@
 -- any word is. The functions of stretched_cells stand on it, stretched_by_none and LeastAt.
 use Rattle.std.proofs.Common.{◌≡◌, ℕ, suc, List, [], ◌∷◌, ◌++◌, Bool, refl, arith, ap, ◌∙◌, ◌≤◌, ◌<◌, ◌+◌, ◌-◌, ◌*◌}
 use Rattle.std.proofs.Common.{false, length, take, get_or, set, get_or-set_other}
-use Rattle.std.proofs.Math.ListN.{replicate}
+use Rattle.std.proofs.Math.{ListN.replicate, Nat.add-mul}
 use Rattle.std.specs.Prelude.{Some}
-use Rattle.std.proofs.Math.Nat.{add-mul}
 use Rattle.std.proofs.lemmas.List.{length-replicate, length-take-le, take_all, take_more}
 use Rattle.vbi_near.proofs.Common.{System, Ntsc, Pal, start_of, width_of, boundary, halves_of, half_length, word_length}
 use Rattle.vbi_near.proofs.Common.{picture_of, stretched_half, stretched_length, stretched_picture, halves_with}
 use Rattle.vbi_near.proofs.Common.{stretched_offset, halves_cost, stretched_cost, stretched_word_cost}
 use Rattle.vbi_near.proofs.Common.{stretched_row_cost, Shades, span, total_in}
-use Rattle.vbi_near.proofs.Costs.{drawn-with, many-halves, halves_cost-append}
-use Rattle.vbi_near.proofs.CellsAt.{set-more}
+use Rattle.vbi_near.proofs.{Costs.drawn-with, Costs.many-halves, Costs.halves_cost-append, CellsAt.set-more}
 
 -- ---- columns
 

@@ -3,10 +3,8 @@
 use Rattle.std.proofs.Common.{◌≡◌, ℕ, suc, zero, ◌≤◌, ◌<◌, ◌+◌, ◌*◌, ◌/◌, ◌^◌, List, length, get_or, take, drop, arith}
 use Rattle.std.proofs.Common.{sym, subst}
 use Rattle.std.specs.List.{All, sum}
-use Rattle.std.proofs.lemmas.List.{get_or_default, length-take}
-use Rattle.std.proofs.lemmas.List.Elements.{All-take, All-drop}
-use Rattle.std.proofs.lemmas.List.Sums.{sum_by-le}
-use Rattle.std.proofs.lemmas.List.FromFn.{sum_by-map-range_with_len_more}
+use Rattle.std.proofs.lemmas.{List.get_or_default, List.length-take, List.Elements.All-take, List.Elements.All-drop}
+use Rattle.std.proofs.lemmas.{List.Sums.sum_by-le, List.FromFn.sum_by-map-range_with_len_more}
 use Rattle.std.proofs.Math.Nat.{div-le_of_le-mul}
 use Rattle.vbi_near.proofs.Common.{System, Ntsc, Pal, width_of, samples_of}
 use Rattle.vbi_line.proofs.Slicing.{sample_of, length-samples_of}

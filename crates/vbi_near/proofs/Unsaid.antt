@@ -8,18 +8,13 @@ use Rattle.vbi_near.proofs.Common.{Slicing, IsWord, Found, Near, Nears, Sums, st
 use Rattle.vbi_near.proofs.Common.{Precedes, far_from, Range, codes_of, IsOneOf, IsCodePlace, IsSeen, with_ranges}
 use Rattle.vbi_near.proofs.Common.{all_codes, IsLead, IsClose, IsCodeChosen, shades_of, word_cost_by, code_cost_by}
 use Rattle.vbi_near.proofs.Common.{IsRowOf, IsNearCode}
-use Rattle.vbi_near.specs.declared.word_rule.Nearest.{Nearest}
-use Rattle.vbi_near.specs.declared.margins.Margins.{Margins}
-use Rattle.vbi_near.specs.declared.line_search.Sought.{Sought}
+use Rattle.vbi_near.proofs.Chosen.{number, code-is_word, code-place, code-places, placed, cost-at}
+use Rattle.vbi_near.proofs.{Columns.word-fits, Looks.to-ranges, Looks.from-ranges, Priced.code-word, OneNear.one_near}
 use Rattle.vbi_near.specs.Candidates.{HasNear, Lines, some_lines}
-use Rattle.vbi_near.specs.WordRule.{close_limit, said_of}
 use Rattle.vbi_near.specs.LineSearch.{HasWord, IsSought}
 use Rattle.vbi_near.specs.Silence.{says_word, may_say, IsLeadWithin, StandsFor, IsUnsaid, AreSilent}
-use Rattle.vbi_near.proofs.Columns.{word-fits}
-use Rattle.vbi_near.proofs.Chosen.{number, code-is_word, code-place, code-places, placed, cost-at}
-use Rattle.vbi_near.proofs.Looks.{to-ranges, from-ranges}
-use Rattle.vbi_near.proofs.Priced.{code-word}
-use Rattle.vbi_near.proofs.OneNear.{one_near}
+use Rattle.vbi_near.specs.{declared.word_rule.Nearest.Nearest, declared.margins.Margins.Margins}
+use Rattle.vbi_near.specs.{declared.line_search.Sought.Sought, WordRule.close_limit, WordRule.said_of}
 
 -- ---- what was looked at
 

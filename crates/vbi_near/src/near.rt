@@ -18,10 +18,10 @@
 //!
 //! The nearest word alone says little, as noise has one, too. So a `Near` says how far others are. `rival` is the
 //! nearest other row: what makes one word surer than another. `longer` is the row with one cell more: if it is nearer,
-//! the signal isn't a word of 24 cells. `shorter` is the row with fewer (ends.rt). The nearest code (codes.rt) is sought
-//! among the words whose code may stand on the line, and its rival is the nearest other one of these, or none: a code
-//! needs a smaller margin than any word, since fewer can be mistaken for it. word_rule.rt decides by these numbers what
-//! a line says; how large a margin has to be stands in `specs/WordRule.antt`.
+//! the signal isn't a word of 24 cells. `shorter` is the row with fewer (ends.rt). The nearest code (codes.rt) is
+//! sought among the words whose code may stand on the line, and its rival is the nearest other one of these, or none: a
+//! code needs a smaller margin than any word, since fewer can be mistaken for it. word_rule.rt decides by these numbers
+//! what a line says; how large a margin has to be stands in `specs/WordRule.antt`.
 
 ghost use Rattle.std.specs.Prelude.{◌≡◌, ◌^◌, ◌≤◌, ◌<◌, ◌⊎◌, length, List};
 ghost use Rattle.vbi_near.specs.Common.{width_of, IsWord, starts, IsPlace, Slicing, Samples, Shades, IsPile, AreFew};

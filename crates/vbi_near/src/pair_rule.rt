@@ -46,7 +46,8 @@ fn is_silent(can: bool, line: &Line, margins: &Margins) -> bool
 
 /// The nearest words of two lines together, if they may have them and say something by these margins.
 fn both_if(can: bool, pair: &Pair, margins: &Margins) -> Option<Nears>
-    ensures { HasNearIfUnlessSilent margins.now 2 (given_pair (line_in pair.now.second) (row_in pair.now.third)) can result }
+    ensures { HasNearIfUnlessSilent margins.now 2 (given_pair (line_in pair.now.second) (row_in pair.now.third)) can
+        result }
 {
     if can {
         both_unless_silent(pair, margins)
@@ -62,7 +63,8 @@ fn both_in_any_case(
     margins: &Margins,
     found: Option<Nears>,
 ) -> Option<Nears>
-    requires { HasNearIfUnlessSilent margins.now 2 (given_pair (line_in pair.now.second) (row_in pair.now.third)) can found }
+    requires { HasNearIfUnlessSilent margins.now 2 (given_pair (line_in pair.now.second) (row_in pair.now.third)) can
+        found }
     ensures { HasNearIf (given_pair (line_in pair.now.second) (row_in pair.now.third)) can result }
 {
     match found {

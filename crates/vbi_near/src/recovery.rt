@@ -13,7 +13,7 @@
 //!
 //! `rule_laws.rt` has worked rows of the rule. Whatever changes a word here changes the tables of docs/measured, too.
 //!
-//! Lines as they are are searched only if the levelled ones say no word (`line_rule.rt` says what contracts make of it).
+//! Lines as they are are searched only if the levelled ones say no word; `line_rule.rt` says what contracts make of it.
 
 ghost use Rattle.std.specs.Prelude.{◌≡◌, ℕ, ◌+◌, ◌*◌, ◌&&◌, List, ◌∷◌, [], length, IsTrue};
 ghost use Rattle.vbi_near.specs.Common.{line_bytes, width_of, row_levels, reading_of, unit_of};
@@ -111,7 +111,8 @@ fn shown_alone(line: &Line, own: Recovered) -> Recovered
 /// The words that lines 17 and 18 say if both are open. They are asked as they are only if one of them says none
 /// levelled.
 fn said_by_both(pair: &Pair) -> (Option<Word24>, Option<Word24>)
-    ensures { (near again both : Candidates) → AreOf (line_in pair.now.second) near → AreOf (line_in pair.now.third) again
+    ensures { (near again both : Candidates) → AreOf (line_in pair.now.second) near
+        → AreOf (line_in pair.now.third) again
         → AreOfBoth (line_in pair.now.second) (row_in pair.now.third) both
         → let stands = stands_by (unit_of pair.now.second.levels) near again both in
         (result.0 ≡ said_by stands (unit_of pair.now.second.levels) near both)

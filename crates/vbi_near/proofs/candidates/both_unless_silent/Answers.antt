@@ -1,7 +1,5 @@
 use Rattle.std.proofs.Common.{ℕ, subst}
-use Rattle.vbi_near.specs.Candidates.{given_pair}
-use Rattle.vbi_near.specs.Lines.{row_in, line_in}
-use Rattle.vbi_near.specs.Silence.{HasNearUnlessSilent}
+use Rattle.vbi_near.specs.{Candidates.given_pair, Lines.row_in, Lines.line_in, Silence.HasNearUnlessSilent}
 use Rattle.vbi_near.proofs.candidates.both_unless_silent.Goals as goal
 
 pub returns : goal.returns

@@ -1,7 +1,5 @@
 use Rattle.std.proofs.Common.{ℕ, subst}
-use Rattle.vbi_near.specs.Candidates.{given_line}
-use Rattle.vbi_near.specs.Lines.{line_in}
-use Rattle.vbi_near.specs.Silence.{HasNearUnlessSilent}
+use Rattle.vbi_near.specs.{Candidates.given_line, Lines.line_in, Silence.HasNearUnlessSilent}
 use Rattle.vbi_near.proofs.candidates.near_unless_silent.Goals as goal
 
 pub returns : goal.returns

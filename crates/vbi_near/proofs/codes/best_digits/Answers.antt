@@ -1,8 +1,6 @@
 use Rattle.std.proofs.Common.{◌≡◌, ℕ, ◌*◌, ◌≤◌, arith, sym, ◌∙◌, subst, add-one}
-use Rattle.vbi_near.proofs.Common.{digit_at, AreBest}
-use Rattle.vbi_near.proofs.BestDigits.{first-digits}
 use Rattle.vbi_near.proofs.Places.{at-place, few-digits, next-power}
-use Rattle.vbi_near.proofs.CellsAt.{cut-read}
+use Rattle.vbi_near.proofs.{Common.digit_at, Common.AreBest, BestDigits.first-digits, CellsAt.cut-read}
 use Rattle.vbi_near.proofs.codes.best_digits.Goals as goal
 
 pub loop-place-init : goal.loop-place-init

@@ -1,6 +1,5 @@
 use Rattle.std.proofs.Common.{cond, eqb, ℕ}
-use Rattle.vbi_near.proofs.Common.{IsSeen, at_start}
-use Rattle.vbi_near.proofs.Looks.{turned, merged_is, lead-by, next-by}
+use Rattle.vbi_near.proofs.{Common.IsSeen, Common.at_start, Looks.turned, Looks.merged_is, Looks.lead-by, Looks.next-by}
 use Rattle.vbi_near.proofs.codes.nearer_lead.Goals as goal
 
 pub returns-then-comes_first-clause-lead : goal.returns-then-comes_first-clause-lead

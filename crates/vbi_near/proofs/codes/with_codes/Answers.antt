@@ -1,8 +1,8 @@
 use Rattle.std.proofs.Common.{◌≡◌, ℕ, ◌+◌, List, take, get_or, inl, ap, sym, ◌∙◌, subst, arith, add-one}
 use Rattle.std.proofs.lemmas.List.{take_all}
 use Rattle.vbi_near.proofs.Common.{range, Look, IsSeen, with_ranges, IsLead, IsFew, IsClose}
-use Rattle.vbi_near.specs.Prices.{ranges_of}
 use Rattle.vbi_near.proofs.Looks.{ranges-more}
+use Rattle.vbi_near.specs.Prices.{ranges_of}
 use Rattle.vbi_near.proofs.codes.with_codes.Goals as goal
 
 pub loop-words-preserved : goal.loop-words-preserved

@@ -1,7 +1,6 @@
 use Rattle.std.proofs.Common.{◌≡◌, ℕ, suc, ◌+◌, ◌*◌, ◌<◌, arith, sym, subst, get_or}
 use Rattle.vbi_near.specs.declared.codes.Choice.{Choice}
-use Rattle.vbi_near.proofs.Common.{IsChoice, AreBest}
-use Rattle.vbi_near.proofs.BestDigits.{choice-same, with_digit_is}
+use Rattle.vbi_near.proofs.{Common.IsChoice, Common.AreBest, BestDigits.choice-same, BestDigits.with_digit_is}
 use Rattle.vbi_near.proofs.codes.with_digit.Goals as goal
 
 pub returns-clause-best : goal.returns-clause-best

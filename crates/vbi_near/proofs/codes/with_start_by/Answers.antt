@@ -1,7 +1,6 @@
 use Rattle.std.proofs.Common.{◌≡◌, ℕ, ◌<◌, ◌⊎◌, inl, inr, arith}
 use Rattle.vbi_near.proofs.Common.{IsWord, Shades, codes_of, code_cost, IsBefore, shades_of}
-use Rattle.vbi_near.proofs.Priced.{code-word}
-use Rattle.vbi_near.proofs.Looks.{passed-ranges}
+use Rattle.vbi_near.proofs.{Priced.code-word, Looks.passed-ranges}
 use Rattle.vbi_near.proofs.codes.with_start_by.Goals as goal
 
 pub returns-else-needs_look-clause-lead : goal.returns-else-needs_look-clause-lead

@@ -1,6 +1,5 @@
 use Rattle.std.proofs.Common.{arith}
-use Rattle.vbi_near.proofs.Common.{shades_of}
-use Rattle.vbi_near.proofs.CutShort.{last_within}
+use Rattle.vbi_near.proofs.{Common.shades_of, CutShort.last_within}
 use Rattle.vbi_near.proofs.ends.shorter_distance.Goals as goal
 
 pub without_cell-last-requires-clause-drawn : goal.without_cell-last-requires-clause-drawn

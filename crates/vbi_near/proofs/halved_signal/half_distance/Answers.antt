@@ -1,9 +1,7 @@
 use Rattle.std.proofs.Common.{◌≡◌, ℕ, suc, ◌+◌, ◌-◌, List, Bool, false, get_or, ap, ◌∙◌, arith}
 use Rattle.vbi_near.proofs.Common.{column_of, Shades, shade, total_in, half_cost, half_of, shades_of}
-use Rattle.vbi_near.proofs.Columns.{column-first, column-next}
-use Rattle.vbi_near.proofs.Costs.{half-costs}
-use Rattle.vbi_near.proofs.HalvedRows.{half-long, all-costs}
-use Rattle.vbi_near.proofs.Stretches.{none-yet, cost-more}
+use Rattle.vbi_near.proofs.{Columns.column-first, Columns.column-next, Costs.half-costs, HalvedRows.half-long}
+use Rattle.vbi_near.proofs.{HalvedRows.all-costs, Stretches.none-yet, Stretches.cost-more}
 use Rattle.vbi_near.proofs.halved_signal.half_distance.Goals as goal
 
 pub loop-half-init : goal.loop-half-init

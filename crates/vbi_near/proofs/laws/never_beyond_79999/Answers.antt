@@ -1,8 +1,6 @@
 use Rattle.std.specs.Prelude.{Some, length}
-use Rattle.vbi_near.proofs.Common.{unit_of}
-use Rattle.vbi_near.specs.LevelledLines.{levelled_unit}
-use Rattle.vbi_near.specs.PileRule.{pile_margins}
-use Rattle.vbi_near.proofs.NeverBeyond.{field-within, two-within}
+use Rattle.vbi_near.proofs.{Common.unit_of, NeverBeyond.field-within, NeverBeyond.two-within}
+use Rattle.vbi_near.specs.{LevelledLines.levelled_unit, PileRule.pile_margins}
 use Rattle.vbi_near.proofs.laws.never_beyond_79999.Goals as goal
 
 pub returns-clause-field : goal.returns-clause-field

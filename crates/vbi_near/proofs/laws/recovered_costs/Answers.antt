@@ -1,8 +1,7 @@
 use Rattle.std.proofs.Common.{List, ap, refl, sym, get_or}
 use Rattle.vbi_near.specs.declared.recovery.Recovered.{Recovered}
-use Rattle.vbi_near.proofs.Common.{unit_of}
 use Rattle.vbi_near.specs.Recovery.{field_line, row_at, are_open, stands_by}
-use Rattle.vbi_near.proofs.Ahead.{said-ahead, first-shown, other-shown}
+use Rattle.vbi_near.proofs.{Common.unit_of, Ahead.said-ahead, Ahead.first-shown, Ahead.other-shown}
 use Rattle.vbi_near.proofs.laws.recovered_costs.Goals as goal
 
 pub returns-clause-lines : goal.returns-clause-lines

@@ -1,13 +1,9 @@
 use Rattle.std.proofs.Common.{◌≡◌, ℕ, ◌*◌, ◌<◌, length, get_or, ap, subst, ◌∙◌, arith}
-use Rattle.std.proofs.lemmas.List.{length-set}
-use Rattle.std.proofs.lemmas.List.FromFn.{fill_by_all}
-use Rattle.vbi_near.proofs.Common.{width_of, samples_of}
+use Rattle.std.proofs.lemmas.{List.length-set, List.FromFn.fill_by_all}
+use Rattle.vbi_near.proofs.{Common.width_of, Common.samples_of, Counting.line-samples, Levelling.AreTo}
+use Rattle.vbi_near.proofs.{Levelling.are_more, Swings.short_bytes, Swings.scale_fits, Columns.width-few}
 use Rattle.vbi_words.proofs.Sizes.{line_bytes-twice}
-use Rattle.vbi_near.proofs.Counting.{line-samples}
 use Rattle.vbi_near.specs.LevelledLines.{window_of, swing_of, levelled_sample, levelled_at, levelled_each}
-use Rattle.vbi_near.proofs.Levelling.{AreTo, are_more}
-use Rattle.vbi_near.proofs.Swings.{short_bytes, scale_fits}
-use Rattle.vbi_near.proofs.Columns.{width-few}
 use Rattle.vbi_near.proofs.levelled_lines.level_each.Goals as goal
 
 pub slice_bounds-buffer-end : goal.slice_bounds-buffer-end

@@ -1,7 +1,6 @@
 use Rattle.std.proofs.Common.{◌≡◌, length}
-use Rattle.vbi_near.proofs.Common.{width_of, samples_of}
+use Rattle.vbi_near.proofs.{Common.width_of, Common.samples_of, Levelling.AreTo}
 use Rattle.vbi_near.specs.LevelledLines.{levelled_at}
-use Rattle.vbi_near.proofs.Levelling.{AreTo}
 use Rattle.vbi_near.proofs.levelled_lines.level_each.Given as goal
 
 abbrev pub invariant-loop-column : goal.invariant-loop-column

@@ -1,7 +1,7 @@
 use Rattle.std.proofs.Common.{◌≡◌, ℕ, ◌+◌, ◌-◌, min, length, get_or, ap, ◌∙◌, subst, arith}
 use Rattle.vbi_near.proofs.Common.{sample_at}
-use Rattle.vbi_near.specs.LevelledLines.{smoothed_sample}
 use Rattle.vbi_near.proofs.Levelling.{WrittenTo, smoothed_at, written_more, smoothed_all}
+use Rattle.vbi_near.specs.LevelledLines.{smoothed_sample}
 use Rattle.vbi_near.proofs.levelled_lines.smooth.Goals as goal
 
 pub loop-column-preserved : goal.loop-column-preserved

@@ -1,8 +1,6 @@
 use Rattle.std.proofs.Common.{◌≡◌, ℕ, ◌+◌, ◌-◌, get_or, subst, arith}
-use Rattle.vbi_near.proofs.Common.{samples_of}
+use Rattle.vbi_near.proofs.{Common.samples_of, Counting.line-samples, Levelling.between_sums}
 use Rattle.vbi_near.specs.LevelledLines.{sum_from}
-use Rattle.vbi_near.proofs.Counting.{line-samples}
-use Rattle.vbi_near.proofs.Levelling.{between_sums}
 use Rattle.vbi_near.proofs.levelled_lines.sum_from.Goals as goal
 
 pub bounds-line-start : goal.bounds-line-start

@@ -1,11 +1,9 @@
 use Rattle.std.proofs.Common.{◌≡◌, ℕ, ◌+◌, ◌<◌, length, get_or, set, subst, arith, get_or-set_same}
 use Rattle.std.proofs.lemmas.List.{length-set}
-use Rattle.vbi_near.proofs.Common.{width_of, samples_of}
+use Rattle.vbi_near.proofs.Levelling.{SumsTo, sums_more}
+use Rattle.vbi_near.proofs.{Common.width_of, Common.samples_of, Columns.width-few, Counting.line-samples}
 use Rattle.vbi_words.proofs.Sizes.{line_bytes-twice}
 use Rattle.vbi_line.proofs.Slicing.{sample_of}
-use Rattle.vbi_near.proofs.Columns.{width-few}
-use Rattle.vbi_near.proofs.Counting.{line-samples}
-use Rattle.vbi_near.proofs.Levelling.{SumsTo, sums_more}
 use Rattle.vbi_near.proofs.levelled_lines.sum_samples.Goals as goal
 
 pub loop-column-preserved : goal.loop-column-preserved

@@ -1,6 +1,5 @@
 use Rattle.std.proofs.Common.{◌≡◌, ◌≤◌, ◌*◌, get_or}
-use Rattle.vbi_near.proofs.Common.{samples_of}
-use Rattle.vbi_near.proofs.Levelling.{SumsTo}
+use Rattle.vbi_near.proofs.{Common.samples_of, Levelling.SumsTo}
 use Rattle.vbi_near.proofs.levelled_lines.sum_samples.Given as goal
 
 abbrev pub invariant-loop-column : goal.invariant-loop-column

@@ -1,8 +1,7 @@
 use Rattle.std.proofs.Common.{◌≡◌, ℕ, ◌+◌, ◌-◌, ◌/◌, ◌≤◌, ◌<◌, ap, ◌∙◌, sym, arith}
-use Rattle.vbi_near.proofs.Common.{samples_of}
+use Rattle.vbi_near.proofs.{Common.samples_of, Levelling.windows_more, Levelling.window_before, Levelling.window_amid}
+use Rattle.vbi_near.proofs.{Levelling.window_after, Levelling.ordered_windows, Levelling.window_inside}
 use Rattle.vbi_near.specs.LevelledLines.{window_of, first_of, end_of, window_start, sum_from, window_sum}
-use Rattle.vbi_near.proofs.Levelling.{windows_more, window_before, window_amid, window_after, ordered_windows}
-use Rattle.vbi_near.proofs.Levelling.{window_inside}
 use Rattle.vbi_near.proofs.levelled_lines.sum_windows.Goals as goal
 
 pub loop-column-preserved : goal.loop-column-preserved

@@ -1,5 +1,4 @@
-use Rattle.vbi_near.proofs.Common.{samples_of}
-use Rattle.vbi_near.proofs.Levelling.{WindowsTo}
+use Rattle.vbi_near.proofs.{Common.samples_of, Levelling.WindowsTo}
 use Rattle.vbi_near.proofs.levelled_lines.sum_windows.Given as goal
 
 abbrev pub invariant-loop-column : goal.invariant-loop-column

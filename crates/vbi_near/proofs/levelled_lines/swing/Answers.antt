@@ -1,8 +1,7 @@
 use Rattle.std.proofs.Common.{◌≡◌, ℕ, ◌-◌, ◌*◌, ◌/◌, ◌≤◌, ◌<◌, ap, ◌∙◌, arith}
-use Rattle.vbi_near.proofs.Common.{width_of, samples_of}
-use Rattle.vbi_near.specs.LevelledLines.{window_of, first_of, columns_of, off_mean, off_in, swing_of}
 use Rattle.vbi_near.proofs.Levelling.{off_more, ordered, inside}
-use Rattle.vbi_near.proofs.Columns.{width-few}
+use Rattle.vbi_near.proofs.{Common.width_of, Common.samples_of, Columns.width-few}
+use Rattle.vbi_near.specs.LevelledLines.{window_of, first_of, columns_of, off_mean, off_in, swing_of}
 use Rattle.vbi_near.proofs.levelled_lines.swing.Goals as goal
 
 pub slice_bounds-buffer-end : goal.slice_bounds-buffer-end

@@ -1,10 +1,7 @@
 use Rattle.std.proofs.Common.{◌∙◌, [], ◌∷◌}
 use Rattle.std.specs.Prelude.{◌||◌, Some}
-use Rattle.vbi_near.specs.Margins.{given_margins}
-use Rattle.vbi_near.specs.WordRule.{said_if, first_said, is_said}
-use Rattle.vbi_near.specs.Lines.{line_in}
-use Rattle.vbi_near.specs.Candidates.{given_samples, given_line}
-use Rattle.vbi_near.specs.Recovery.{is_stretched}
+use Rattle.vbi_near.specs.{Margins.given_margins, WordRule.said_if, WordRule.first_said, WordRule.is_said}
+use Rattle.vbi_near.specs.{Lines.line_in, Candidates.given_samples, Candidates.given_line, Recovery.is_stretched}
 use Rattle.vbi_near.proofs.OneSeen.{one_nears, one_stretched}
 use Rattle.vbi_near.proofs.line_rule.is_confirmed.Goals as goal
 

@@ -1,9 +1,7 @@
 use Rattle.std.proofs.Common.{◌≡◌, ℕ, true, false, ap, ◌∙◌, rules}
 use Rattle.std.specs.Prelude.{Option, Some, is_some}
-use Rattle.vbi_near.proofs.Common.{unit_of}
-use Rattle.vbi_near.specs.Margins.{given_margins}
-use Rattle.vbi_near.specs.WordRule.{unless_beyond, recovered_by, first_said}
-use Rattle.vbi_near.proofs.Asked.{first-says, other-says}
+use Rattle.vbi_near.proofs.{Common.unit_of, Asked.first-says, Asked.other-says}
+use Rattle.vbi_near.specs.{Margins.given_margins, WordRule.unless_beyond, WordRule.recovered_by, WordRule.first_said}
 use Rattle.vbi_near.proofs.line_rule.recovered_alone.Goals as goal
 
 pub returns-then-is_some : goal.returns-then-is_some

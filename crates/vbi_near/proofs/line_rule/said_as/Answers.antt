@@ -1,7 +1,5 @@
 use Rattle.std.proofs.Common.{ℕ, ap, ◌∙◌}
-use Rattle.vbi_near.specs.WordRule.{said_if}
-use Rattle.vbi_near.specs.Lines.{line_in}
-use Rattle.vbi_near.specs.Candidates.{given_line}
+use Rattle.vbi_near.specs.{WordRule.said_if, Lines.line_in, Candidates.given_line}
 use Rattle.vbi_near.proofs.Asked.{heard-says}
 use Rattle.vbi_near.proofs.line_rule.said_as.Goals as goal
 

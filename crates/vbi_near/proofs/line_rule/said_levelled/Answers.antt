@@ -1,11 +1,9 @@
 use Rattle.std.proofs.Common.{◌≡◌, ℕ, true, false, [], ◌∷◌, List, sym, ap, ◌∙◌, subst}
 use Rattle.vbi_near.proofs.Common.{Slicing, samples_of, known_but, unit_of}
-use Rattle.vbi_near.specs.LevelledLines.{levelled_unit, levelled_slicing, is_swing}
-use Rattle.vbi_near.specs.Margins.{levelled_margins}
-use Rattle.vbi_near.specs.WordRule.{said_of, said_if}
-use Rattle.vbi_near.specs.Lines.{line_in}
-use Rattle.vbi_near.specs.Candidates.{Line, Lines, HasNear, some_lines, given_line, levelled_line, has_swing}
 use Rattle.vbi_near.proofs.Asked.{none_if, says_if}
+use Rattle.vbi_near.specs.LevelledLines.{levelled_unit, levelled_slicing, is_swing}
+use Rattle.vbi_near.specs.Candidates.{Line, Lines, HasNear, some_lines, given_line, levelled_line, has_swing}
+use Rattle.vbi_near.specs.{Margins.levelled_margins, WordRule.said_of, WordRule.said_if, Lines.line_in}
 use Rattle.vbi_near.proofs.line_rule.said_levelled.Goals as goal
 
 pub returns-then-not-is_swing : goal.returns-then-not-is_swing

@@ -1,7 +1,6 @@
 use Rattle.std.proofs.Common.{inl, inr, arith, sym, subst}
 use Rattle.vbi_near.proofs.Common.{Near, codes_of, IsPlace, shades_of}
-use Rattle.vbi_near.proofs.Columns.{word-fits}
-use Rattle.vbi_near.proofs.Chosen.{near-code, lead-found}
+use Rattle.vbi_near.proofs.{Columns.word-fits, Chosen.near-code, Chosen.lead-found}
 use Rattle.vbi_near.proofs.near.near_code.Goals as goal
 
 pub returns-then-lead-eq0-clause-near : goal.returns-then-lead-eq0-clause-near

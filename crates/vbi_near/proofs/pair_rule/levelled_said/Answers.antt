@@ -1,13 +1,9 @@
-use Rattle.std.proofs.Common.{◌≡◌, true, [], ◌∷◌, refl, sym, ◌∙◌, ap, subst}
+use Rattle.std.proofs.Common.{◌≡◌, [], ◌∷◌, refl, sym, ◌∙◌, ap, subst}
 use Rattle.vbi_near.proofs.Common.{samples_of, Samples, known_but, unit_of}
-use Rattle.vbi_near.specs.declared.pair_rule.Asked.{Asked}
-use Rattle.vbi_near.specs.LevelledLines.{levelled_slicing, is_swing}
-use Rattle.vbi_near.specs.Margins.{levelled_margins}
-use Rattle.vbi_near.specs.Lines.{line_in}
-use Rattle.vbi_near.specs.Candidates.{Line, line_of, row_of, some_lines, has_swing, swing_in, are_alike, are_alike_by}
-use Rattle.vbi_near.specs.Candidates.{levelled_in}
-use Rattle.vbi_near.specs.PairRule.{HaveNear, SayInPair}
 use Rattle.vbi_near.proofs.Asked.{same_if, levelled_as, swing_each}
+use Rattle.vbi_near.specs.Candidates.{Line, line_of, row_of, some_lines, has_swing, swing_in, are_alike, are_alike_by}
+use Rattle.vbi_near.specs.{declared.pair_rule.Asked.Asked, LevelledLines.levelled_slicing, LevelledLines.is_swing}
+use Rattle.vbi_near.specs.{Margins.levelled_margins, Lines.line_in, PairRule.HaveNear, PairRule.SayInPair}
 use Rattle.vbi_near.proofs.pair_rule.levelled_said.Goals as goal
 
 pub returns : goal.returns

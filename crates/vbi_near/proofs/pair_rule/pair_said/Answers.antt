@@ -1,14 +1,8 @@
-use Rattle.std.proofs.Common.{◌≡◌, ℕ, ap, subst, rules}
+use Rattle.std.proofs.Common.{◌≡◌, ℕ, subst, rules}
 use Rattle.std.specs.Prelude.{Option, None}
-use Rattle.vbi_near.proofs.Common.{Nears, Slicing, unit_of}
-use Rattle.vbi_near.specs.declared.word_rule.PairNears.{PairNears}
-use Rattle.vbi_near.specs.Lines.{row_in, line_in}
-use Rattle.vbi_near.specs.Candidates.{given_line, given_pair}
-use Rattle.vbi_near.specs.PairRule.{SayInPair}
-use Rattle.vbi_near.specs.Silence.{HasNearIfUnlessSilent}
-use Rattle.vbi_near.specs.WordRule.{said_if}
-use Rattle.vbi_near.proofs.OneSeen.{one_near_if}
-use Rattle.vbi_near.proofs.Asked.{pair-silent}
+use Rattle.vbi_near.proofs.{Common.Nears, Common.Slicing, Common.unit_of, OneSeen.one_near_if, Asked.pair-silent}
+use Rattle.vbi_near.specs.{declared.word_rule.PairNears.PairNears, Lines.row_in, Lines.line_in, Candidates.given_line}
+use Rattle.vbi_near.specs.{Candidates.given_pair, PairRule.SayInPair, Silence.HasNearIfUnlessSilent, WordRule.said_if}
 use Rattle.vbi_near.proofs.pair_rule.pair_said.Goals as goal
 
 pub returns-then-is_silent-2 : goal.returns-then-is_silent-2

@@ -1,8 +1,7 @@
 use Rattle.std.proofs.Common.{◌≡◌, ℕ, ◌*◌, length, take, arith}
 use Rattle.std.proofs.lemmas.List.{take_all}
-use Rattle.vbi_near.proofs.Common.{most_of}
-use Rattle.vbi_near.proofs.Most.{most_of-fits}
 use Rattle.vbi_near.proofs.Counting.{added-few, added_whole, pile-added}
+use Rattle.vbi_near.proofs.{Common.most_of, Most.most_of-fits}
 use Rattle.vbi_near.proofs.pile.add_line.Goals as goal
 
 pub returns-clause-pile : goal.returns-clause-pile

@@ -1,6 +1,5 @@
 use Rattle.std.proofs.Common.{◌≡◌, length}
-use Rattle.vbi_near.proofs.Common.{most_of}
-use Rattle.vbi_near.proofs.Counting.{IsAdded}
+use Rattle.vbi_near.proofs.{Common.most_of, Counting.IsAdded}
 use Rattle.vbi_near.proofs.pile.add_line.Given as goal
 
 abbrev pub invariant-loop-column : goal.invariant-loop-column

@@ -2,8 +2,8 @@ use Rattle.std.proofs.Common.{◌≡◌, ℕ, ◌+◌, ◌∷◌, [], ◌++◌, 
 use Rattle.std.proofs.Math.ListN.{replicate}
 use Rattle.std.proofs.lemmas.List.FromFn.{map-range_with_len_more}
 use Rattle.vbi_near.proofs.Common.{width_of, line_at, samples_of, Samples, known, known_but, lines_of, IsNearWord}
-use Rattle.vbi_near.specs.Pile.{IsPileOf}
 use Rattle.vbi_near.proofs.Counting.{nothing-erased, line-samples, known_but-none}
+use Rattle.vbi_near.specs.Pile.{IsPileOf}
 use Rattle.vbi_near.proofs.pile.nearest_of_lines.Goals as goal
 
 pub loop-line-preserved : goal.loop-line-preserved

@@ -1,13 +1,10 @@
 use Rattle.std.proofs.Common.{◌≡◌, ℕ, ◌<◌, ◌∷◌, [], ◌++◌, List, true, map, take, subst, ap, sym, ◌∙◌, arith}
 use Rattle.std.proofs.lemmas.List.{take_more_set, length-set}
 use Rattle.vbi_near.proofs.Common.{samples_of, Samples, known_but, unit_of}
+use Rattle.vbi_near.proofs.{PiledRows.rows-next, PiledRows.each-swings, Asked.levelled_as}
 use Rattle.vbi_near.specs.Candidates.{Row, Line, levelled_samples, swing_in, has_swing}
-use Rattle.vbi_near.specs.Lines.{line_in_rows, row_at}
 use Rattle.vbi_near.specs.PileRule.{rows_in, are_all_alike, swing_alike}
-use Rattle.vbi_near.specs.LevelledLines.{levelled_slicing}
-use Rattle.vbi_near.specs.Pile.{IsPileOf}
-use Rattle.vbi_near.proofs.PiledRows.{rows-next, each-swings}
-use Rattle.vbi_near.proofs.Asked.{levelled_as}
+use Rattle.vbi_near.specs.{Lines.line_in_rows, Lines.row_at, LevelledLines.levelled_slicing, Pile.IsPileOf}
 use Rattle.vbi_near.proofs.pile_rule.levelled_near_of_all.Goals as goal
 
 pub loop-line-preserved : goal.loop-line-preserved

@@ -1,10 +1,7 @@
 use Rattle.std.proofs.Common.{◌≡◌, ℕ, ◌<◌, length, map, take, true}
 use Rattle.vbi_near.proofs.Common.{line_bytes}
 use Rattle.vbi_near.specs.Candidates.{levelled_samples, has_swing, swing_in}
-use Rattle.vbi_near.specs.Lines.{row_at}
-use Rattle.vbi_near.specs.PileRule.{rows_in}
-use Rattle.vbi_near.specs.LevelledLines.{levelled_slicing}
-use Rattle.vbi_near.specs.Pile.{IsPileOf}
+use Rattle.vbi_near.specs.{Lines.row_at, PileRule.rows_in, LevelledLines.levelled_slicing, Pile.IsPileOf}
 use Rattle.vbi_near.proofs.pile_rule.levelled_near_of_all.Given as goal
 
 abbrev pub invariant-loop-line : goal.invariant-loop-line

@@ -1,10 +1,7 @@
 use Rattle.std.proofs.Common.{◌≡◌, ℕ, ◌+◌, ◌∷◌, [], ◌++◌, List, map, subst, ap, sym, ◌∙◌, arith}
-use Rattle.vbi_near.proofs.Common.{Samples}
+use Rattle.vbi_near.proofs.{Common.Samples, PiledRows.rows-next}
 use Rattle.vbi_near.specs.Candidates.{Line, given_samples, HasNear, some_lines}
-use Rattle.vbi_near.specs.Lines.{row_in}
-use Rattle.vbi_near.specs.PileRule.{rows_in}
-use Rattle.vbi_near.specs.Pile.{IsPileOf}
-use Rattle.vbi_near.proofs.PiledRows.{rows-next}
+use Rattle.vbi_near.specs.{Lines.row_in, PileRule.rows_in, Pile.IsPileOf}
 use Rattle.vbi_near.proofs.pile_rule.near_of_all.Goals as goal
 
 pub loop-line-preserved : goal.loop-line-preserved

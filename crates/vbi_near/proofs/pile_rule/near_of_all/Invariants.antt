@@ -1,7 +1,5 @@
 use Rattle.std.proofs.Common.{◌≡◌, map}
-use Rattle.vbi_near.specs.Candidates.{given_samples}
-use Rattle.vbi_near.specs.PileRule.{rows_in}
-use Rattle.vbi_near.specs.Pile.{IsPileOf}
+use Rattle.vbi_near.specs.{Candidates.given_samples, PileRule.rows_in, Pile.IsPileOf}
 use Rattle.vbi_near.proofs.pile_rule.near_of_all.Given as goal
 
 abbrev pub invariant-loop-line : goal.invariant-loop-line

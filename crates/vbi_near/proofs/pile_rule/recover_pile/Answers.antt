@@ -1,9 +1,7 @@
 use Rattle.std.proofs.Common.{sym}
 use Rattle.std.specs.Prelude.{length}
-use Rattle.vbi_near.proofs.Common.{unit_of}
-use Rattle.vbi_near.specs.Candidates.{Candidates, candidates}
-use Rattle.vbi_near.specs.PileRule.{rows_in}
-use Rattle.vbi_near.proofs.PiledRows.{said-by, rows-many}
+use Rattle.vbi_near.proofs.{Common.unit_of, PiledRows.said-by, PiledRows.rows-many}
+use Rattle.vbi_near.specs.{Candidates.Candidates, Candidates.candidates, PileRule.rows_in}
 use Rattle.vbi_near.proofs.pile_rule.recover_pile.Goals as goal
 
 pub returns : goal.returns

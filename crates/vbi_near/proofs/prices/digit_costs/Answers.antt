@@ -1,6 +1,5 @@
 use Rattle.std.proofs.Common.{◌≡◌, ℕ, Bool, ◌+◌, ◌*◌, ◌/◌, ◌%◌, ◌∙◌, arith, sym, ap, length-set}
-use Rattle.vbi_near.proofs.Common.{cell_cost, digit_cost, IsDigitCost, shades_of}
-use Rattle.vbi_near.proofs.CellsAt.{set-more}
+use Rattle.vbi_near.proofs.{Common.cell_cost, Common.digit_cost, Common.IsDigitCost, Common.shades_of, CellsAt.set-more}
 use Rattle.vbi_near.proofs.prices.digit_costs.Goals as goal
 
 pub loop-value-preserved : goal.loop-value-preserved

@@ -1,11 +1,8 @@
 use Rattle.std.proofs.Common.{◌≡◌, Bool, ℕ, List, [], ◌∷◌, sym, ap, ◌∙◌, get_or, subst}
 use Rattle.vbi_near.proofs.Common.{System, Slicing, unit_of}
-use Rattle.vbi_near.specs.declared.recovery.Recovered.{Recovered}
-use Rattle.vbi_near.specs.Candidates.{Line, AreOfBoth}
-use Rattle.vbi_near.specs.Lines.{row_in}
+use Rattle.vbi_near.proofs.{SomeSeen.some_seen, SomeSeen.some_of_both, Kept.sure-shown}
 use Rattle.vbi_near.specs.Recovery.{field_line, row_reading, alone, stands_of, shown_in, IsSeen, IsRecovered, IsKept}
-use Rattle.vbi_near.proofs.SomeSeen.{some_seen, some_of_both}
-use Rattle.vbi_near.proofs.Kept.{sure-shown}
+use Rattle.vbi_near.specs.{declared.recovery.Recovered.Recovered, Candidates.Line, Candidates.AreOfBoth, Lines.row_in}
 use Rattle.vbi_near.proofs.recovery.recover_rows.Goals as goal
 
 -- what lines show keeps what was read for sure

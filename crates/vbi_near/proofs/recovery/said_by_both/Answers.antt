@@ -1,10 +1,8 @@
 use Rattle.std.proofs.Common.{◌≡◌, ℕ, true, refl, ap, ◌∙◌, rules}
 use Rattle.std.specs.Prelude.{Option, Some, is_some}
-use Rattle.vbi_near.proofs.Common.{unit_of}
-use Rattle.vbi_near.specs.Margins.{given_margins}
-use Rattle.vbi_near.specs.Recovery.{levelled_of, given_of}
+use Rattle.vbi_near.proofs.{Common.unit_of, Asked.first-says}
 use Rattle.vbi_near.specs.WordRule.{said_in, stand_of, first_said}
-use Rattle.vbi_near.proofs.Asked.{first-says}
+use Rattle.vbi_near.specs.{Margins.given_margins, Recovery.levelled_of, Recovery.given_of}
 use Rattle.vbi_near.proofs.recovery.said_by_both.Goals as goal
 
 pub returns-then-is_some-2 : goal.returns-then-is_some-2

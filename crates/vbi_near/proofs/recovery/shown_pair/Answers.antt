@@ -1,9 +1,7 @@
 use Rattle.std.proofs.Common.{◌≡◌, true, false, ◌∙◌, rules}
 use Rattle.std.specs.Prelude.{◌&&◌}
-use Rattle.vbi_near.proofs.Common.{unit_of}
-use Rattle.vbi_near.specs.Lines.{line_in}
-use Rattle.vbi_near.specs.Recovery.{is_open, shown_in}
-use Rattle.vbi_near.proofs.Asked.{pair-open, pair-shows, stands-alone}
+use Rattle.vbi_near.proofs.{Common.unit_of, Asked.pair-open, Asked.pair-shows, Asked.stands-alone}
+use Rattle.vbi_near.specs.{Lines.line_in, Recovery.is_open, Recovery.shown_in}
 use Rattle.vbi_near.proofs.recovery.shown_pair.Goals as goal
 
 pub returns-then-are_both_open : goal.returns-then-are_both_open

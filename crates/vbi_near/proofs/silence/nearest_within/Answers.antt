@@ -1,9 +1,9 @@
 use Rattle.std.proofs.Common.{ℕ, ◌+◌, ◌<◌, [], sym, subst, arith}
 use Rattle.vbi_near.proofs.Common.{Found, Sums, starts}
-use Rattle.vbi_near.specs.Silence.{IsLeadWithin}
 use Rattle.vbi_near.proofs.Unsaid.{lead_first, lead_passing, lead_looking}
-use Rattle.vbi_near.proofs.silence.nearest_within.Goals as goal
 use Rattle.vbi_near.proofs.silence.nearest_within.Goals.{then-from-limit, else-from-limit}
+use Rattle.vbi_near.specs.Silence.{IsLeadWithin}
+use Rattle.vbi_near.proofs.silence.nearest_within.Goals as goal
 
 pub loop-start-init : goal.loop-start-init
 loop-start-init c =

@@ -1,6 +1,5 @@
 use Rattle.std.proofs.Common.{ℕ, arith, length}
-use Rattle.vbi_near.proofs.CellsAt.{cut-between}
-use Rattle.vbi_near.proofs.Stretches.{paid-more}
+use Rattle.vbi_near.proofs.{CellsAt.cut-between, Stretches.paid-more}
 use Rattle.vbi_near.proofs.stretched_cells.add_half.Goals as goal
 
 pub overflow_sub-costs : goal.overflow_sub-costs

@@ -1,8 +1,7 @@
 use Rattle.std.proofs.Common.{ℕ, ◌+◌, get_or, arith, ap, subst, sym}
 use Rattle.vbi_near.proofs.Common.{Shades, stretched_row_cost, IsLeastAt, IsStartBefore, shades_of}
-use Rattle.vbi_near.proofs.Columns.{width-few}
-use Rattle.vbi_near.proofs.LeastAt.{start-more, all-starts}
 use Rattle.vbi_near.proofs.Stretches.{row-read, starts-long}
+use Rattle.vbi_near.proofs.{Columns.width-few, LeastAt.start-more, LeastAt.all-starts}
 use Rattle.vbi_near.proofs.stretched_cells.distance_by.Goals as goal
 
 pub overflow_add-costs : goal.overflow_add-costs

@@ -1,5 +1,4 @@
-use Rattle.vbi_near.proofs.Common.{shades_of}
-use Rattle.vbi_near.proofs.BestBits.{found_at_is}
+use Rattle.vbi_near.proofs.{Common.shades_of, BestBits.found_at_is}
 use Rattle.vbi_near.proofs.word_search.found_at.Goals as goal
 
 pub returns-clause-found : goal.returns-clause-found

@@ -1,6 +1,5 @@
 use Rattle.std.proofs.Common.{◌∙◌}
-use Rattle.vbi_near.proofs.Common.{shades_of}
-use Rattle.vbi_near.proofs.HalvedRows.{halved-by}
+use Rattle.vbi_near.proofs.{Common.shades_of, HalvedRows.halved-by}
 use Rattle.vbi_near.proofs.line_search.Sought.nears.Goals as goal
 
 pub returns : goal.returns

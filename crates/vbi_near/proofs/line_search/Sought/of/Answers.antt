@@ -1,9 +1,6 @@
 use Rattle.std.proofs.Common.{refl, sym, ◌∙◌}
 use Rattle.std.specs.Prelude.{None}
-use Rattle.vbi_near.proofs.Common.{Shades, shades_of}
-use Rattle.vbi_near.proofs.Costs.{blank-cost}
-use Rattle.vbi_near.proofs.HalvedRows.{halved-by}
-use Rattle.vbi_near.proofs.Piles.{far-same}
+use Rattle.vbi_near.proofs.{Common.Shades, Common.shades_of, Costs.blank-cost, HalvedRows.halved-by, Piles.far-same}
 use Rattle.vbi_near.proofs.line_search.Sought.of.Goals as goal
 
 pub returns-clause-word : goal.returns-clause-word

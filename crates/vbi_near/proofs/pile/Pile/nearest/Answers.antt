@@ -1,5 +1,4 @@
-use Rattle.vbi_near.proofs.Common.{IsNearWord}
-use Rattle.vbi_near.proofs.PileOf.{by_lines}
+use Rattle.vbi_near.proofs.{Common.IsNearWord, PileOf.by_lines}
 use Rattle.vbi_near.proofs.pile.Pile.nearest.Goals as goal
 
 pub returns-clause-nearest : goal.returns-clause-nearest

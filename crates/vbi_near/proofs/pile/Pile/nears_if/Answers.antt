@@ -1,8 +1,7 @@
 use Rattle.std.proofs.Common.{ap, subst, sym, ◌∙◌}
 use Rattle.vbi_near.proofs.Common.{System, Slicing, Sums, Shades, shades, IsRowOf}
-use Rattle.vbi_near.specs.Candidates.{some_lines}
-use Rattle.vbi_near.specs.Silence.{HasNearUnlessSilent}
 use Rattle.vbi_near.proofs.PileOf.{by_lines}
+use Rattle.vbi_near.specs.{Candidates.some_lines, Silence.HasNearUnlessSilent}
 use Rattle.vbi_near.proofs.pile.Pile.nears_if.Goals as goal
 
 pub returns : goal.returns

@@ -1,6 +1,5 @@
 use Rattle.std.proofs.Common.{ℕ, List, [], refl, subst, sym, take, replicate}
-use Rattle.vbi_near.proofs.Common.{AreFew, IsPile, shades}
-use Rattle.vbi_near.proofs.Counting.{few-empty, pile-empty}
+use Rattle.vbi_near.proofs.{Common.AreFew, Common.IsPile, Common.shades, Counting.few-empty, Counting.pile-empty}
 use Rattle.vbi_near.proofs.pile.Pile.new.Goals as goal
 
 pub invariant_of-result-clause-dark : goal.invariant_of-result-clause-dark

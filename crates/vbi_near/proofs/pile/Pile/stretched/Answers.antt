@@ -1,5 +1,4 @@
-use Rattle.vbi_near.proofs.Common.{IsStretched}
-use Rattle.vbi_near.proofs.PileOf.{by_lines}
+use Rattle.vbi_near.proofs.{Common.IsStretched, PileOf.by_lines}
 use Rattle.vbi_near.proofs.pile.Pile.stretched.Goals as goal
 
 pub returns : goal.returns

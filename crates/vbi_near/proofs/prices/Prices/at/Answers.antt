@@ -1,6 +1,5 @@
-use Rattle.vbi_near.proofs.Common.{shades_of}
+use Rattle.vbi_near.proofs.{Common.shades_of, Priced.priced}
 use Rattle.std.proofs.Common.{arith}
-use Rattle.vbi_near.proofs.Priced.{priced}
 use Rattle.vbi_near.proofs.prices.Prices.at.Goals as goal
 
 pub returns-clause-prices : goal.returns-clause-prices
