@@ -47,6 +47,6 @@ module _ (number : ℕ → ℕ) (called : Called) (begin last : ℕ) (is : IsJud
     clean_whole =
         let (found, finds, e) = found_on called false is.answered at_video none_on_both in
         e ∙ ap side_for_c (called_whole called.siding.numbering number called.seen begin last run.read.each
-          run.read.others
+        run.read.others
         run.three (λ p inside. (run.keeps p inside).0) called.numbers answers called.may_end called.ends
         is.clean.begun is.clean.ended is.clean.unpadded found called.old called.new finds)

@@ -15,7 +15,8 @@ ghost use Rattle.vbi_c.specs.Statuses.{Answers};
 
 use crate::judging::{are_as_long, with_lengths};
 use crate::numbers::{
-    LdvbiClock, both_by, clock_for_c, clock_given, counted_of, pace_given, reasons_for_c, verdict_for_c,
+    LdvbiClock, both_by, clock_for_c, clock_given, counted_of, pace_given, reasons_for_c,
+    verdict_for_c,
 };
 use crate::status::{DONE, Refusal, Settled, answer};
 use vbi_side::{Clock, Number, Pace, Sightings};
@@ -174,7 +175,8 @@ pub extern "C" fn ldvbi_judge_side(
     ensures judges { Answers (siding_by rule.now
         (are_as_long (length seen.now) (length numbers.now) (length ends.now))) result
         (λ siding. (found : Finding) × IsFinding (judged_by siding rule.now.both seen.now numbers.now ends.now)
-        (may_end_by may_end) found gaps.old gaps.new × (side.new ≡ side_for_c found)) ((gaps.new ≡ gaps.old) × (side.new ≡ side.old)) }
+        (may_end_by may_end) found gaps.old gaps.new × (side.new ≡ side_for_c found))
+        ((gaps.new ≡ gaps.old) × (side.new ≡ side.old)) }
 {
     let fit = are_as_long(seen.len(), numbers.len(), ends.len());
     match siding_with(rule, clock_given(&rule.clock), fit) {

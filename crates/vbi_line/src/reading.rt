@@ -9,8 +9,8 @@ ghost use Rattle.vbi_words.specs.Smooth.{smooth_of};
 ghost use Rattle.vbi_line.specs.Line.{IsFull, KeepsBytes};
 ghost use Rattle.vbi_line.specs.OneReading.{ReadsLine, reading_of};
 
-use crate::decoder::Decoder;
 use crate::bytes_to_levels::slice_into;
+use crate::decoder::Decoder;
 use crate::lanes::slice_lanes;
 use crate::line::LineBuf;
 use crate::outcome::find_outcome;

@@ -1,10 +1,10 @@
 //! Lines at the limits of the two systems' half cells: a single half cell has 11 to 18 columns (NTSC) or 14 to 22
 //! (PAL), a double one 22 to 36 or 28 to 44.
 
-use crate::lines::NumberedOutcome::{Blank, Change, Hold, Unfinished, Word};
 use crate::cases::Shape::{Drawn, Least, Run, Runs};
 use crate::cases::Turned::{High, Low, Nothing};
 use crate::cases::{Clear, Glitch, are_clear, are_read};
+use crate::lines::NumberedOutcome::{Blank, Change, Hold, Unfinished, Word};
 use std::test::Fail;
 use vbi_words::System::{Ntsc, Pal};
 

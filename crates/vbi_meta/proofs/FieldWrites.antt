@@ -94,7 +94,11 @@ is_written system slicing rows marks field small short is =
 pub rows_written : (system : System) (slicing : Slicing) (z : List ℕ) (i r : ℕ) (marks : List Bool)
     → slicing.white < 65536
     → let rows : FieldRows
-    = record { first = line_at system z i r; second = line_at system z i (r + 1); third = line_at system z i (r + 2) } in
+    = record {
+      first = line_at system z i r;
+      second = line_at system z i (r + 1);
+      third = line_at system z i (r + 2);
+    } in
     IsWritten slicing (recovered_without system slicing rows marks)
 rows_written system slicing z i r marks small =
     let short = short_row system z i in

@@ -15,8 +15,8 @@ loop-row-init g c = record {
   pulled = start _ g.R.Read.remaining _ c.args.config.now c.args.intake.now c.args.outlet.now c.put.new.outlet
       c.new-progress.result c.as_str.result.now c.requires.intake c.requires.outlet
       (c.as_str.ensures.value ∙ c.head.ensures) c.as_str.ensures.fits c.in_ok-put.ensures.puts
-      c.in_ok-put.ensures.ok c.in_ok-put.ensures.serves.no_error c.in_ok-put.ensures.serves.same c.new-progress.ensures.fields
-      c.new-progress.ensures.row c.new-progress.ensures.readings;
+      c.in_ok-put.ensures.ok c.in_ok-put.ensures.serves.no_error c.in_ok-put.ensures.serves.same
+      c.new-progress.ensures.fields c.new-progress.ensures.row c.new-progress.ensures.readings;
   long = refl;
   holds = λ keeps. holds_none c.args.config.now _ _ _ _ c.new-progress.ensures.row;
 }
@@ -24,8 +24,8 @@ loop-row-init g c = record {
 pub returns-in_err-put-clause-run : goal.returns-in_err-put-clause-run
 returns-in_err-put-clause-run g c =
     head_fault _ g.R.Read.remaining _ c.args.config.now c.args.intake.now _ _ c.as_str.result.now c.requires.intake
-    c.requires.outlet (c.as_str.ensures.value ∙ c.head.ensures) c.in_err-put.ensures.puts c.in_err-put.ensures.serves.failed
-    c.in_err-put.ensures.short c.from_residual.result (search rules)
+    c.requires.outlet (c.as_str.ensures.value ∙ c.head.ensures) c.in_err-put.ensures.puts
+    c.in_err-put.ensures.serves.failed c.in_err-put.ensures.short c.from_residual.result (search rules)
 
 pub loop-row-preserved : goal.loop-row-preserved
 loop-row-preserved g c =
