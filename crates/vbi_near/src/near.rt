@@ -74,7 +74,7 @@ pub struct Nears {
     pub code_halved: u32,
 }
 
-/// No word: the row of none is so far, and that of the nearest word as far as `rival`.
+/// No word: the row of none is so far, and the nearest other row as far as `rival`.
 fn no_word(distance: u32, rival: u32) -> Near
     ensures { result ≡ no_word distance rival }
 {
