@@ -15,7 +15,7 @@ use Rattle.vbi_c.specs.declared.whole_side.LdvbiSideRule.{LdvbiSideRule}
 use Rattle.vbi_c.specs.declared.whole_side.Siding.{Siding}
 use Rattle.vbi_c.specs.declared.status.Refusal.{Refusal}
 use Rattle.vbi_c.specs.declared.status.Refusal.TheVariants.{Counted, Pace, Clock}
-use Rattle.vbi_c.specs.Numbers.{system_of, counted_of, pace_given, both_by, clock_given}
+use Rattle.vbi_c.specs.Numbers.{system_of, counted_of, pace_given, both_by, clock_given, verdict_for_c, reasons_for_c}
 use Rattle.vbi_c.specs.Statuses.{in_turn}
 use Rattle.vbi_c.specs.Judging.{with_lengths}
 use Rattle.vbi_whole.specs.Gaps.{Judged, to_judge, rule_by, has_clock}
