@@ -20,7 +20,7 @@ use Rattle.vbi_seek.specs.NumberLeads.{Tells, number_spots}
 use Rattle.vbi_seek.specs.Spots.{Leads}
 use Rattle.vbi_seek.specs.NumberSearch.{Numbers, shown_at, shown_of}
 use Rattle.vbi_seek.specs.NumberSpots.{TellsFrom}
-use Rattle.vbi_seek.proofs.ChapterPlaces.{at as field_at}
+use Rattle.vbi_seek.proofs.Shown.{at as field_at}
 use Rattle.vbi_seek.proofs.Tellers.{told_other, first_told}
 
 -- what this many fields from this one on show

@@ -27,7 +27,7 @@ use Rattle.vbi_seek.specs.declared.asked.Asked.TheVariants.{Given, Found}
 use Rattle.vbi_c.specs.Judging.{IsGiven}
 use Rattle.vbi_seek.specs.NumberLeads.{IsFirstKnown}
 use Rattle.vbi_seek.specs.NumberSearch.{Numbers, shown_at, shown_of, around_most, HasOther, IsJudgedIn}
-use Rattle.vbi_seek.proofs.ChapterPlaces.{at as field_at}
+use Rattle.vbi_seek.proofs.Shown.{at as field_at}
 use Rattle.vbi_c.proofs.CleanLeading.{part, inside, two_more, in_part, part_twice}
 
 -- of times the pace is that of video
