@@ -1,9 +1,8 @@
 //! Completing the times of fields of which line 16 alone was read.
 
 ghost use Rattle.std.specs.Prelude.{◌≡◌, ◌<◌, length, map};
-ghost use Rattle.vbi_c.specs.Judging.{lines_in, seen_in};
 ghost use Rattle.vbi_c.specs.Completing.{completing_of, times_of, with_time, IsCompletedField, AreCompleted};
-ghost use Rattle.vbi_c.specs.Statuses.{Answers};
+ghost use Rattle.vbi_c.specs.{Judging.lines_in, Judging.seen_in, Statuses.Answers};
 
 use crate::judging::{Asked, Judging, are_as_long, see_all, shown_by, with_lengths};
 use crate::reading::{LdvbiFieldReadings, LdvbiReading};

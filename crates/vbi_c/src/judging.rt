@@ -2,12 +2,10 @@
 
 ghost use Rattle.std.specs.Prelude.{◌≡◌, ◌<◌, ◌≤◌, ◌==◌, length, map, Some, None, Ok};
 ghost use Rattle.vbi_side.specs.declared.pace.Pace as paces;
-ghost use Rattle.vbi_side.specs.Numbers.{IsFirst};
-ghost use Rattle.vbi_side.specs.Parts.{part_most};
+ghost use Rattle.vbi_side.specs.{Numbers.IsFirst, Parts.part_most};
 ghost use Rattle.vbi_c.specs.Judging.{judging_of, shown_by, seen_in, AreJudged, are_as_long, with_lengths, with_pace};
 ghost use Rattle.vbi_c.specs.Judging.{IsAskedPace, one_judging_of, IsJudgedField};
-ghost use Rattle.vbi_c.specs.Numbers.{system_of, counted_of, pace_for_c};
-ghost use Rattle.vbi_c.specs.Statuses.{Answers};
+ghost use Rattle.vbi_c.specs.{Numbers.system_of, Numbers.counted_of, Numbers.pace_for_c, Statuses.Answers};
 
 use crate::numbers::{asked_of, counted_of, pace_for_c, pace_given, system_of};
 use crate::reading::{LdvbiFieldReadings, LdvbiReading};

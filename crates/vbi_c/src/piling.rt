@@ -3,11 +3,9 @@
 ghost use Rattle.std.specs.Prelude.{◌≡◌, ◌<◌, length, ◌*◌, ◌≤◌, ◌+◌, ◌/◌, ◌==◌, take, drop, IfOk, IsTrue};
 ghost use Rattle.std.specs.List.{list_all};
 ghost use Rattle.vbi_words.specs.Geometry.{line_bytes, width_of};
-ghost use Rattle.vbi_c.specs.Nearest.{near_for_c, IsNearestOf};
-ghost use Rattle.vbi_c.specs.Setups.{lines_setup};
-ghost use Rattle.vbi_c.specs.Statuses.{Answers};
-ghost use Rattle.vbi_c.specs.Erased.{is_code_line, is_taken};
 ghost use Rattle.vbi_c.specs.Piling.{is_list_of, pile_setup, IsWordOf, HasMarks, rows_erased};
+ghost use Rattle.vbi_c.specs.{Nearest.near_for_c, Nearest.IsNearestOf, Setups.lines_setup, Statuses.Answers};
+ghost use Rattle.vbi_c.specs.{Erased.is_code_line, Erased.is_taken};
 
 use crate::erased::{FIRST_LINE, LdvbiErased, is_code_line, is_taken, mark_field};
 use crate::recovering::WIDEST;

@@ -1,8 +1,7 @@
 //! The plan of a file made from several captures, as C asks about it.
 
 ghost use Rattle.std.specs.Prelude.{◌≡◌};
-ghost use Rattle.vbi_c.specs.Plans.{layout_of, checked_for_c, IsChecked};
-ghost use Rattle.vbi_c.specs.Statuses.{Answers};
+ghost use Rattle.vbi_c.specs.{Plans.layout_of, Plans.checked_for_c, Plans.IsChecked, Statuses.Answers};
 
 use crate::numbers::{LdvbiClock, clock_given, rule_for_c, spacing_given};
 use crate::status::{DONE, Refusal, Settled};

@@ -3,9 +3,8 @@
 ghost use Rattle.std.specs.Prelude.{◌≡◌, ◌+◌, ◌*◌, ◌≤◌, length};
 ghost use Rattle.vbi_words.specs.Geometry.{line_bytes, field_bytes, line_at};
 ghost use Rattle.vbi_c.specs.Readings.{outcome_for_c, line_reading, three_rows, rows_reading, field_reading};
-ghost use Rattle.vbi_c.specs.Readings.{fields_reading};
-ghost use Rattle.vbi_c.specs.Setups.{line_setup, rows_setup, fields_setup};
-ghost use Rattle.vbi_c.specs.Statuses.{Answers};
+ghost use Rattle.vbi_c.specs.{Readings.fields_reading, Setups.line_setup, Setups.rows_setup, Setups.fields_setup};
+ghost use Rattle.vbi_c.specs.{Statuses.Answers};
 
 use crate::setup::{Setup, fields_setup, line_setup, rows_setup};
 use crate::status::{DONE, answer};

@@ -2,12 +2,9 @@
 
 ghost use Rattle.std.specs.Prelude.{◌≡◌, ◌*◌, ◌<◌, ◌≤◌, ◌++◌, length, drop, IsTrue};
 ghost use Rattle.vbi_words.specs.Geometry.{line_bytes, field_bytes, width_of};
-ghost use Rattle.vbi_c.specs.Erased.{is_taken, with_erased, erased_of};
-ghost use Rattle.vbi_c.specs.Readings.{field_in};
-ghost use Rattle.vbi_c.specs.Recovering.{recovered_for_c, AreRecovered, code_bytes, AreAllRecovered};
-ghost use Rattle.vbi_c.specs.Recovering.{HasText, record_text_of};
-ghost use Rattle.vbi_c.specs.Setups.{rows_setup, fields_setup};
-ghost use Rattle.vbi_c.specs.Statuses.{Answers};
+ghost use Rattle.vbi_c.specs.Recovering.{recovered_for_c, AreRecovered, code_bytes, AreAllRecovered, HasText};
+ghost use Rattle.vbi_c.specs.{Erased.is_taken, Erased.with_erased, Erased.erased_of, Readings.field_in};
+ghost use Rattle.vbi_c.specs.{Recovering.record_text_of, Setups.rows_setup, Setups.fields_setup, Statuses.Answers};
 
 use crate::erased::{LdvbiErased, mark_field, with_erased};
 use crate::reading::{FIRST_ROW, LdvbiFieldReadings, LdvbiReading, outcome_for_c};

@@ -2,16 +2,10 @@
 
 ghost use Rattle.std.specs.Prelude.{◌≡◌};
 ghost use Rattle.vbi_seek.specs.declared.number_search.Sought as numbers;
-ghost use Rattle.vbi_seek.specs.ChapterLeads.{IsChapterComplete};
-ghost use Rattle.vbi_seek.specs.ChapterSearch.{IsChapterSought};
-ghost use Rattle.vbi_seek.specs.FieldLines.{side_in};
-ghost use Rattle.vbi_seek.specs.NumberLeads.{IsComplete};
-ghost use Rattle.vbi_seek.specs.Neighbours.{AreBeside};
-ghost use Rattle.vbi_seek.specs.NumberSearch.{IsSought};
-ghost use Rattle.vbi_seek.specs.StopSearch.{IsNextStop};
-ghost use Rattle.vbi_c.specs.Seeking.{seek_of, sought_for_c};
-ghost use Rattle.vbi_c.specs.Setups.{setup_of};
-ghost use Rattle.vbi_c.specs.Statuses.{Answers};
+ghost use Rattle.vbi_seek.specs.{ChapterLeads.IsChapterComplete, ChapterSearch.IsChapterSought, FieldLines.side_in};
+ghost use Rattle.vbi_seek.specs.{NumberLeads.IsComplete, Neighbours.AreBeside, NumberSearch.IsSought};
+ghost use Rattle.vbi_seek.specs.{StopSearch.IsNextStop};
+ghost use Rattle.vbi_c.specs.{Seeking.seek_of, Seeking.sought_for_c, Setups.setup_of, Statuses.Answers};
 
 use crate::judging::with_pace;
 use crate::numbers::{asked_of, pace_for_c};

@@ -3,15 +3,11 @@
 ghost use Rattle.std.specs.Prelude.{◌≡◌, ◌≤◌, ◌-◌, ◌==◌, length};
 ghost use Rattle.vbi_side.specs.declared.clock.Clock as clocks;
 ghost use Rattle.vbi_side.specs.declared.pace.Pace as paces;
-ghost use Rattle.vbi_whole.specs.declared.verdict.Finding.{Finding};
-ghost use Rattle.vbi_whole.specs.AsideNumbers.{AreLeft};
-ghost use Rattle.vbi_whole.specs.Gaps.{rule_by};
-ghost use Rattle.vbi_whole.specs.Verdicts.{IsFinding, count_of};
-ghost use Rattle.vbi_c.specs.Judging.{are_as_long};
-ghost use Rattle.vbi_c.specs.Numbers.{both_for_c, may_end_by, clock_for_c};
+ghost use Rattle.vbi_whole.specs.{declared.verdict.Finding.Finding, AsideNumbers.AreLeft, Gaps.rule_by};
+ghost use Rattle.vbi_whole.specs.{Verdicts.IsFinding, Verdicts.count_of};
 ghost use Rattle.vbi_c.specs.WholeSides.{siding_by, siding_with, numbering_of, slack_by, judged_by, side_for_c};
-ghost use Rattle.vbi_c.specs.WholeSides.{IsClockFound};
-ghost use Rattle.vbi_c.specs.Statuses.{Answers};
+ghost use Rattle.vbi_c.specs.{Judging.are_as_long, Numbers.both_for_c, Numbers.may_end_by, Numbers.clock_for_c};
+ghost use Rattle.vbi_c.specs.{WholeSides.IsClockFound, Statuses.Answers};
 
 use crate::judging::{are_as_long, with_lengths};
 use crate::numbers::{

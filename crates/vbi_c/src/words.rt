@@ -1,14 +1,10 @@
 //! The codes of words, the format of a field by its words, and the drawing of a line with one.
 
 ghost use Rattle.std.specs.Prelude.{◌≡◌, ◌≢◌, ◌↔◌, ◌<◌, length, IfOk};
-ghost use Rattle.vbi_words.specs.Codes.{code_of};
-ghost use Rattle.vbi_words.specs.Formats.{format_of_lines};
-ghost use Rattle.vbi_words.specs.Words.{IsWord, IsWordOrNone};
-ghost use Rattle.vbi_words.specs.Drawn.{drawn_line_of, drawn_reading};
-ghost use Rattle.vbi_c.specs.Numbers.{three_words, code_for_c, format_for_c};
-ghost use Rattle.vbi_c.specs.Statuses.{Answers};
-ghost use Rattle.vbi_c.specs.Readings.{line_reading, reading_for_c};
-ghost use Rattle.vbi_c.specs.Setups.{drawing_of};
+ghost use Rattle.vbi_words.specs.{Codes.code_of, Formats.format_of_lines, Words.IsWord, Words.IsWordOrNone};
+ghost use Rattle.vbi_words.specs.{Drawn.drawn_line_of, Drawn.drawn_reading};
+ghost use Rattle.vbi_c.specs.{Numbers.three_words, Numbers.code_for_c, Numbers.format_for_c, Statuses.Answers};
+ghost use Rattle.vbi_c.specs.{Readings.line_reading, Readings.reading_for_c, Setups.drawing_of};
 
 use crate::numbers::{LdvbiCode, code_for_c, format_for_c, word_or_none};
 use crate::setup::{Setup, line_setup};

@@ -2,12 +2,11 @@
 ghost use Rattle.std.specs.Prelude.{◌≡◌, ◌+◌, ◌-◌, ◌*◌, ◌^◌, ◌≤◌, None, length, OnOk, OnErr, IfErr};
 ghost use Rattle.vbi_words.specs.Drawn.{drawn_line_of};
 ghost use Rattle.vbi_line.specs.Counted.{tries, failures_of, IsSameDevice};
-ghost use Rattle.vbi_field.specs.ConfigView.{most_rows};
-ghost use Rattle.vbi_field.specs.Outlet as outlets;
 ghost use Rattle.vbi_field.specs.Outlet.{written_of, CountedUpTo, Serves, Wrote, WrotePart};
+ghost use Rattle.vbi_field.specs.{ConfigView.most_rows, Ran.over, Draws.drawn_field_of, Draws.word_at};
+ghost use Rattle.vbi_field.specs.{Draws.RunsDrawing};
+ghost use Rattle.vbi_field.specs.Outlet as outlets;
 ghost use Rattle.vbi_field.specs.RowIntake as intakes;
-ghost use Rattle.vbi_field.specs.Ran.{over};
-ghost use Rattle.vbi_field.specs.Draws.{drawn_field_of, word_at, RunsDrawing};
 
 use crate::config::Config;
 use crate::outlet::Outlet;

@@ -21,11 +21,10 @@
 ghost use Rattle.std.specs.Prelude.{◌≡◌, ◌≢◌, ℕ, List, ◌+◌, ◌*◌, ◌^◌, ◌<◌, ◌≤◌, ◌↔◌, [], ◌++◌, length, take};
 ghost use Rattle.std.specs.Prelude.{IsTrue, OnOk, OnErr, IfOk, IfErr, Err};
 ghost use Rattle.vbi_words.specs.Geometry.{width_of, line_bytes};
-ghost use Rattle.vbi_line.specs.Line.{IsFull, KeepsPasses};
-ghost use Rattle.vbi_field.specs.Document.{head_of};
+ghost use Rattle.vbi_line.specs.{Line.IsFull, Line.KeepsPasses, Counted.NoError, Counted.IsSameDevice};
 ghost use Rattle.vbi_field.specs.Feed.{IsAt, IsFeedFault, IsFeederState, IsStep, position_in};
-ghost use Rattle.vbi_line.specs.Counted.{NoError, IsSameDevice};
 ghost use Rattle.vbi_field.specs.Outlet.{counted_of, written_of, CountedUpTo, IsFresh, Rises, Serves, WrotePart};
+ghost use Rattle.vbi_field.specs.Document.{head_of};
 
 use crate::config::Config;
 use crate::document::Document;

@@ -10,17 +10,15 @@ ghost use Rattle.vbi_field.specs.Texts.{picture_field, time_field, second_pass_f
 ghost use Rattle.vbi_field.specs.RecoveredRows.{IsNearRow, near_of, recovery_of, as_readings};
 ghost use Rattle.vbi_field.specs.RecoveredDocument.{FieldRecovered, RowsRecover, recovered_without};
 ghost use Rattle.vbi_field.specs.RecoveredDocument.{recovered_record_of, Near, Recovered};
-ghost use Rattle.vbi_field.specs.Report.{recovered_entry_of};
-ghost use Rattle.vbi_words.specs.declared.outcome.Outcome.TheVariants.{Word, Blank, Change};
-ghost use Rattle.vbi_near.specs.Candidates.{Row};
-ghost use Rattle.vbi_near.specs.Recovery.{IsRecovered};
-ghost use Rattle.vbi_field.specs.Extracts.{EndsWithin, ExtractsAll};
-ghost use Rattle.vbi_field.specs.Feed.{StandsAt, IsFed, FeedsAll, Pushes, Feeding};
 ghost use Rattle.vbi_field.specs.Ran.{IsFirstOf, Consumes, IsAtEnd, RunFault, Summary};
 ghost use Rattle.vbi_field.specs.ConfigView.{ConfigView, width_of, field_bytes, Ntsc, Pal, System, Slicing};
-ghost use Rattle.vbi_field.specs.Stream.{fields_of, rest_of, looks_of, FieldRows};
-ghost use Rattle.vbi_field.specs.WordRows.{IsWordRow, AreRows, word_row_of, WordRow};
 ghost use Rattle.vbi_field.specs.Draws.{draw_out, AreDrawable, drawn_readings, drawn_text};
+ghost use Rattle.vbi_field.specs.{Report.recovered_entry_of, Extracts.EndsWithin, Extracts.ExtractsAll, Feed.StandsAt};
+ghost use Rattle.vbi_field.specs.{Feed.IsFed, Feed.FeedsAll, Feed.Pushes, Feed.Feeding, Stream.fields_of};
+ghost use Rattle.vbi_field.specs.{Stream.rest_of, Stream.looks_of, Stream.FieldRows, WordRows.IsWordRow};
+ghost use Rattle.vbi_field.specs.{WordRows.AreRows, WordRows.word_row_of, WordRows.WordRow};
+ghost use Rattle.vbi_words.specs.declared.outcome.Outcome.TheVariants.{Word, Blank, Change};
+ghost use Rattle.vbi_near.specs.{Candidates.Row, Recovery.IsRecovered};
 
 use std::io::Write;
 

@@ -7,9 +7,7 @@ ghost use Rattle.vbi_words.specs.Geometry.{line_bytes, width_of};
 ghost use Rattle.vbi_near.specs.Candidates.{row_of};
 ghost use Rattle.vbi_field.specs.RecoveredDocument.{cause_line, cause_lines, hundredths, near_text_of, nears_text_of};
 ghost use Rattle.vbi_field.specs.RecoveredDocument.{recovered_record_of, recovered_without, record_with, word_or_zero};
-ghost use Rattle.vbi_field.specs.RecoveredRows.{near_of};
-ghost use Rattle.vbi_field.specs.Stream.{readings_of, rows_in};
-ghost use Rattle.vbi_field.specs.Texts.{recovered_document};
+ghost use Rattle.vbi_field.specs.{RecoveredRows.near_of, Stream.readings_of, Stream.rows_in, Texts.recovered_document};
 
 use crate::config::Config;
 use crate::document::{causes_text, data_text, head_text, passes_text, tail_text};

@@ -2,8 +2,7 @@
 
 ghost use Rattle.std.specs.Prelude.{◌≡◌, ◌*◌, IsTrue, length};
 ghost use Rattle.vbi_words.specs.Geometry.{line_bytes, width_of};
-ghost use Rattle.vbi_near.specs.Candidates.{row_of};
-ghost use Rattle.vbi_near.specs.Recovery.{IsSureBy, none_erased};
+ghost use Rattle.vbi_near.specs.{Candidates.row_of, Recovery.IsSureBy, Recovery.none_erased};
 ghost use Rattle.vbi_field.specs.RecoveredRows.{as_readings, near_of, reading_as, recovery_of};
 ghost use Rattle.vbi_field.specs.Stream.{readings_of, rows_in};
 

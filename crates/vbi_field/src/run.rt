@@ -4,14 +4,12 @@
 //! kinds with recovered words keep the bytes of rows 15, 16 and 17 besides, in room that their caller here has; the
 //! other two have no such room.
 ghost use Rattle.std.specs.Prelude.{◌≡◌, ◌⊎◌, ◌+◌, ◌*◌, ◌^◌, ◌<◌, ◌≤◌, ◌++◌, [], length, take, drop, IsTrue, IfErr};
-ghost use Rattle.vbi_line.specs.Counted.{failures_of, IsSameDevice};
+ghost use Rattle.vbi_line.specs.{Counted.failures_of, Counted.IsSameDevice, Intake.fetched_of, Intake.held_of};
+ghost use Rattle.vbi_line.specs.{Intake.line_of, Intake.IsFresh};
 ghost use Rattle.vbi_line.specs.Intake as intakes;
-ghost use Rattle.vbi_line.specs.Intake.{fetched_of, held_of, line_of, IsFresh};
-ghost use Rattle.vbi_field.specs.Ran.{over};
-ghost use Rattle.vbi_field.specs.Extracts.{Runs, TakesLine, EndsAtLimit};
 ghost use Rattle.vbi_field.specs.Texts.{document, recovered_document, report, recovered_report};
-ghost use Rattle.vbi_field.specs.Progress.{HoldsOn};
-ghost use Rattle.vbi_field.specs.ConfigView.{most_fields, height_of, line_bytes};
+ghost use Rattle.vbi_field.specs.{Ran.over, Extracts.Runs, Extracts.TakesLine, Extracts.EndsAtLimit, Progress.HoldsOn};
+ghost use Rattle.vbi_field.specs.{ConfigView.most_fields, ConfigView.height_of, ConfigView.line_bytes};
 ghost use Rattle.vbi_field.specs.Outlet as outlets;
 
 use crate::config::Config;

@@ -1,11 +1,9 @@
 //! The texts of a stream, of either kind, and how they are written.
 ghost use Rattle.std.specs.Prelude.{◌≡◌, ◌+◌, ◌-◌, ◌*◌, ◌^◌, Bool, IsTrue, ◌<◌, ◌≤◌, length, OnOk, OnErr, IfOk, IfErr};
 ghost use Rattle.vbi_field.specs.Texts as kinds;
-ghost use Rattle.vbi_field.specs.ConfigView.{most_fields, line_bytes};
-ghost use Rattle.vbi_field.specs.Extracts.{PutsTail};
 ghost use Rattle.vbi_field.specs.Outlet.{counted_of, written_of, CountedUpTo, Puts, Serves, IsSameDevice};
-ghost use Rattle.vbi_field.specs.Stream.{readings_of, rows_in, FieldRows};
-ghost use Rattle.vbi_field.specs.Texts.{joined_entry_of};
+ghost use Rattle.vbi_field.specs.{ConfigView.most_fields, ConfigView.line_bytes, Extracts.PutsTail, Stream.readings_of};
+ghost use Rattle.vbi_field.specs.{Stream.rows_in, Stream.FieldRows, Texts.joined_entry_of};
 
 use crate::config::Config;
 use crate::outlet::Outlet;

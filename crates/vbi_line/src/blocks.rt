@@ -2,8 +2,7 @@
 
 ghost use Rattle.std.specs.Prelude.{◌≡◌, ℕ, ◌+◌, ◌*◌, ◌^◌, ◌<◌, ◌≤◌, length, map, nat_lt, slice_index};
 ghost use Rattle.vbi_words.specs.Levels.{is_high_of};
-ghost use Rattle.vbi_line.specs.Line.{sample_at};
-ghost use Rattle.vbi_line.specs.Packing.{levels_in};
+ghost use Rattle.vbi_line.specs.{Line.sample_at, Packing.levels_in};
 
 use byteorder::{ByteOrder, LittleEndian};
 use std::simd::prelude::*;

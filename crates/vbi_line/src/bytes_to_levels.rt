@@ -1,8 +1,7 @@
 //! Slicing a line into levels where its bytes lie, without a buffer of its own.
 
 ghost use Rattle.std.specs.Prelude.{◌≡◌, ◌+◌, ◌*◌, ◌^◌, ◌<◌, ◌≤◌, [], length};
-ghost use Rattle.vbi_words.specs.Geometry.{width_of, line_bytes};
-ghost use Rattle.vbi_words.specs.Levels.{row_levels};
+ghost use Rattle.vbi_words.specs.{Geometry.width_of, Geometry.line_bytes, Levels.row_levels};
 ghost use Rattle.vbi_line.specs.Packing.{TellsAbove};
 
 use crate::blocks::{LANES, bits_above, block_at, greatest_low};

@@ -30,11 +30,10 @@
 
 ghost use Rattle.std.specs.Prelude.{◌≡◌, ◌<◌, ◌^◌, ◌+◌, ◌≤◌, List, Bool, [], ◌∷◌};
 ghost use Rattle.std.specs.Prelude.{◌++◌, replicate, IfSome, IfNone, IfOk, IfErr};
-ghost use Rattle.vbi_words.specs.Words.{lowest_bits, IsWord};
-ghost use Rattle.vbi_words.specs.Outcomes.{IsOutcome};
+ghost use Rattle.vbi_words.specs.{Words.lowest_bits, Words.IsWord, Outcomes.IsOutcome};
 ghost use Rattle.vbi_words.proofs.Machine.{second, dead, level_of, length_of, grown, is_lead};
-ghost use Rattle.vbi_words.proofs.SystemMachine.{stay_of, turn_of, next_of, after_of, limit_of, ending_of};
-ghost use Rattle.vbi_words.proofs.SystemMachine.{IsFit, state_after};
+ghost use Rattle.vbi_words.proofs.SystemMachine.{stay_of, turn_of, next_of, after_of, limit_of, ending_of, IsFit};
+ghost use Rattle.vbi_words.proofs.SystemMachine.{state_after};
 ghost use Rattle.vbi_line.specs.Decoder.{state_of, IsSound, run_of, DiesAfter};
 
 use vbi_words::{Outcome, System, Word24};

@@ -1,10 +1,9 @@
 //! Reading lines from a reader, one at a time.
 
 ghost use Rattle.std.specs.Prelude.{◌≡◌, ◌+◌, ◌*◌, ◌^◌, ◌<◌, ◌≤◌, [], ◌∷◌, length, IfOk, OnOk, OnErr};
-ghost use Rattle.vbi_words.specs.Geometry.{width_of, line_bytes};
-ghost use Rattle.vbi_words.specs.Levels.{row_levels};
-ghost use Rattle.vbi_line.specs.Line.{IsFull, KeepsBytes, IsCleared};
-ghost use Rattle.vbi_line.specs.OneReading.{ReadsLine, reading_of, outcome_of};
+ghost use Rattle.vbi_words.specs.{Geometry.width_of, Geometry.line_bytes, Levels.row_levels};
+ghost use Rattle.vbi_line.specs.{Line.IsFull, Line.KeepsBytes, Line.IsCleared, OneReading.ReadsLine};
+ghost use Rattle.vbi_line.specs.{OneReading.reading_of, OneReading.outcome_of};
 
 use crate::counted::Counted;
 use crate::line::LineBuf;

@@ -15,8 +15,7 @@
 //! `specs/Line.antt` says of a block. How a sample becomes a level is said by `Levels.antt` in `vbi_words`.
 
 ghost use Rattle.std.specs.Prelude.{◌≡◌, ◌+◌, ◌^◌, ◌<◌, ◌≤◌, ◌∷◌, length};
-ghost use Rattle.vbi_words.specs.Geometry.{width_of};
-ghost use Rattle.vbi_words.specs.Levels.{row_levels};
+ghost use Rattle.vbi_words.specs.{Geometry.width_of, Levels.row_levels};
 ghost use Rattle.vbi_line.specs.Line.{IsFull, KeepsBytes};
 
 use crate::blocks::{LANES, bits_above, greatest_low};

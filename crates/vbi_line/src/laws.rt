@@ -2,12 +2,9 @@
 //! system and every list of levels.
 
 ghost use Rattle.std.specs.Prelude.{◌≡◌, List, Bool};
-ghost use Rattle.vbi_words.specs.declared.system.System.{System};
-ghost use Rattle.vbi_words.specs.declared.outcome.Outcome.{Outcome};
-ghost use Rattle.vbi_words.specs.declared.outcome.Reading.{Reading};
-ghost use Rattle.vbi_words.specs.Outcomes.{IsOutcome};
-ghost use Rattle.vbi_words.specs.Readings.{IsReading, reading_from};
-ghost use Rattle.vbi_words.specs.Smooth.{smooth_of};
+ghost use Rattle.vbi_words.specs.{declared.system.System.System, declared.outcome.Outcome.Outcome};
+ghost use Rattle.vbi_words.specs.{declared.outcome.Reading.Reading, Outcomes.IsOutcome, Readings.IsReading};
+ghost use Rattle.vbi_words.specs.{Readings.reading_from, Smooth.smooth_of};
 ghost use Rattle.vbi_line.specs.OneReading.{reading_of, outcome_of};
 
 /// A list of levels has exactly one outcome.

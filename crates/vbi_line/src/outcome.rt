@@ -1,11 +1,8 @@
 //! The outcome of a line: its word, or why it shows none.
 
 ghost use Rattle.std.specs.Prelude.{◌≡◌, ◌+◌, ◌^◌, ◌<◌, ◌≤◌, [], ◌∷◌, length};
-ghost use Rattle.vbi_words.specs.Geometry.{width_of};
-ghost use Rattle.vbi_words.specs.Levels.{row_levels};
-ghost use Rattle.vbi_words.specs.Outcomes.{IsOutcome};
-ghost use Rattle.vbi_line.specs.Line.{IsFull, KeepsBytes};
-ghost use Rattle.vbi_line.specs.OneReading.{outcome_of};
+ghost use Rattle.vbi_words.specs.{Geometry.width_of, Levels.row_levels, Outcomes.IsOutcome};
+ghost use Rattle.vbi_line.specs.{Line.IsFull, Line.KeepsBytes, OneReading.outcome_of};
 
 use crate::decoder::Decoder;
 use crate::lanes::slice_lanes;

@@ -1,13 +1,9 @@
 //! The reading of a line: its outcome, or the word that its smoothed levels show.
 
 ghost use Rattle.std.specs.Prelude.{◌≡◌, ◌+◌, ◌^◌, ◌<◌, ◌≤◌, [], ◌∷◌, length, IfSome, IfNone};
-ghost use Rattle.vbi_words.specs.Geometry.{width_of, line_bytes};
-ghost use Rattle.vbi_words.specs.Levels.{row_levels};
-ghost use Rattle.vbi_words.specs.Readings.{IsReading};
-ghost use Rattle.vbi_words.specs.Shows.{Shows, ShowsNone};
-ghost use Rattle.vbi_words.specs.Smooth.{smooth_of};
-ghost use Rattle.vbi_line.specs.Line.{IsFull, KeepsBytes};
-ghost use Rattle.vbi_line.specs.OneReading.{ReadsLine, reading_of};
+ghost use Rattle.vbi_words.specs.{Geometry.width_of, Geometry.line_bytes, Levels.row_levels, Readings.IsReading};
+ghost use Rattle.vbi_words.specs.{Shows.Shows, Shows.ShowsNone, Smooth.smooth_of};
+ghost use Rattle.vbi_line.specs.{Line.IsFull, Line.KeepsBytes, OneReading.ReadsLine, OneReading.reading_of};
 
 use crate::bytes_to_levels::slice_into;
 use crate::decoder::Decoder;

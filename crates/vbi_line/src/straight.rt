@@ -28,13 +28,9 @@
 //! tell.
 
 ghost use Rattle.std.specs.Prelude.{◌≡◌, ℕ, ◌+◌, ◌*◌, ◌/◌, ◌^◌, ◌<◌, ◌≤◌, ◌⊎◌, [], ◌∷◌, ◌++◌, true, IfSome};
-ghost use Rattle.vbi_words.specs.Geometry.{half_max};
-ghost use Rattle.vbi_words.specs.Levels.{level_at};
-ghost use Rattle.vbi_words.specs.Outcomes.{IsOutcome};
-ghost use Rattle.vbi_words.specs.Words.{lowest_bits};
-ghost use Rattle.vbi_words.specs.declared.outcome.Outcome.TheVariants.{Word};
-ghost use Rattle.vbi_line.specs.Packing.{level_of_bit, EqualBits};
-ghost use Rattle.vbi_line.specs.Straight.{IsMiddle, ReachesMiddle};
+ghost use Rattle.vbi_words.specs.{Geometry.half_max, Levels.level_at, Outcomes.IsOutcome, Words.lowest_bits};
+ghost use Rattle.vbi_words.specs.{declared.outcome.Outcome.TheVariants.Word};
+ghost use Rattle.vbi_line.specs.{Packing.level_of_bit, Packing.EqualBits, Straight.IsMiddle, Straight.ReachesMiddle};
 
 use crate::decoder::{with_bit, word_of};
 use crate::packed::{LAST_WINDOW, Packed, equal_bits};

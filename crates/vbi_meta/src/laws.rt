@@ -1,18 +1,13 @@
 //! Laws over the definitions: each function's contract is one, for every config and stream.
 
 ghost use Rattle.std.specs.Prelude.{ℕ, ◌<◌, ◌^◌, All, Bool, List, Option, Ok};
-ghost use Rattle.vbi_field.specs.ConfigView.{ConfigView, System, Slicing};
-ghost use Rattle.vbi_line.specs.Counted.{device_of};
-ghost use Rattle.vbi_line.specs.Intake.{counted_of};
-ghost use Rattle.vbi_line.specs.declared.intake.Intake.{Intake};
-ghost use Rattle.vbi_field.specs.declared.outlet.Outlet.{Outlet};
-ghost use Rattle.vbi_field.specs.declared.summary.Summary.{Summary};
-ghost use Rattle.vbi_field.specs.Ran.{over, Appends, Consumes, IsAtEnd};
-ghost use Rattle.vbi_field.specs.Extracts.{ExtractsAll, Runs};
-ghost use Rattle.vbi_field.specs.Outlet as outlets;
 ghost use Rattle.vbi_field.specs.RecoveredDocument.{recovered_record_of, recovered_without};
-ghost use Rattle.vbi_field.specs.Stream.{rows_in};
-ghost use Rattle.vbi_field.specs.Texts.{document, recovered_document, whole_text};
+ghost use Rattle.vbi_field.specs.{ConfigView.ConfigView, ConfigView.System, ConfigView.Slicing};
+ghost use Rattle.vbi_field.specs.{declared.outlet.Outlet.Outlet, declared.summary.Summary.Summary, Ran.over};
+ghost use Rattle.vbi_field.specs.{Ran.Appends, Ran.Consumes, Ran.IsAtEnd, Extracts.ExtractsAll, Extracts.Runs};
+ghost use Rattle.vbi_field.specs.{Stream.rows_in, Texts.document, Texts.recovered_document, Texts.whole_text};
+ghost use Rattle.vbi_line.specs.{Counted.device_of, Intake.counted_of, declared.intake.Intake.Intake};
+ghost use Rattle.vbi_field.specs.Outlet as outlets;
 ghost use Rattle.vbi_meta.specs.ReadBack.{IsPlainText, IsPrinted, IsReadAs, HasReadings, HasRecovered, ReadsBack};
 ghost use Rattle.vbi_meta.specs.ReadBack.{FollowsLines, FollowsRule, RecoversBack};
 ghost use Rattle.vbi_meta.specs.DocumentValue.{IsConfig, IsOfRun, document_value, recovered_value};

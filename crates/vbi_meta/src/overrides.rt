@@ -4,11 +4,10 @@ ghost use Rattle.std.specs.Prelude.{◌≡◌, ◌<◌, ◌≤◌, ◌^◌, Opti
 ghost use Rattle.std.specs.Prelude.{option_map, option_and_then};
 ghost use Rattle.serde_json.specs.View.{view};
 ghost use Rattle.vbi_field.specs.ConfigView.{most_fields};
-ghost use Rattle.vbi_meta.specs.DocumentValue.{IsConfig};
 ghost use Rattle.vbi_meta.specs.Settings.{parameters_of, member_of, named_system, flagged_system, chosen_system};
 ghost use Rattle.vbi_meta.specs.Settings.{chosen_level, chosen_limit, document_refusals, system_refusals};
 ghost use Rattle.vbi_meta.specs.Settings.{level_refusals, order_refusals, size_refusals, limit_refusals, first_refusal};
-ghost use Rattle.vbi_meta.specs.Settings.{IsRefused, IsSettled};
+ghost use Rattle.vbi_meta.specs.{DocumentValue.IsConfig, Settings.IsRefused, Settings.IsSettled};
 
 use crate::fault::MetaFault;
 use serde_json::Value;

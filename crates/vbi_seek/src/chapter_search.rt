@@ -12,13 +12,11 @@
 //! numbers for proofs.
 
 ghost use Rattle.std.specs.Prelude.{◌≡◌, ◌↔◌, ℕ, ◌+◌, ◌*◌, ◌<◌, ◌≤◌, true, length, None, IfSome};
-ghost use Rattle.vbi_side.specs.Chapters.{AreChapters};
-ghost use Rattle.vbi_side.specs.Numbers.{believed};
+ghost use Rattle.vbi_side.specs.{Chapters.AreChapters, Numbers.believed};
 ghost use Rattle.vbi_seek.specs.ChapterLeads.{IsChapterComplete, IsFirstOf, IsReached, chapter_spots};
 ghost use Rattle.vbi_seek.specs.ChapterSearch.{AreSeenBefore, BeginsAmong, IsBetween, IsChapterSought, IsWindowOf};
 ghost use Rattle.vbi_seek.specs.ChapterSearch.{around_most, before_most, placed_most, side_from, spot_most};
-ghost use Rattle.vbi_seek.specs.FieldLines.{side_of, side_in};
-ghost use Rattle.vbi_seek.specs.Spots.{IsPlaced, Leads};
+ghost use Rattle.vbi_seek.specs.{FieldLines.side_of, FieldLines.side_in, Spots.IsPlaced, Spots.Leads};
 
 use crate::halving::{LEFT, halve, sweep};
 use crate::narrowing::{Between, may_read};

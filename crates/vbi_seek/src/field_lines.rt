@@ -2,9 +2,7 @@
 
 ghost use Rattle.std.specs.Prelude.{◌≡◌, ◌*◌, ◌<◌, length};
 ghost use Rattle.vbi_words.specs.Geometry.{line_bytes};
-ghost use Rattle.vbi_side.specs.Chapters.{chapters_of};
-ghost use Rattle.vbi_side.specs.Misread.{numbers_in};
-ghost use Rattle.vbi_side.specs.Stops.{IsJudgedStop};
+ghost use Rattle.vbi_side.specs.{Chapters.chapters_of, Misread.numbers_in, Stops.IsJudgedStop};
 ghost use Rattle.vbi_seek.specs.FieldLines.{shown_as, code_bytes, field_in, side_of, recovered_at, lines_at};
 
 use crate::asked::Judging;

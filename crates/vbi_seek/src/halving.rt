@@ -9,14 +9,11 @@
 //! number_search.rt and chapter_search.rt judge the fields around it.
 
 ghost use Rattle.std.specs.Prelude.{◌≡◌, ℕ, ◌+◌, ◌-◌, ◌*◌, ◌/◌, ◌^◌, ◌<◌, ◌≤◌, false, true};
-ghost use Rattle.vbi_seek.specs.ChapterSearch.{placed_most};
-ghost use Rattle.vbi_seek.specs.Kinds.{most_of, read_most};
 ghost use Rattle.vbi_seek.specs.Searches.{IsAlone, IsHalved, IsHalving, IsNarrowedAt, IsPart, IsSilent, IsSpent};
 ghost use Rattle.vbi_seek.specs.Searches.{IsHalvedByBoth, IsReadAtMost, IsSilentFor, middle_in};
 ghost use Rattle.vbi_seek.specs.NumberSearch.{probe_most, probe_longest, looked_most, left_most};
-ghost use Rattle.vbi_seek.specs.NumberSpots.{middle_of};
-ghost use Rattle.vbi_seek.specs.declared.asked.Judging.{Judging};
-ghost use Rattle.vbi_seek.specs.declared.search.Kind.TheVariants.{Number};
+ghost use Rattle.vbi_seek.specs.{ChapterSearch.placed_most, Kinds.most_of, Kinds.read_most, NumberSpots.middle_of};
+ghost use Rattle.vbi_seek.specs.{declared.asked.Judging.Judging, declared.search.Kind.TheVariants.Number};
 
 use crate::narrowing::{Between, Spot, Told, ask_beside, narrow, narrow_between, narrow_either};
 use crate::search::{Kind, Looked, Search};

@@ -4,13 +4,11 @@
 ghost use Rattle.std.specs.Prelude.{◌≡◌, ◌≤◌, ℕ, List, [], ◌∷◌, map, take, drop, None};
 ghost use Rattle.vbi_words.specs.declared.system.System.TheVariants.{Ntsc, Pal};
 ghost use Rattle.vbi_side.specs.Worked.{field_of};
-ghost use Rattle.vbi_seek.specs.declared.number_search.Sought.{Sought};
-ghost use Rattle.vbi_seek.specs.declared.search.Seek.{Seek};
-ghost use Rattle.vbi_seek.specs.FieldLines.{code_bytes, field_in};
-ghost use Rattle.vbi_seek.specs.NumberSearch.{probe_most, probe_longest, probed_most, around_most};
-ghost use Rattle.vbi_seek.specs.NumberSearch.{Numbers, IsSought, IsSoughtIn};
-ghost use Rattle.vbi_seek.specs.NumberSpots.{IsTold, TellsIn, middle_of};
+ghost use Rattle.vbi_seek.specs.NumberSearch.{probe_most, probe_longest, probed_most, around_most, Numbers, IsSought};
 ghost use Rattle.vbi_seek.specs.Worked.{video_ending, film_ending, far_ending, second_on_18};
+ghost use Rattle.vbi_seek.specs.{declared.number_search.Sought.Sought, declared.search.Seek.Seek};
+ghost use Rattle.vbi_seek.specs.{FieldLines.code_bytes, FieldLines.field_in, NumberSearch.IsSoughtIn};
+ghost use Rattle.vbi_seek.specs.{NumberSpots.IsTold, NumberSpots.TellsIn, NumberSpots.middle_of};
 
 /// How many fields a search looks at, the middles of a side's quarters, and what is answered if none is found.
 pub fn worked_searches()

@@ -16,11 +16,9 @@
 ghost use Rattle.std.specs.Prelude.{◌≡◌, ◌↔◌, ◌⊎◌, ℕ, ◌+◌, ◌-◌, ◌*◌, ◌<◌, ◌≤◌, false, true, None, IfSome};
 ghost use Rattle.vbi_seek.specs.Searches.{IsNarrowedAt, IsNarrowedByOne, IsNarrowedNear, IsNarrowedBetween, IsPart};
 ghost use Rattle.vbi_seek.specs.Searches.{IsSilent, IsSilentFor, IsSpotIn, IsMoreLikelyAfter, AreSeenFrom, middle_in};
-ghost use Rattle.vbi_seek.specs.ChapterSearch.{placed_most};
-ghost use Rattle.vbi_seek.specs.Kinds.{most_of, read_most};
-ghost use Rattle.vbi_seek.specs.NumberSearch.{probe_most, probe_longest, looked_most};
-ghost use Rattle.vbi_seek.specs.NumberSpots.{IsShownBetween};
-ghost use Rattle.vbi_seek.specs.Spots.{whole};
+ghost use Rattle.vbi_seek.specs.{ChapterSearch.placed_most, Kinds.most_of, Kinds.read_most, NumberSearch.probe_most};
+ghost use Rattle.vbi_seek.specs.{NumberSearch.probe_longest, NumberSearch.looked_most, NumberSpots.IsShownBetween};
+ghost use Rattle.vbi_seek.specs.{Spots.whole};
 
 use crate::search::{Looked, Search};
 use crate::spots::{LONGEST, NOTHING_SEEN, longest_of, most_of, probe};

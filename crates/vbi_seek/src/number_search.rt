@@ -18,17 +18,14 @@
 ghost use Rattle.std.specs.Prelude.{◌≡◌, ℕ, ◌+◌, ◌-◌, ◌*◌, ◌^◌, ◌<◌, ◌≤◌, ◌⊎◌, length, Some, None, IfSome, false, true};
 ghost use Rattle.vbi_side.specs.declared.pace.Pace as paces;
 ghost use Rattle.vbi_side.specs.Numbers.{IsFirst};
-ghost use Rattle.vbi_seek.specs.ChapterSearch.{IsBetween};
-ghost use Rattle.vbi_seek.specs.Kinds.{most_of};
-ghost use Rattle.vbi_seek.specs.NumberLeads.{number_spots, IsFirstKnown, IsComplete};
 ghost use Rattle.vbi_seek.specs.NumbersAround.{IsWindow, IsJudgedAround, among, numbers_of};
-ghost use Rattle.vbi_seek.specs.Searches.{IsNarrowedAt, IsSilent};
 ghost use Rattle.vbi_seek.specs.Neighbours.{Span, span_of, down, up, IsBeside, IsLookedFor, AreAround, AreBeside};
-ghost use Rattle.vbi_seek.specs.Spots.{IsPlaced, Leads, left_after, three_quarters};
-ghost use Rattle.vbi_seek.specs.NumberSearch.{shown_of, probe_most, probed_most, looked_most, left_most};
-ghost use Rattle.vbi_seek.specs.NumberSearch.{IsSought, IsSoughtIn};
-ghost use Rattle.vbi_seek.specs.NumberSpots.{middle_of};
-ghost use Rattle.vbi_seek.specs.declared.narrowing.Spot.{Spot};
+ghost use Rattle.vbi_seek.specs.NumberSearch.{shown_of, probe_most, probed_most, looked_most, left_most, IsSought};
+ghost use Rattle.vbi_seek.specs.{ChapterSearch.IsBetween, Kinds.most_of, NumberLeads.number_spots};
+ghost use Rattle.vbi_seek.specs.{NumberLeads.IsFirstKnown, NumberLeads.IsComplete, Searches.IsNarrowedAt};
+ghost use Rattle.vbi_seek.specs.{Searches.IsSilent, Spots.IsPlaced, Spots.Leads, Spots.left_after};
+ghost use Rattle.vbi_seek.specs.{Spots.three_quarters, NumberSearch.IsSoughtIn, NumberSpots.middle_of};
+ghost use Rattle.vbi_seek.specs.{declared.narrowing.Spot.Spot};
 
 use crate::asked::{Judging, pace_for};
 use crate::halving::{LEFT, halve, sweep};

@@ -13,14 +13,11 @@
 
 ghost use Rattle.std.specs.Prelude.{◌≡◌, ◌↔◌, ℕ, ◌+◌, ◌-◌, ◌*◌, ◌<◌, ◌≤◌, min, length, take, slice_get, true};
 ghost use Rattle.std.specs.Prelude.{IfSome, None};
-ghost use Rattle.vbi_seek.specs.ChapterSearch.{spot_most};
-ghost use Rattle.vbi_seek.specs.FieldLines.{side_of};
-ghost use Rattle.vbi_seek.specs.NumberSearch.{probe_most, probe_longest, looked_most};
-ghost use Rattle.vbi_seek.specs.NumberSpots.{sum_below};
 ghost use Rattle.vbi_seek.specs.Kinds.{fits_in, most_of, longest_of, shown_by, all_shown_by, IsToldBy, Tell};
-ghost use Rattle.vbi_seek.specs.Searches.{shown_from, AreSeenFrom, TellsAt};
-ghost use Rattle.vbi_side.specs.Beliefs.{sighting_weight};
-ghost use Rattle.vbi_side.specs.Sightings.{IsSeen};
+ghost use Rattle.vbi_seek.specs.{ChapterSearch.spot_most, FieldLines.side_of, NumberSearch.probe_most};
+ghost use Rattle.vbi_seek.specs.{NumberSearch.probe_longest, NumberSearch.looked_most, NumberSpots.sum_below};
+ghost use Rattle.vbi_seek.specs.{Searches.shown_from, Searches.AreSeenFrom, Searches.TellsAt};
+ghost use Rattle.vbi_side.specs.{Beliefs.sighting_weight, Sightings.IsSeen};
 
 use crate::field_lines::{chapters_at, numbers_at};
 use crate::search::{Kind, Looked, Search};

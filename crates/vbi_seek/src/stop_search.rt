@@ -4,8 +4,7 @@
 //! it.
 
 ghost use Rattle.std.specs.Prelude.{◌≡◌, ◌↔◌, ◌<◌, true};
-ghost use Rattle.vbi_seek.specs.FieldLines.{side_of, side_in};
-ghost use Rattle.vbi_seek.specs.StopSearch.{HasStop, IsNextStop};
+ghost use Rattle.vbi_seek.specs.{FieldLines.side_of, FieldLines.side_in, StopSearch.HasStop, StopSearch.IsNextStop};
 
 use crate::field_lines::stop_at;
 use crate::side_bytes::{FoundField, Setup, SideBytes};

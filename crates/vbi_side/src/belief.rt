@@ -30,9 +30,8 @@
 
 ghost use Rattle.std.specs.Prelude.{◌≡◌, ◌↔◌, ℕ, ◌+◌, ◌*◌, ◌-◌, ◌≤◌, ◌<◌, length, Some, true};
 ghost use Rattle.vbi_side.specs.Beliefs.{reach, enough, field_most, sighting_weight, weight_at, window_weight};
-ghost use Rattle.vbi_side.specs.Beliefs.{support_of, Believed};
-ghost use Rattle.vbi_side.specs.Ahead.{fits_as, IsAhead, IsBelieved};
-ghost use Rattle.vbi_side.specs.Paces.{spot};
+ghost use Rattle.vbi_side.specs.{Beliefs.support_of, Beliefs.Believed, Ahead.fits_as, Ahead.IsAhead, Ahead.IsBelieved};
+ghost use Rattle.vbi_side.specs.{Paces.spot};
 
 use crate::pace::Pace;
 use crate::sighting::{Sighting, Sightings};

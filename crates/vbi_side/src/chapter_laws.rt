@@ -2,16 +2,12 @@
 //! of every capture.
 
 ghost use Rattle.std.specs.Prelude.{◌≡◌, ℕ, ◌<◌, ◌≤◌, List, [], ◌∷◌, map, Option, Some, slice_get};
-ghost use Rattle.vbi_side.specs.Types.{Number, Sightings};
-ghost use Rattle.vbi_side.specs.Sightings.{Shows};
-ghost use Rattle.vbi_side.specs.Beliefs.{enough};
-ghost use Rattle.vbi_side.specs.Truth.{IsNear, wrong_weight};
 ghost use Rattle.vbi_side.specs.Chapters.{chapter_of, said_weight, BelievedChapter, IsChapter, IsSoundChapter};
-ghost use Rattle.vbi_side.specs.Chapters.{NeverFalls};
 ghost use Rattle.vbi_side.specs.WorkedChapters.{said_by_10, said_by_9, said_to_24, said_to_25, said_from_24};
 ghost use Rattle.vbi_side.specs.WorkedChapters.{said_from_25, opposed_by_9, opposed_before_by_9, falling, rising};
-ghost use Rattle.vbi_side.specs.WorkedChapters.{opposed_in_its_field, rising_at_both, rising_to_8, IsDoubted};
-ghost use Rattle.vbi_side.specs.WorkedChapters.{line_of, said};
+ghost use Rattle.vbi_side.specs.WorkedChapters.{opposed_in_its_field, rising_at_both, rising_to_8, IsDoubted, line_of};
+ghost use Rattle.vbi_side.specs.{Types.Number, Types.Sightings, Sightings.Shows, Beliefs.enough, Truth.IsNear};
+ghost use Rattle.vbi_side.specs.{Truth.wrong_weight, Chapters.NeverFalls, WorkedChapters.said};
 
 /// If the chapters misread around a field weigh less than enough, a believed one stands on the disc near the field;
 /// and if enough codes before a field and after it say one chapter, no other is believed.

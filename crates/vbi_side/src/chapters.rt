@@ -9,9 +9,8 @@
 //! How many pictures a chapter lasts is free, so nothing is due: a field without a code has none.
 
 ghost use Rattle.std.specs.Prelude.{◌≡◌, ◌↔◌, ℕ, ◌<◌, ◌≤◌, length, Some, slice_get, Option, true};
-ghost use Rattle.vbi_side.specs.Numbers.{believed};
-ghost use Rattle.vbi_side.specs.Chapters.{chapter_of, chapters_of, BelievedChapter, IsChapter, AreChapters};
-ghost use Rattle.vbi_side.specs.Chapters.{IsAheadOf, IsBelievedOf, IsSoundChapter};
+ghost use Rattle.vbi_side.specs.Chapters.{chapter_of, chapters_of, BelievedChapter, IsChapter, AreChapters, IsAheadOf};
+ghost use Rattle.vbi_side.specs.{Numbers.believed, Chapters.IsBelievedOf, Chapters.IsSoundChapter};
 
 use crate::belief::{ENOUGH, Fit, reaches, weight_around};
 use crate::lines::Shown;

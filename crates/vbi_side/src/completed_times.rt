@@ -1,8 +1,7 @@
 //! The word of lines 17 and 18 that is elected beside line 16.
 
 ghost use Rattle.std.specs.Prelude.{◌≡◌, ◌↔◌, ◌⊎◌, ℕ, ◌/◌, ◌≤◌, ◌<◌, length, Some, None, true};
-ghost use Rattle.vbi_side.specs.Sightings.{IsSeen};
-ghost use Rattle.vbi_side.specs.Votes.{minute_of, part_of, time_word, IsCompleted};
+ghost use Rattle.vbi_side.specs.{Sightings.IsSeen, Votes.minute_of, Votes.part_of, Votes.time_word, Votes.IsCompleted};
 
 use crate::lines::{Shown, rate};
 use crate::sighting::Sightings;

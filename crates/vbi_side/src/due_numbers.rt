@@ -7,11 +7,9 @@
 //! is one due if both lines show the same number, since both were hardly misread alike.
 
 ghost use Rattle.std.specs.Prelude.{◌≡◌, ◌↔◌, ℕ, ◌<◌, ◌≤◌, ◌+◌, ◌*◌, ◌-◌, true, length, Some, None, IfSome};
-ghost use Rattle.vbi_side.specs.Beliefs.{reach, Believed};
-ghost use Rattle.vbi_side.specs.DueNumbers.{slack_of, IsLeft, Due};
 ghost use Rattle.vbi_side.specs.Nearest.{are_whole, IsBefore, IsAfter, NoneBefore, NoneAfter, AllPass};
-ghost use Rattle.vbi_side.specs.Numbers.{IsMarked};
-ghost use Rattle.vbi_side.specs.Paces.{Count, nearly};
+ghost use Rattle.vbi_side.specs.{Beliefs.reach, Beliefs.Believed, DueNumbers.slack_of, DueNumbers.IsLeft};
+ghost use Rattle.vbi_side.specs.{DueNumbers.Due, Numbers.IsMarked, Paces.Count, Paces.nearly};
 
 use crate::belief::REACH;
 use crate::number::Number;

@@ -2,10 +2,9 @@
 //! every field.
 
 ghost use Rattle.std.specs.Prelude.{◌≡◌, ◌↔◌, [], ◌∷◌, map};
-ghost use Rattle.vbi_side.specs.Types.{LeadIn, LeadOut, Shown};
 ghost use Rattle.vbi_side.specs.Ends.{end_of, in_weight, lead_in, lead_out, out_weight};
-ghost use Rattle.vbi_side.specs.SoundEnds.{IsCodeToldSurely, IsSoundCode};
-ghost use Rattle.vbi_side.specs.Worked.{shown_in};
+ghost use Rattle.vbi_side.specs.{Types.LeadIn, Types.LeadOut, Types.Shown, SoundEnds.IsCodeToldSurely};
+ghost use Rattle.vbi_side.specs.{SoundEnds.IsSoundCode, Worked.shown_in};
 
 /// A field is answered to be of lead-out exactly if line 17 or 18 shows that in pass 1, or both show it; and of lead-in
 /// exactly if this holds of lead-in, and not of lead-out. If the disc has it on neither line, a word of pass 1 was

@@ -14,20 +14,15 @@ ghost use Rattle.std.specs.Prelude.{◌≡◌, ◌≢◌, ◌↔◌, ◌⊎◌, 
 ghost use Rattle.std.specs.Prelude.{Some, None, slice_get};
 ghost use Rattle.vbi_side.specs.Types.{Ntsc, Pal, Picture, Time, ClvPicture, Chapter, LeadIn, LeadOut, ClvMark};
 ghost use Rattle.vbi_side.specs.Types.{Pictures, Times, System, Counted, Shown, Number, Sightings, Pace, Video, Film};
-ghost use Rattle.vbi_side.specs.Sightings.{Shows};
 ghost use Rattle.vbi_side.specs.Lines.{number_from, code_in, sightings_of, pass_weight, number_weight, is_instead};
-ghost use Rattle.vbi_side.specs.Paces.{spot, fits, stays, nearly};
 ghost use Rattle.vbi_side.specs.Beliefs.{reach, enough, field_most, support_of, Believed};
-ghost use Rattle.vbi_side.specs.DueNumbers.{slack_of, Due};
-ghost use Rattle.vbi_side.specs.PaceSearch.{pace_by, IsFound};
-ghost use Rattle.vbi_side.specs.Numbers.{IsAnswer, IsKnown};
-ghost use Rattle.vbi_side.specs.Parts.{IsPart};
 ghost use Rattle.vbi_side.specs.Truth.{IsNear, AreEven, RunsOn, IsRegular, IsSound, IsSoundStill, wrong_weight};
-ghost use Rattle.vbi_side.specs.Truth.{StandsStill, video_disc, film_disc};
 ghost use Rattle.vbi_side.specs.Misread.{Capture, sightings_in, misread_weight, AreTold, IsRead};
-ghost use Rattle.vbi_side.specs.Whole.{IsWhole, TakesTurns};
 ghost use Rattle.vbi_side.specs.Worked.{wrong_by_9, wrong_by_10, apart_by, still_of, film_side, field_of, instead_of};
-ghost use Rattle.vbi_side.specs.Worked.{shown_in, told_by};
+ghost use Rattle.vbi_side.specs.{Sightings.Shows, Paces.spot, Paces.fits, Paces.stays, Paces.nearly};
+ghost use Rattle.vbi_side.specs.{DueNumbers.slack_of, DueNumbers.Due, PaceSearch.pace_by, PaceSearch.IsFound};
+ghost use Rattle.vbi_side.specs.{Numbers.IsAnswer, Numbers.IsKnown, Parts.IsPart, Truth.StandsStill, Truth.video_disc};
+ghost use Rattle.vbi_side.specs.{Truth.film_disc, Whole.IsWhole, Whole.TakesTurns, Worked.shown_in, Worked.told_by};
 
 /// If the disc ran on around a field that has a number and what was misread there weighs less than enough, a
 /// believed number is that number.

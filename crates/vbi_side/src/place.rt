@@ -1,9 +1,7 @@
 //! A field with the number that is believed of it, how two of them go on, and the first and the last one of a capture.
 
 ghost use Rattle.std.specs.Prelude.{◌≡◌, ℕ, ◌+◌, ◌-◌, ◌*◌, ◌<◌, ◌≤◌, ◌^◌, length, IfSome, None};
-ghost use Rattle.vbi_side.specs.Clocks.{by_clock, nearly_by};
-ghost use Rattle.vbi_side.specs.Numbers.{IsMarked};
-ghost use Rattle.vbi_side.specs.Paces.{spot, nearly};
+ghost use Rattle.vbi_side.specs.{Clocks.by_clock, Clocks.nearly_by, Numbers.IsMarked, Paces.spot, Paces.nearly};
 
 use crate::clock::Clock;
 use crate::number::Number;

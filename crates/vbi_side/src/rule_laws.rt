@@ -2,13 +2,10 @@
 
 ghost use Rattle.std.specs.Prelude.{◌≡◌, ℕ, List, [], ◌∷◌, map, true, false};
 ghost use Rattle.vbi_side.specs.Types.{Ntsc, Pal, Counted, Times, Pace, Video, Sightings, DropFrame, OneIn};
-ghost use Rattle.vbi_side.specs.Clocks.{left_out, leaves_out, place};
-ghost use Rattle.vbi_side.specs.DueNumbers.{ShowsInstead, ShowsTwice};
-ghost use Rattle.vbi_side.specs.PaceSearch.{IsFound};
-ghost use Rattle.vbi_side.specs.Numbers.{doubtful_of, doubtful, nothing};
-ghost use Rattle.vbi_side.specs.Chapters.{chapters_of, opposes};
-ghost use Rattle.vbi_side.specs.Worked.{field_of, instead_of};
-ghost use Rattle.vbi_side.specs.WorkedChapters.{line_of};
+ghost use Rattle.vbi_side.specs.{Clocks.left_out, Clocks.leaves_out, Clocks.place, DueNumbers.ShowsInstead};
+ghost use Rattle.vbi_side.specs.{DueNumbers.ShowsTwice, PaceSearch.IsFound, Numbers.doubtful_of, Numbers.doubtful};
+ghost use Rattle.vbi_side.specs.{Numbers.nothing, Chapters.chapters_of, Chapters.opposes, Worked.field_of};
+ghost use Rattle.vbi_side.specs.{Worked.instead_of, WorkedChapters.line_of};
 
 /// Which fields leave no room for a number that is due, what is in doubt, which pace is never asked, and what of a
 /// field speaks of its chapter.

@@ -2,13 +2,9 @@
 //! every capture of video whose fields stand in the disc's order.
 
 ghost use Rattle.std.specs.Prelude.{◌≡◌, ℕ, ◌+◌, ◌*◌, ◌-◌, ◌≤◌, true, List, Option, Some, ◌/◌, nat_le, if◌then◌else◌};
-ghost use Rattle.vbi_side.specs.Types.{Number, Sightings, Video, Film};
-ghost use Rattle.vbi_side.specs.Numbers.{AreAnswers};
-ghost use Rattle.vbi_side.specs.Beliefs.{reach};
-ghost use Rattle.vbi_side.specs.Paces.{fits};
-ghost use Rattle.vbi_side.specs.Truth.{IsNear, video_disc};
-ghost use Rattle.vbi_side.specs.Side.{DiscRuns, DiscCounts, Rises, captured, Lacks, NoneLost, AreLost};
-ghost use Rattle.vbi_side.specs.Side.{IsAnchor, IsLost};
+ghost use Rattle.vbi_side.specs.Side.{DiscRuns, DiscCounts, Rises, captured, Lacks, NoneLost, AreLost, IsAnchor};
+ghost use Rattle.vbi_side.specs.{Types.Number, Types.Sightings, Types.Video, Types.Film, Numbers.AreAnswers};
+ghost use Rattle.vbi_side.specs.{Beliefs.reach, Paces.fits, Truth.IsNear, Truth.video_disc, Side.IsLost};
 
 /// If two believed numbers at least 48 fields apart count to each other, no field of the disc is lost between them,
 /// but maybe within 24 fields of either: the capture lacks none, nor a picture that the disc has there.

@@ -2,10 +2,9 @@
 //! every field.
 
 ghost use Rattle.std.specs.Prelude.{◌≡◌, ◌↔◌, ℕ, List, [], ◌∷◌, map, Option};
-ghost use Rattle.vbi_side.specs.Types.{Shown};
-ghost use Rattle.vbi_side.specs.Worked.{shown_in};
 ghost use Rattle.vbi_side.specs.Stops.{stop_weight, BelievedStop, DoubtfulStop, NoStop, ShowsStop, IsSure};
 ghost use Rattle.vbi_side.specs.Stops.{IsToldSurely, IsStopWord, IsSoundStop, IsJudgedStop};
+ghost use Rattle.vbi_side.specs.{Types.Shown, Worked.shown_in};
 
 /// A stop is believed exactly if line 16 or 17 shows it in pass 1, or both show it.
 pub fn stops_in_words()

@@ -2,15 +2,12 @@
 
 ghost use Rattle.std.specs.Prelude.{◌≡◌, ℕ, ◌/◌, ◌%◌, ◌<◌, List, [], ◌∷◌, map, Option, Some, None, slice_get};
 ghost use Rattle.vbi_side.specs.Types.{System, Ntsc, Pal, Time, Times, Shown, Sightings};
-ghost use Rattle.vbi_words.specs.Words.{IsWord};
-ghost use Rattle.vbi_words.specs.Codes.{code_of};
-ghost use Rattle.vbi_side.specs.Sightings.{Shows};
-ghost use Rattle.vbi_side.specs.Lines.{pass_weight, sighting_of};
-ghost use Rattle.vbi_side.specs.Votes.{minute_of, part_of, votes_cast, votes_for, IsElected, time_word};
-ghost use Rattle.vbi_side.specs.Votes.{Election, IsCompletedBy, IsCompleted, IsVotedSoundly, IsVotedRightly};
-ghost use Rattle.vbi_side.specs.Worked.{shown_in};
+ghost use Rattle.vbi_side.specs.Votes.{minute_of, part_of, votes_cast, votes_for, IsElected, time_word, Election};
+ghost use Rattle.vbi_side.specs.Votes.{IsCompletedBy, IsCompleted, IsVotedSoundly, IsVotedRightly};
 ghost use Rattle.vbi_side.specs.WorkedVotes.{two_to_one, two_to_two, light_to_heavy, alone, light_alone, three_to_one};
 ghost use Rattle.vbi_side.specs.WorkedVotes.{in_field_4, alone_before, alone_after};
+ghost use Rattle.vbi_side.specs.{Sightings.Shows, Lines.pass_weight, Lines.sighting_of, Worked.shown_in};
+ghost use Rattle.vbi_words.specs.{Words.IsWord, Codes.code_of};
 
 /// If the disc ran on within 240 fields of one, or counted by a clock and the part is right, no other number is elected
 /// than the one that it counts there, if of the times that go on with the field's second and picture less weight was

@@ -5,13 +5,11 @@
 //! aside is left out (`aside_all`). The function `worked_aside` has rows written down by hand.
 
 ghost use Rattle.std.specs.Prelude.{◌≡◌, ℕ, ◌≤◌, true, false, List, [], ◌∷◌, Some, None, length, slice_get, map};
-ghost use Rattle.vbi_whole.specs.Types.{Number, Video, Film, Gap, Rule};
-ghost use Rattle.vbi_side.specs.Numbers.{doubtful, IsMarked};
-ghost use Rattle.vbi_side.specs.Paces.{spot};
 ghost use Rattle.vbi_whole.specs.AsideNumbers.{is_in_row, numbers_in, run_before, is_aside, AreLeft, IsAsideAt};
-ghost use Rattle.vbi_whole.specs.AsideNumbers.{shown_by_turns, run_of};
-ghost use Rattle.vbi_whole.specs.Gaps.{rule_by};
-ghost use Rattle.vbi_whole.specs.WorkedSides.{by_film, by_pictures, cav};
+ghost use Rattle.vbi_whole.specs.{Types.Number, Types.Video, Types.Film, Types.Gap, Types.Rule};
+ghost use Rattle.vbi_whole.specs.{AsideNumbers.shown_by_turns, AsideNumbers.run_of, Gaps.rule_by, WorkedSides.by_film};
+ghost use Rattle.vbi_whole.specs.{WorkedSides.by_pictures, WorkedSides.cav};
+ghost use Rattle.vbi_side.specs.{Numbers.doubtful, Numbers.IsMarked, Paces.spot};
 
 /// What is set aside is in doubt and was believed, in a field of a run between two neighbouring gaps that replaces
 /// others. Any other answer is as it was. So a number that is left believed was believed.

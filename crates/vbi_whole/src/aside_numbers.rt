@@ -10,11 +10,9 @@
 //! include/ldvbi.h and docs/SIDES.md.
 
 ghost use Rattle.std.specs.Prelude.{◌≡◌, ℕ, ◌+◌, ◌-◌, ◌<◌, ◌≤◌, ◌^◌, nat_le, ◌&&◌, length, slice_get, Some};
-ghost use Rattle.vbi_whole.specs.Types.{Number};
 ghost use Rattle.vbi_whole.specs.AsideNumbers.{are_in_row, is_in_row, has_of_row, row_weight, is_lighter, numbers_in};
 ghost use Rattle.vbi_whole.specs.AsideNumbers.{has_due, is_set_aside, begun, is_of_run, left_of, AreLeft};
-ghost use Rattle.vbi_whole.specs.Gaps.{from_of, to_of};
-ghost use Rattle.vbi_whole.specs.Verdicts.{count_of};
+ghost use Rattle.vbi_whole.specs.{Types.Number, Gaps.from_of, Gaps.to_of, Verdicts.count_of};
 
 use crate::gap::{Gap, REPLACED, Rule};
 use crate::numbers_on_both::counted;

@@ -4,8 +4,7 @@
 //! many: no number between shows it.
 
 ghost use Rattle.std.specs.Prelude.{◌≡◌, ℕ, ◌<◌, length, IfSome, None};
-ghost use Rattle.vbi_whole.specs.BlankFields.{IsBlankTo, IsBlankTold};
-ghost use Rattle.vbi_whole.specs.Gaps.{IsLast};
+ghost use Rattle.vbi_whole.specs.{BlankFields.IsBlankTo, BlankFields.IsBlankTold, Gaps.IsLast};
 
 use crate::gap::Rule;
 use crate::gaps::{Reached, last_at, neighbours_at};

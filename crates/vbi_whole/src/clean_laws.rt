@@ -5,15 +5,12 @@
 
 ghost use Rattle.std.specs.Prelude.{◌≡◌, ℕ, ◌+◌, ◌*◌, ◌<◌, ◌≤◌, Bool, true, false, List, [], ◌∷◌, replicate};
 ghost use Rattle.vbi_whole.specs.Types.{System, Clock, Plain, DropFrame, OneIn, Gap, Numbering, Counted, Number, Pace};
-ghost use Rattle.vbi_whole.specs.Types.{Video, Sightings, Finding};
-ghost use Rattle.vbi_whole.specs.NumbersOnBoth.{is_on_both};
-ghost use Rattle.vbi_whole.specs.CleanRuns.{KeepsTo, AreThreeAtEnds, IsReadRun, IsCleanRun, IsCleanSide};
-ghost use Rattle.vbi_whole.specs.CleanRuns.{IsReadTwice, IsOneOfThree, IsBegun, IsEnded};
-ghost use Rattle.vbi_side.specs.Worked.{field_of, blank};
-ghost use Rattle.vbi_side.specs.PaceSearch.{IsFound};
-ghost use Rattle.vbi_side.specs.Numbers.{AreAnswers, IsMarked};
-ghost use Rattle.vbi_whole.specs.Verdicts.{IsFinding, found_whole};
-ghost use Rattle.vbi_whole.specs.Gaps.{of_video};
+ghost use Rattle.vbi_whole.specs.CleanRuns.{KeepsTo, AreThreeAtEnds, IsReadRun, IsCleanRun, IsCleanSide, IsReadTwice};
+ghost use Rattle.vbi_whole.specs.{Types.Video, Types.Sightings, Types.Finding, NumbersOnBoth.is_on_both};
+ghost use Rattle.vbi_whole.specs.{CleanRuns.IsOneOfThree, CleanRuns.IsBegun, CleanRuns.IsEnded, Verdicts.IsFinding};
+ghost use Rattle.vbi_whole.specs.{Verdicts.found_whole, Gaps.of_video};
+ghost use Rattle.vbi_side.specs.{Worked.field_of, Worked.blank, PaceSearch.IsFound, Numbers.AreAnswers};
+ghost use Rattle.vbi_side.specs.{Numbers.IsMarked};
 
 /// A capture of video is called whole if it is one run of a disc from its first number to lead-out, each number of
 /// which was read on both lines in pass 1. Its pace is found, its numbers are believed, and are found to stand on one

@@ -4,18 +4,13 @@
 ghost use Rattle.std.specs.Prelude.{◌≡◌, ℕ, ◌+◌, ◌-◌, ◌<◌, ◌≤◌, Bool, List, [], ◌∷◌, Option, Some, None, map, true};
 ghost use Rattle.std.specs.Prelude.{false, if◌then◌else◌};
 ghost use Rattle.vbi_whole.specs.Types.{Clock, Plain, DropFrame, OneIn, Gap, Numbering, Pace, Video};
+ghost use Rattle.vbi_whole.specs.Gaps.{lost, open_gap, gap_of, gap_made, skipped, to_judge, rule_by, amid};
+ghost use Rattle.vbi_whole.specs.WorkedSides.{clv, clv_by, worked_side, worked_answers, worked_ends, by_times, unseen};
+ghost use Rattle.vbi_whole.specs.{Told.lost_of, Told.undecided_of, Verdicts.IsFinding, Verdicts.found_whole};
 ghost use Rattle.vbi_side.specs.Clocks.{left_out, leaves_out, kept, place, clock_fits, IsProper, IsClear, out_between};
 ghost use Rattle.vbi_side.specs.Clocks.{out_near, DiscCountsBy, IsClearAt, numbered, drop_number, thousand_number};
-ghost use Rattle.vbi_side.specs.Clocks.{more_number};
-ghost use Rattle.vbi_whole.specs.Gaps.{lost, open_gap, gap_of, gap_made, skipped, to_judge, rule_by, amid};
-ghost use Rattle.vbi_whole.specs.Told.{lost_of, undecided_of};
-ghost use Rattle.vbi_side.specs.Side.{DiscRuns, captured};
-ghost use Rattle.vbi_side.specs.Votes.{IsVoter};
-ghost use Rattle.vbi_whole.specs.WorkedSides.{clv, clv_by, worked_side, worked_answers, worked_ends, by_times, unseen};
-ghost use Rattle.vbi_side.specs.Beliefs.{enough};
-ghost use Rattle.vbi_side.specs.Truth.{wrong_weight};
-ghost use Rattle.vbi_whole.specs.Verdicts.{IsFinding, found_whole};
-ghost use Rattle.vbi_side.specs.Paces.{spot};
+ghost use Rattle.vbi_side.specs.{Clocks.more_number, Side.DiscRuns, Side.captured, Votes.IsVoter, Beliefs.enough};
+ghost use Rattle.vbi_side.specs.{Truth.wrong_weight, Paces.spot};
 
 /// The closed forms count what they say: none is left out below number 0, and below the next number one more than below
 /// this one, just if this one is left out. The others are kept.

@@ -13,12 +13,10 @@
 //! Another bound, or a clock more, changes `specs/ClockSearch.antt` and the contract of `find_clock`.
 
 ghost use Rattle.std.specs.Prelude.{◌≡◌, ◌+◌, ◌*◌, ◌<◌, ◌≤◌, ◌^◌, ◌↔◌, ◌⊎◌, true, false, length, List};
-ghost use Rattle.vbi_whole.specs.Types.{DropFrame, OneIn, Number};
-ghost use Rattle.vbi_side.specs.Paces.{nearly};
-ghost use Rattle.vbi_side.specs.Clocks.{nearly_by, IsProper};
 ghost use Rattle.vbi_whole.specs.ClockSearch.{explains, opposes, with_pair, ArePairs, AreEnough, IsClockTold};
-ghost use Rattle.vbi_whole.specs.ClockSearch.{ExplainsMost};
-ghost use Rattle.vbi_whole.specs.Gaps.{IsLast, has_clock};
+ghost use Rattle.vbi_whole.specs.{Types.DropFrame, Types.OneIn, Types.Number, ClockSearch.ExplainsMost, Gaps.IsLast};
+ghost use Rattle.vbi_whole.specs.{Gaps.has_clock};
+ghost use Rattle.vbi_side.specs.{Paces.nearly, Clocks.nearly_by, Clocks.IsProper};
 
 use crate::gap::{Neighbours, Rule};
 use crate::gaps::{Reached, last_at, neighbours_at};

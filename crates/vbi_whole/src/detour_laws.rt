@@ -7,17 +7,14 @@
 ghost use Rattle.std.specs.Prelude.{◌≡◌, ◌≢◌, ℕ, ◌+◌, ◌*◌, ◌-◌, ◌<◌, ◌≤◌, Bool, List, [], ◌∷◌, Option, Some, None};
 ghost use Rattle.std.specs.Prelude.{length, slice_get, map, false};
 ghost use Rattle.vbi_whole.specs.Types.{Clock, Plain, Gap, Numbering, Number, Pace, Video, Film, Sightings, Finding};
-ghost use Rattle.vbi_whole.specs.Types.{No, Rule};
-ghost use Rattle.vbi_side.specs.Clocks.{kept, DiscCountsBy};
 ghost use Rattle.vbi_whole.specs.Detours.{detour_of, fields_by, turned, detoured, skips, repeats, IsToldAs, IsLeft};
 ghost use Rattle.vbi_whole.specs.Gaps.{lost, held, back, still, joined, open_gap, inserted, replaced, gap_made};
 ghost use Rattle.vbi_whole.specs.Gaps.{since_end, IsGap, Judged, rule_by, of_video};
-ghost use Rattle.vbi_side.specs.Numbers.{IsMarked};
-ghost use Rattle.vbi_side.specs.Side.{Rises, captured, IsOneRun};
-ghost use Rattle.vbi_whole.specs.Told.{tally_of};
-ghost use Rattle.vbi_whole.specs.Verdicts.{too_few, padded_in, HasNone, IsFinding};
-ghost use Rattle.vbi_side.specs.Paces.{spot};
-ghost use Rattle.vbi_whole.specs.WorkedSides.{cav, by_pictures, by_film};
+ghost use Rattle.vbi_whole.specs.{Types.No, Types.Rule, Told.tally_of, Verdicts.too_few, Verdicts.padded_in};
+ghost use Rattle.vbi_whole.specs.{Verdicts.HasNone, Verdicts.IsFinding, WorkedSides.cav, WorkedSides.by_pictures};
+ghost use Rattle.vbi_whole.specs.{WorkedSides.by_film};
+ghost use Rattle.vbi_side.specs.{Clocks.kept, Clocks.DiscCountsBy, Numbers.IsMarked, Side.Rises, Side.captured};
+ghost use Rattle.vbi_side.specs.{Side.IsOneRun, Paces.spot};
 
 /// As many gaps are told as there are, each in its place: as it is, or as one of a detour of two neighbours. One that
 /// is told to be of another kind than these is told as it is. Detours are taken from the first gap on, and no gap is of

@@ -13,28 +13,22 @@
 ghost use Rattle.std.specs.Prelude.{◌≡◌, ◌≢◌, ℕ, ◌+◌, ◌*◌, ◌-◌, ◌<◌, ◌≤◌, Bool, List, [], ◌∷◌, ◌++◌, Option, Some};
 ghost use Rattle.std.specs.Prelude.{None, slice_get, map, true, false};
 ghost use Rattle.vbi_whole.specs.Types.{Number, Sightings, Gap, Finding, Pace, Video, Film, Clock, Plain, DropFrame};
-ghost use Rattle.vbi_whole.specs.Types.{OneIn, Numbering, Yes, CannotTell};
-ghost use Rattle.vbi_side.specs.Beliefs.{reach, enough};
-ghost use Rattle.vbi_side.specs.Truth.{IsNear, wrong_weight, video_disc};
-ghost use Rattle.vbi_side.specs.Numbers.{IsMarked, AreAnswers, believed, doubtful, nothing};
-ghost use Rattle.vbi_side.specs.Side.{DiscRuns, DiscCounts, Rises, captured, AreLost, NoneLost, IsOneRun};
-ghost use Rattle.vbi_side.specs.Clocks.{DiscCountsBy, DiscNearlyBy, IsClear, IsClearAt, out_near};
 ghost use Rattle.vbi_whole.specs.Gaps.{lost, held, back, still, joined, open_gap, gap_of, gap_made, since_end};
 ghost use Rattle.vbi_whole.specs.Gaps.{ended_between, shown_between, IsGap, AreGaps, CountTo, HasRightEnds};
 ghost use Rattle.vbi_whole.specs.Gaps.{LostAtLeast, HeldAtLeast, to_judge, Judged, rule_by, amid, of_video};
-ghost use Rattle.vbi_whole.specs.Detours.{detoured};
-ghost use Rattle.vbi_whole.specs.Told.{lost_of, undecided_of, stills_of, last_still};
-ghost use Rattle.vbi_whole.specs.Swaps.{stands_off, is_stray};
-ghost use Rattle.vbi_whole.specs.NumbersOnBoth.{is_on_both};
-ghost use Rattle.vbi_side.specs.Ends.{end_by};
 ghost use Rattle.vbi_whole.specs.Verdicts.{is_end_unseen, too_few, HasNone, IsFinding, found_whole};
-ghost use Rattle.vbi_whole.specs.SaidWhole.{IsSaidWhole, AreClearEnds, AreFewLost};
-ghost use Rattle.vbi_whole.specs.Drifts.{leads, IsDriftTold};
-ghost use Rattle.vbi_side.specs.Worked.{field_of};
 ghost use Rattle.vbi_whole.specs.WorkedSides.{cav, cav_pal, clv, clv_pal, by_pictures, by_times, by_film, unseen};
-ghost use Rattle.vbi_whole.specs.WorkedSides.{after_5, gap_after_5, two_stills, two_pictures, two_answers};
-ghost use Rattle.vbi_whole.specs.WorkedSides.{worked_side, worked_answers, worked_ends};
-ghost use Rattle.vbi_side.specs.Paces.{spot};
+ghost use Rattle.vbi_whole.specs.WorkedSides.{after_5, gap_after_5, two_stills, two_pictures, two_answers, worked_side};
+ghost use Rattle.vbi_whole.specs.{Types.OneIn, Types.Numbering, Types.Yes, Types.CannotTell, Detours.detoured};
+ghost use Rattle.vbi_whole.specs.{Told.lost_of, Told.undecided_of, Told.stills_of, Told.last_still, Swaps.stands_off};
+ghost use Rattle.vbi_whole.specs.{Swaps.is_stray, NumbersOnBoth.is_on_both, SaidWhole.IsSaidWhole};
+ghost use Rattle.vbi_whole.specs.{SaidWhole.AreClearEnds, SaidWhole.AreFewLost, Drifts.leads, Drifts.IsDriftTold};
+ghost use Rattle.vbi_whole.specs.{WorkedSides.worked_answers, WorkedSides.worked_ends};
+ghost use Rattle.vbi_side.specs.Numbers.{IsMarked, AreAnswers, believed, doubtful, nothing};
+ghost use Rattle.vbi_side.specs.Side.{DiscRuns, DiscCounts, Rises, captured, AreLost, NoneLost, IsOneRun};
+ghost use Rattle.vbi_side.specs.Clocks.{DiscCountsBy, DiscNearlyBy, IsClear, IsClearAt, out_near};
+ghost use Rattle.vbi_side.specs.{Beliefs.reach, Beliefs.enough, Truth.IsNear, Truth.wrong_weight, Truth.video_disc};
+ghost use Rattle.vbi_side.specs.{Ends.end_by, Worked.field_of, Paces.spot};
 
 /// What is told are gaps, each one is told, and in order: an earlier one ends where a later one begins, or before.
 pub fn all_told()

@@ -11,12 +11,10 @@
 
 ghost use Rattle.std.specs.Prelude.{◌≡◌, ◌≢◌, ℕ, suc, ◌+◌, ◌*◌, ◌<◌, ◌≤◌, ◌^◌, length, slice_set, List, [], Bool};
 ghost use Rattle.std.specs.Prelude.{Option, Some, None, IfSome, true};
-ghost use Rattle.vbi_whole.specs.Types.{Gap, Clock, Number, Sightings};
-ghost use Rattle.vbi_side.specs.Numbers.{IsMarked};
-ghost use Rattle.vbi_whole.specs.Told.{IsTold, IsTelling, waiting, stage_of};
 ghost use Rattle.vbi_whole.specs.Gaps.{gap_of, skipped, ended_between, shown_between, AreNeighbours, IsFree, IsLast};
-ghost use Rattle.vbi_whole.specs.Gaps.{is_end, since_end, judged_in};
-ghost use Rattle.vbi_side.specs.Sightings.{shows_between};
+ghost use Rattle.vbi_whole.specs.{Types.Gap, Types.Clock, Types.Number, Types.Sightings, Told.IsTold, Told.IsTelling};
+ghost use Rattle.vbi_whole.specs.{Told.waiting, Told.stage_of, Gaps.is_end, Gaps.since_end, Gaps.judged_in};
+ghost use Rattle.vbi_side.specs.{Numbers.IsMarked, Sightings.shows_between};
 
 use crate::detour::Waiting;
 use crate::gap::{Amid, Gap, Neighbours, between, skipped};

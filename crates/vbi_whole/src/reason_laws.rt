@@ -4,16 +4,13 @@
 ghost use Rattle.std.specs.Prelude.{◌≡◌, ◌≢◌, ◌+◌, ◌-◌, ◌<◌, ◌≤◌, ℕ, Bool, true, false, List, [], ◌∷◌, ◌++◌, map};
 ghost use Rattle.std.specs.Prelude.{replicate, slice_get, Some};
 ghost use Rattle.vbi_whole.specs.Types.{Plain, Shown, Number, Gap, Rule, Finding, Yes, No, CannotTell};
-ghost use Rattle.vbi_side.specs.Ends.{no_end, lead_out, lead_in, padding, end_of};
-ghost use Rattle.vbi_side.specs.Numbers.{believed, doubtful};
-ghost use Rattle.vbi_side.specs.Paces.{spot};
-ghost use Rattle.vbi_whole.specs.BlankFields.{IsBlank, IsBlankTo};
 ghost use Rattle.vbi_whole.specs.Gaps.{lost, held, back, still, joined, open_gap, inserted, gap_made, since_end};
-ghost use Rattle.vbi_whole.specs.Gaps.{GoesOn, to_judge, Judged};
-ghost use Rattle.vbi_whole.specs.Told.{tally_of};
 ghost use Rattle.vbi_whole.specs.Verdicts.{no_reason, verdict_of, reasons_of, is_begin_unseen, lead_out_follows};
 ghost use Rattle.vbi_whole.specs.Verdicts.{are_doubtful, padded_in, HasNone, IsFinding};
-ghost use Rattle.vbi_whole.specs.WorkedSides.{one_number, found_at, by_pictures};
+ghost use Rattle.vbi_whole.specs.{BlankFields.IsBlank, BlankFields.IsBlankTo, Gaps.GoesOn, Gaps.to_judge, Gaps.Judged};
+ghost use Rattle.vbi_whole.specs.{Told.tally_of, WorkedSides.one_number, WorkedSides.found_at, WorkedSides.by_pictures};
+ghost use Rattle.vbi_side.specs.{Ends.no_end, Ends.lead_out, Ends.lead_in, Ends.padding, Ends.end_of, Numbers.believed};
+ghost use Rattle.vbi_side.specs.{Numbers.doubtful, Paces.spot};
 
 /// What each reason is found by, alone.
 #[tactic(auto, unfolding(vbi_side::specs::Clocks::kept, crate::specs::Gaps::since_end))]

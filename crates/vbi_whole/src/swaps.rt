@@ -6,9 +6,8 @@
 //! off.
 
 ghost use Rattle.std.specs.Prelude.{◌≡◌, ℕ, ◌+◌, ◌*◌, ◌<◌, ◌≤◌, ◌^◌, true, length, IfSome, Some, None, slice_get};
-ghost use Rattle.vbi_whole.specs.Gaps.{IsLast};
 ghost use Rattle.vbi_whole.specs.Swaps.{stands_off, is_believed_as, is_beside, shows_off, is_stray, IsSwap};
-ghost use Rattle.vbi_whole.specs.Swaps.{IsFirstStray};
+ghost use Rattle.vbi_whole.specs.{Gaps.IsLast, Swaps.IsFirstStray};
 
 use vbi_side::{
     Clock, Number, Pace, Place, Sighting, Sightings, believed_at, by_clock, goes_on_by,

@@ -10,10 +10,9 @@
 //! `vbi_c` (whole_side.rt), include/ldvbi.h, `Reason` of python/ldvbi/sides.py and docs/SIDES.md.
 
 ghost use Rattle.std.specs.Prelude.{◌≡◌, ◌<◌, ◌≤◌, ◌^◌, length, true};
-ghost use Rattle.vbi_whole.specs.Gaps.{judged_in, since_end};
 ghost use Rattle.vbi_whole.specs.Verdicts.{are_seen, leave_open, verdict_of, too_few, is_off, padded_in};
 ghost use Rattle.vbi_whole.specs.Verdicts.{lead_out_follows, count_of, are_doubtful, reasons_of, IsFinding};
-ghost use Rattle.vbi_whole.specs.Swaps.{IsSwapTold};
+ghost use Rattle.vbi_whole.specs.{Gaps.judged_in, Gaps.since_end, Swaps.IsSwapTold};
 
 use crate::blank_fields::first_blank;
 use crate::drift::has_drift;
