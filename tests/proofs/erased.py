@@ -24,6 +24,7 @@ LAWS = re.compile(r"(?:\w+_)?laws")
 # Rust's library doesn't tell, and items of the toolchain's library that have another place or form there
 WRITTEN_OTHERWISE = r"""
 # [ derive ( Clone , Copy ) ]             | # [ derive ( Clone , Copy , Debug , PartialEq , Eq ) ]
+# [ derive ( Clone , Copy , Default ) ]   | # [ derive ( Clone , Copy , Debug , Default , PartialEq , Eq ) ]
 # [ derive ( Drop ) ]                     |
 , Drop )                                  | )
 , Drop ,                                  | ,
