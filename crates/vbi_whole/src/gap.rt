@@ -110,6 +110,7 @@ pub struct Rule {
 
 impl Rule {
     /// Whether the numbers of two places go on.
+    #[inline]
     pub(crate) fn goes_on(self, here: Place, there: Place) -> bool
         ensures { result ≡ goes_on self here there }
     {
