@@ -4,11 +4,11 @@ use Rattle.std.proofs.Common.{arith, ◌≡◌, ℕ, Bool, true, false, List, re
 use Rattle.std.specs.Prelude.{Option, Some, None, is_some, IsTrue, ◌&&◌, if◌then◌else◌}
 use Rattle.vbi_near.proofs.Common.{Slicing, samples_of, Nears, unit_of, known_but}
 use Rattle.vbi_near.proofs.OneSeen.{one_nears, open_asked}
-use Rattle.vbi_near.specs.WordRule.{said_of, said_if, said_in, stand_of, first_said, is_said}
+use Rattle.vbi_near.specs.WordRule.{said_of, said_if, said_in, stand_of, first_said}
 use Rattle.vbi_near.specs.LevelledLines.{levelled, is_swing}
 use Rattle.vbi_near.specs.Candidates.{Candidates, Line, Lines, HasNear, HasNearIf, AreOf, has_swing, filled_samples}
 use Rattle.vbi_near.specs.Candidates.{levelled_samples, are_alike_by}
-use Rattle.vbi_near.specs.Silence.{HasNearUnlessSilent, HasNearIfUnlessSilent}
+use Rattle.vbi_near.specs.Silence.{HasNearUnlessSilent}
 use Rattle.vbi_near.specs.Recovery.{said_by, stands_by, stands_of, alone, IsSeen, IsOwn, own_of, is_open, are_open}
 use Rattle.vbi_near.specs.Recovery.{recovered_as, shown_in, Seen, Stands}
 use Rattle.vbi_near.specs.{declared.margins.Margins.Margins, declared.margins.MarginSet.MarginSet}
@@ -26,11 +26,6 @@ pub other-says : (a b : Option ℕ) → is_some a ≡ false → b ≡ first_said
 other-says None b none = refl
 other-says (Some w) b none = cc
 
--- a word that the first says is said by both
-pub is_said-first : (word : ℕ) (a b : Option ℕ) → is_said word a ≡ true → is_said word (first_said a b) ≡ true
-is_said-first word None b is = cc
-is_said-first word (Some w) b is = is
-
 -- ---- lines that may be silent
 
 -- what lines say that may be silent
@@ -39,12 +34,6 @@ pub heard-says : (margins : Margins) (count : ℕ) (lines : Lines) (found : Opti
     → said_if (unit_of lines.slicing) margins count found ≡ said_of (unit_of lines.slicing) margins count near
 heard-says margins count lines None near silent has = sym (silent near has)
 heard-says margins count lines (Some found) near is has = grind (arith, one_nears)
-
--- lines that may have nearest words say nothing if they are silent, or if they may have none
-pub silent_if : (margins : Margins) (count : ℕ) (can : Bool) (lines : Lines)
-    → (can ≡ true → HasNearUnlessSilent margins count lines None) → HasNearIfUnlessSilent margins count lines can None
-silent_if margins count can lines silent None has = refl
-silent_if margins count can lines silent (Some near) (can_be, has) = silent can_be near has
 
 -- nearest words that there may be, of lines that are the same if there may be such
 pub same_if : (can other : Bool) (lines others : Lines) (near : Option Nears) → can ≡ other

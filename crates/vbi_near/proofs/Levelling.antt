@@ -1,11 +1,11 @@
 -- Levelled lines: sums of samples, and lines that are written sample by sample.
 -- The functions of levelled_lines stand on it, and LevelledShift.
 use Rattle.std.proofs.Common.{◌≡◌, ℕ, suc, zero, ◌≤◌, ◌<◌, ◌+◌, ◌-◌, ◌*◌, ◌/◌, List, [], ◌∷◌, Bool, true, false, cond}
-use Rattle.std.proofs.Common.{length, ◌⊎◌, inl, inr, get_or, set, take, drop, map, arith, ap, sym, ◌∙◌, refl}
+use Rattle.std.proofs.Common.{length, ◌⊎◌, inl, inr, get_or, set, take, drop, arith, ap, sym, ◌∙◌, refl}
 use Rattle.std.proofs.Common.{get_or-set_same, get_or-set_other}
-use Rattle.std.specs.{List.sum, List.range_with_len, Prelude.nat_le, Prelude.min}
+use Rattle.std.specs.{List.sum, Prelude.nat_le, Prelude.min}
 use Rattle.std.proofs.lemmas.{Bool.cases_lt, Bool.le-leb, Bool.lt-leb, List.ext_get_or, List.take-take, List.drop-take}
-use Rattle.std.proofs.lemmas.{List.FromFn.fill_by_all, List.FromFn.sum_by-map-range_with_len_more}
+use Rattle.std.proofs.lemmas.{List.FromFn.sum_by-map-range_with_len_more}
 use Rattle.std.proofs.lemmas.{List.Sums.sum_by-take-drop, List.Sums.sum_by_more}
 use Rattle.vbi_near.proofs.Common.{System, width_of, Slicing, samples_of, sample_at}
 use Rattle.vbi_near.proofs.Inverse.{quotient-above, quotient-below}
@@ -47,12 +47,6 @@ pub window_inside : (system : System) (column : ℕ)
     → window_start system column + window_of system ≤ width_of system
 window_inside system column = grind arith
 
--- the sum of a window, by the sums at its ends
-pub window_by_sums : (system : System) (samples sums : List ℕ) (column start n : ℕ) → length samples ≡ width_of system
-    → AreSampleSums samples sums → start ≡ window_start system column → n ≡ window_of system
-    → get_or sums start 0 + window_sum system samples column ≡ get_or sums (start + n) 0
-window_by_sums system samples sums column start n long are s w = grind (arith, window_inside, get_or, between_sums)
-
 -- the windows of the first columns are one, as are those of the last ones
 pub window_before : (system : System) (column : ℕ) → column < first_of system + window_of system / 2
     → window_start system column ≡ window_start system 0
@@ -69,25 +63,11 @@ pub window_amid : (system : System) (column : ℕ) → first_of system + window_
     → window_start system column ≡ column - window_of system / 2
 window_amid system column more less = grind arith
 
--- a window is no wider than the columns before its end
-pub wide-fits : (system : System) → window_of system ≤ end_of system
-wide-fits system = grind arith
-
 -- the columns whose windows begin before them lie within the line
 pub ordered_windows : (system : System)
     → (first_of system + window_of system / 2 ≤ width_of system)
     × (end_of system - window_of system + window_of system / 2 ≤ width_of system)
 ordered_windows system = grind arith
-
--- the sum of such a window, by the sums at its ends
-pub amid_by_sums : (system : System) (samples sums : List ℕ) (column wide : ℕ) → length samples ≡ width_of system
-    → AreSampleSums samples sums → wide ≡ window_of system → first_of system + window_of system / 2 ≤ column
-    → column < end_of system - window_of system + window_of system / 2
-    → (column - wide / 2 + wide < length sums)
-    × (get_or sums (column - wide / 2) 0 + window_sum system samples column
-    ≡ get_or sums (column - wide / 2 + wide) 0)
-amid_by_sums system samples sums column wide long are w more less =
-    grind (arith, window_amid, window_inside, window_by_sums)
 
 -- the columns before i have the sums of their windows
 abbrev pub WindowsTo : System → List ℕ → List ℕ → ℕ → Type 0
@@ -125,12 +105,6 @@ written_more f old new i here others before k less = grind arith
 read_each : (f : ℕ → ℕ) (bytes : List ℕ) (n : ℕ) → length bytes ≡ 2 * n → WrittenTo f bytes n
     → (k : ℕ) → k < n → get_or (samples_of bytes) k 0 ≡ f k
 read_each f bytes n long all k less = sample_of bytes k (omega arith) ∙ all k less
-
--- all samples
-pub written_all : (f : ℕ → ℕ) (bytes : List ℕ) (n : ℕ) → length bytes ≡ 2 * n → WrittenTo f bytes n
-    → samples_of bytes ≡ map f (range_with_len 0 n)
-written_all f bytes n long all =
-    fill_by_all f (samples_of bytes) n 0 (length-samples_of bytes n long) (read_each f bytes n long all)
 
 -- ---- erased columns
 

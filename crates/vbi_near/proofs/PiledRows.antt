@@ -1,9 +1,8 @@
 -- Lines one by one: the next of them, and the swing of each if all may be levelled together.
 -- near_of_all, levelled_near_of_all and recover_pile stand on it.
 use Rattle.std.proofs.Common.{◌≡◌, ℕ, suc, zero, ◌+◌, ◌<◌, List, [], ◌∷◌, ◌++◌, length, map, get_or, Bool, true, ap}
-use Rattle.std.proofs.Common.{◌∙◌, refl, subst, arith, zero-add, ◌≤◌, take, replicate}
+use Rattle.std.proofs.Common.{◌∙◌, refl, subst, arith, zero-add, ◌≤◌}
 use Rattle.std.specs.{Prelude.◌&&◌, Prelude.Option, Prelude.Some, List.list_all, List.range_with_len}
-use Rattle.std.proofs.lemmas.List.{length-take-le, length-replicate}
 use Rattle.std.proofs.lemmas.List.FromFn.{map-range_with_len_more, length-map-range_with_len, get_or-map-range_with_len}
 use Rattle.vbi_near.proofs.Common.{line_bytes, System, Slicing, unit_of}
 use Rattle.vbi_near.specs.Candidates.{Row, Candidates, swing_in, has_swing, are_alike_by}
@@ -80,11 +79,6 @@ each-swings system slicing lines erased n alike i inside = subst (λ (s : ℕ). 
 -- no line has more bytes than one of PAL
 bytes-few : (system : System) → line_bytes system ≤ 2270
 bytes-few system = grind arith
-
--- the first bytes of a buffer that any line fits into are as many as a line's
-pub bytes-long : (system : System) (n : ℕ) → n ≡ line_bytes system
-    → length {A = ℕ} (take n (replicate 2270 0)) ≡ line_bytes system
-bytes-long system n e = grind (arith, length-take-le, bytes-few, length-replicate)
 
 -- ---- what they say
 

@@ -1,6 +1,6 @@
 -- Nearest words written down, with the numbers of the rule at their limits. White is 100 above black, and what is
 -- written down of levelled lines is in hundredths of theirs, too.
-use Rattle.std.specs.Prelude.{ℕ, ◌≡◌, ◌+◌, ◌*◌, ◌/◌, Bool, List, [], ◌∷◌, map, Option, Some, None}
+use Rattle.std.specs.Prelude.{ℕ, ◌≡◌, ◌+◌, ◌*◌, ◌/◌, Bool, [], ◌∷◌, map, Option, Some, None}
 use Rattle.vbi_near.specs.Common.{Outcome, Word, Blank, Unfinished, Change}
 use Rattle.vbi_near.specs.Recovery.{Seen, recovered_of}
 use Rattle.vbi_near.specs.{declared.near.Near.Near, declared.near.Nears.Nears, declared.margins.Margins.Margins}
