@@ -7,6 +7,7 @@ use Rattle.vbi_plan.specs.declared.plan.Spacing.TheVariants.{Video, Both, Film, 
 use Rattle.vbi_plan.specs.declared.plan.Stretch.{Stretch}
 use Rattle.vbi_plan.specs.Plans.{AreOf, CountsOn, GoesOn, IsBefore, IsGood, IsInPlace, IsReached, Plan, Shows}
 use Rattle.vbi_plan.specs.Plans.{StandsFor, fields_in, is_both, out_at, place_of, rank_at, rank_of}
+use Rattle.vbi_side.specs.Numbers.{IsMarked}
 
 -- what a place has is one thing
 pub some_is : {A : Type 0} (a b : A) → Some a ≡ Some b → a ≡ b
@@ -48,23 +49,12 @@ counts_as Both a r f q g s other p e w = absurd cc
 
 counts_same : (spacing : Spacing) (a r f q g s : ℕ) → f ≡ a → q ≡ r → CountsOn spacing a r g s
     → CountsOn spacing f q g s
-counts_same Video a r f q g s p e w = (omega (arith, p, e, w.0), omega (arith, p, e, w.1))
-counts_same Film a r f q g s p e w = (omega (arith, p, e, w.0), omega (arith, p, e, w.1))
-counts_same Rising a r f q g s p e w = (omega (arith, p, e, w.0), omega (arith, p, e, w.1))
-counts_same Both a r f q g s p e w = (omega (arith, p, e, w.0), omega (arith, p, e, w.1))
+counts_same spacing a r f q g s p e w =
+    subst (λ x. CountsOn spacing x q g s) (sym p) (subst (λ y. CountsOn spacing a y g s) (sym e) w)
 
-counts_to : (spacing : Spacing) (a r f q g s : ℕ) → g ≡ f → s ≡ q → CountsOn spacing a r f q
-    → CountsOn spacing a r g s
-counts_to Video a r f q g s p e w = (omega (arith, p, e, w.0), omega (arith, p, e, w.1))
-counts_to Film a r f q g s p e w = (omega (arith, p, e, w.0), omega (arith, p, e, w.1))
-counts_to Rising a r f q g s p e w = (omega (arith, p, e, w.0), omega (arith, p, e, w.1))
-counts_to Both a r f q g s p e w = (omega (arith, p, e, w.0), omega (arith, p, e, w.1))
-
-goes_to : (spacing : Spacing) (a r f q g s : ℕ) → g ≡ f → s ≡ q → GoesOn spacing a r f q → GoesOn spacing a r g s
-goes_to Video a r f q g s p e w = (omega (arith, p, e, w.0), omega (arith, p, e, w.1))
-goes_to Film a r f q g s p e w = (omega (arith, p, e, w.0), omega (arith, p, e, w.1))
-goes_to Rising a r f q g s p e w = (omega (arith, p, e, w.0), omega (arith, p, e, w.1))
-goes_to Both a r f q g s p e w = tt
+-- the same numbers in the same fields have the same relation to what is before them
+same_end : (R : ℕ → ℕ → Type 0) (f q g s : ℕ) → g ≡ f → s ≡ q → R f q → R g s
+same_end R f q g s p e w = subst (λ x. R x s) (sym p) (subst (λ y. R f y) (sym e) w)
 
 -- ---- one field more
 
@@ -78,6 +68,12 @@ before_more k h i j (inr here) = elim (less_or h j here.1) [
   | inl less ↦ inl (inr (here.0, less))
   | inr same ↦ inr (here.0, same)
 ]
+
+-- a field of a stretch that is taken shows its believed number
+pub shows_here : (plan : Plan) (i j n : ℕ) (stretch : Stretch) → slice_get plan.stretches i ≡ Some stretch
+    → stretch.padding ≡ 0 → j < stretch.fields → IsMarked plan.numbers (stretch.field + j) n → Shows plan i j n
+shows_here plan i j n one is taken less marked =
+    record { stretch = one; there = is; taken = taken; inside = less; believed = marked }
 
 -- a field shows one number
 one_number : (plan : Plan) (i j m n : ℕ) → Shows plan i j m → Shows plan i j n → m ≡ n
@@ -128,7 +124,7 @@ stayed : (plan : Plan) (i j f r a b : ℕ) → IsReached plan i j f r → is_bot
     → (a ≡ f) × (b ≡ r) → IsReached plan i (j + 1) a b
 stayed plan i j f r a b reached both same = record {
   follows = record {
-    from_first = counts_to plan.layout.spacing plan.layout.begin (rank_at plan 0) f r a b same.0 same.1
+    from_first = same_end (CountsOn plan.layout.spacing plan.layout.begin (rank_at plan 0)) f r a b same.0 same.1
         reached.follows.from_first;
     from_each = λ k h m before one. goes_anyway plan.layout.spacing (place_of plan k h) (rank_of plan m) a b both;
   };
@@ -143,10 +139,10 @@ moved : (plan : Plan) (i j n a b : ℕ) → Shows plan i j n → IsInPlace plan 
     → (a ≡ place_of plan i j) × (b ≡ rank_of plan n) → IsReached plan i (j + 1) a b
 moved plan i j n a b shows here other same = record {
   follows = record {
-    from_first = counts_to plan.layout.spacing plan.layout.begin (rank_at plan 0) (place_of plan i j)
+    from_first = same_end (CountsOn plan.layout.spacing plan.layout.begin (rank_at plan 0)) (place_of plan i j)
         (rank_of plan n) a b same.0 same.1 here.follows.from_first;
     from_each = λ k h m before one. elim (before_more k h i j before) [
-      | inl less ↦ goes_to plan.layout.spacing (place_of plan k h) (rank_of plan m) (place_of plan i j)
+      | inl less ↦ same_end (GoesOn plan.layout.spacing (place_of plan k h) (rank_of plan m)) (place_of plan i j)
           (rank_of plan n) a b same.0 same.1 (here.follows.from_each k h m less one)
       | inr at ↦ goes_here plan.layout.spacing (place_of plan k h) (rank_of plan m) a b
           (omega (arith, ap (out_at plan.stretches) at.0, at.1, same.0))
