@@ -1,12 +1,11 @@
 -- What the calls answer of a side one after the other, and a side that is called whole by that.
-use Rattle.std.specs.Prelude.{◌≡◌, ℕ, ◌+◌, ◌<◌, ◌≤◌, Bool, true, false, List, Option}
-use Rattle.vbi_c.specs.Types.{Gap, Number, Sightings, Finding, LdvbiFieldReadings, Judging, Siding, LdvbiSide, Pace, Video}
+use Rattle.std.specs.Prelude.{◌≡◌, ℕ, ◌+◌, ◌<◌, ◌≤◌, Bool, List, Option}
+use Rattle.vbi_c.specs.Types.{Gap, Number, Sightings, Finding, LdvbiFieldReadings, Judging, Siding, LdvbiSide, Pace}
 use Rattle.vbi_side.specs.Clocks.{IsClearAt}
 use Rattle.vbi_side.specs.Side.{Rises, captured, AreLost}
 use Rattle.vbi_side.specs.Truth.{wrong_weight, IsNear}
 use Rattle.vbi_whole.specs.Verdicts.{IsFinding}
 use Rattle.vbi_c.specs.Judging.{AreJudged}
-use Rattle.vbi_c.specs.Numbers.{both_by}
 use Rattle.vbi_c.specs.WholeSides.{slack_by, side_for_c}
 use Rattle.vbi_whole.specs.Gaps.{Judged, to_judge, rule_by}
 
@@ -54,15 +53,6 @@ pub record IsCalledWhole (disc : ℕ → Option ℕ) (place : ℕ → ℕ) (call
   pub few : wrong_weight (captured disc place) called.seen called.side.first < 10
   pub low : wrong_weight (captured disc place) called.seen called.side.last < 10
   pub far : called.side.first + 48 ≤ called.side.last
-
--- a side of video is called whole, with its numbers on one field of each picture, and with them on both
-abbrev pub IsWholeOnOne : (ℕ → Option ℕ) → (ℕ → ℕ) → Called → Type 0
-IsWholeOnOne disc place called = IsCalledWhole disc place called × (called.siding.pace ≡ Video)
-    × (both_by called.both called.numbers ≡ false)
-
-abbrev pub IsWholeOnBoth : (ℕ → Option ℕ) → (ℕ → ℕ) → Called → Type 0
-IsWholeOnBoth disc place called = IsCalledWhole disc place called × (called.siding.pace ≡ Video)
-    × (both_by called.both called.numbers ≡ true)
 
 -- the clock leaves out no number near the first one and the last one
 abbrev pub AreClearEnds : Called → Type 0

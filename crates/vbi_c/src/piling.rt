@@ -140,10 +140,8 @@ fn word_of(setup: &Setup, line: u32, known: u32, bytes: &[u8], erased: &[LdvbiEr
     let mut most = [false; MOST_LINES * WIDEST];
     let marks = &mut most[..count * system.width()];
     mark_lines(system, line, erased, count, marks);
-    match recover_pile(system, line, setup.levels, known == 1, bytes, marks, count) {
-        Some(word) => word.value(),
-        None => 0,
-    }
+    let said = recover_pile(system, line, setup.levels, known == 1, bytes, marks, count);
+    said.map_or(0, |word| word.value())
 }
 
 /// The word that 1 to 28 lines of one number say together, which all have one word, or none; 0 if they say none. In

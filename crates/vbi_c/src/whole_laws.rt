@@ -4,16 +4,16 @@
 //! what C hands over and is answered: by `ldvbi_judge`, and then by `ldvbi_judge_side`, by a clock or by none (the
 //! clauses `plain`). The last ones say what a search finds on such a side.
 
-ghost use Rattle.std.specs.Prelude.{◌≡◌, ℕ, ◌+◌, ◌*◌, ◌-◌, ◌<◌, ◌≤◌, Bool, Option, Some, Ok};
+ghost use Rattle.std.specs.Prelude.{◌≡◌, ℕ, ◌+◌, ◌*◌, ◌-◌, ◌<◌, ◌≤◌, true, false, Bool, Option, Some, Ok};
 ghost use Rattle.vbi_words.specs.Levels.{Slicing};
-ghost use Rattle.vbi_side.specs.Clocks.{DiscCountsBy, DiscNearlyBy, out_near};
+ghost use Rattle.vbi_side.specs.{Clocks.DiscCountsBy, Clocks.DiscNearlyBy, Clocks.out_near, Truth.IsNear};
 ghost use Rattle.vbi_side.specs.{Numbers.IsMarked, Side.DiscRuns, Side.DiscCounts, Side.AreLost, Side.NoneLost};
-ghost use Rattle.vbi_side.specs.Truth.{IsNear};
 ghost use Rattle.vbi_whole.specs.CleanRuns.{IsCleanRun};
-ghost use Rattle.vbi_c.specs.CalledWhole.{Called, IsCalledWhole, IsWholeOnOne, IsWholeOnBoth, AreClearEnds, AreFewLost};
-ghost use Rattle.vbi_c.specs.Types.{System, Clock, Plain, Video, Film, LdvbiSideRule, Siding, Asked, Sought, FoundField};
+ghost use Rattle.vbi_c.specs.{Types.FoundField, CalledWhole.Called, CalledWhole.IsCalledWhole};
+ghost use Rattle.vbi_c.specs.CalledWhole.{AreClearEnds, AreFewLost};
+ghost use Rattle.vbi_c.specs.Types.{System, Clock, Plain, Video, Film, LdvbiSideRule, Siding, Asked, Sought};
 ghost use Rattle.vbi_c.specs.CleanSides.{IsJudgedClean, AsksVideo, AreChaptersRead, IsFirstPicture};
-ghost use Rattle.vbi_c.specs.{DrawnSides.drawn_numbers, Numbers.clock_given, WholeSides.siding_by};
+ghost use Rattle.vbi_c.specs.{DrawnSides.drawn_numbers, Numbers.clock_given, Numbers.both_by, WholeSides.siding_by};
 ghost use Rattle.vbi_seek.specs.{NumberLeads.IsCompleteIn, NumberLeads.number_spots, Spots.Leads, NumberSearch.Numbers};
 ghost use Rattle.vbi_seek.specs.{NumberSearch.shown_of, FieldLines.Side, ChapterSearch.chapters_from};
 ghost use Rattle.vbi_seek.specs.{ChapterLeads.IsChapterComplete, ChapterLeads.chapter_spots};
@@ -29,10 +29,12 @@ pub fn clock_asked()
 /// If a side of video is called whole by the clock by which its disc counts, which leaves out no number near the first
 /// and the last one, no field is lost from 24 after the first to 24 before the last.
 pub fn called_whole()
-    ensures by_clock { (disc : ℕ → Option ℕ) (place : ℕ → ℕ) (called : Called) → IsWholeOnOne disc place called
+    ensures by_clock { (disc : ℕ → Option ℕ) (place : ℕ → ℕ) (called : Called) → IsCalledWhole disc place called
+        → called.siding.pace ≡ Video → both_by called.both called.numbers ≡ false
         → DiscCountsBy called.siding.numbering.clock Video disc → AreClearEnds called
         → NoneLost place (called.side.first + 24) (called.side.last - 24) }
-    ensures plain { (disc : ℕ → Option ℕ) (place : ℕ → ℕ) (called : Called) → IsWholeOnOne disc place called
+    ensures plain { (disc : ℕ → Option ℕ) (place : ℕ → ℕ) (called : Called) → IsCalledWhole disc place called
+        → called.siding.pace ≡ Video → both_by called.both called.numbers ≡ false
         → called.siding.numbering.clock ≡ Plain → DiscRuns Video disc
         → NoneLost place (called.side.first + 24) (called.side.last - 24) }
 {}
@@ -40,17 +42,20 @@ pub fn called_whole()
 /// With numbers on both fields of a picture at most two fields are lost between one near the first number and one near
 /// the last; of film at most four; and if the clock leaves out numbers near these two, at most two for each.
 pub fn nearly_called_whole()
-    ensures both { (disc : ℕ → Option ℕ) (place : ℕ → ℕ) (called : Called) → IsWholeOnBoth disc place called
+    ensures both { (disc : ℕ → Option ℕ) (place : ℕ → ℕ) (called : Called) → IsCalledWhole disc place called
+        → called.siding.pace ≡ Video → both_by called.both called.numbers ≡ true
         → DiscNearlyBy called.siding.numbering.clock 1 disc → AreClearEnds called → AreFewLost place called 2 }
     ensures film { (disc : ℕ → Option ℕ) (place : ℕ → ℕ) (called : Called) → IsCalledWhole disc place called
         → called.siding.pace ≡ Film → DiscCountsBy called.siding.numbering.clock Film disc → AreClearEnds called
         → AreFewLost place called 4 }
-    ensures anywhere { (disc : ℕ → Option ℕ) (place : ℕ → ℕ) (called : Called) → IsWholeOnOne disc place called
+    ensures anywhere { (disc : ℕ → Option ℕ) (place : ℕ → ℕ) (called : Called) → IsCalledWhole disc place called
+        → called.siding.pace ≡ Video → both_by called.both called.numbers ≡ false
         → DiscCountsBy called.siding.numbering.clock Video disc
         → (m n p q some : ℕ) × IsMarked called.numbers called.side.first m × IsMarked called.numbers called.side.last n
         × IsNear called.side.first p × IsNear called.side.last q × AreLost place p q some
         × (some ≤ 2 * (out_near called.siding.numbering.clock m + out_near called.siding.numbering.clock n)) }
-    ensures both_plain { (disc : ℕ → Option ℕ) (place : ℕ → ℕ) (called : Called) → IsWholeOnBoth disc place called
+    ensures both_plain { (disc : ℕ → Option ℕ) (place : ℕ → ℕ) (called : Called) → IsCalledWhole disc place called
+        → called.siding.pace ≡ Video → both_by called.both called.numbers ≡ true
         → called.siding.numbering.clock ≡ Plain → DiscCounts 1 disc → AreFewLost place called 2 }
     ensures film_plain { (disc : ℕ → Option ℕ) (place : ℕ → ℕ) (called : Called) → IsCalledWhole disc place called
         → called.siding.pace ≡ Film → called.siding.numbering.clock ≡ Plain → DiscRuns Film disc

@@ -82,8 +82,7 @@ pub extern "C" fn ldvbi_draw_line(
         × (line_reading drawing.setup bytes.new ≡ reading_for_c (drawn_reading drawing.word)))
         (bytes.new ≡ bytes.old) }
 {
-    let drawing = settled!(drawing_of(system, black, white, word, bytes.len()));
-    let setup = &drawing.setup;
-    draw_line(setup.system, setup.levels, drawing.word, bytes);
+    let Drawing { setup, word } = settled!(drawing_of(system, black, white, word, bytes.len()));
+    draw_line(setup.system, setup.levels, word, bytes);
     DONE
 }
