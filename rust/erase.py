@@ -29,7 +29,7 @@ REFUSED_MEMORY = re.compile(r"^impl<T: Drop> From<AllocFailed<T>> for [^{]*(?=\{
 KEYWORDS = set("as break const continue crate dyn else enum extern fn for if impl in let loop match mod move mut pub "
                "ref return self static struct super trait type use where while".split())
 BEHIND_A_NAME = {"as", "else", "if", "in", "where"}
-MACROS = {"assert", "format", "matches", "unreachable", "value_parser", "vec", "write"}
+MACROS = {"assert", "format", "matches", "settled", "unreachable", "value_parser", "vec", "write"}
 ATTRIBUTES = {"derive", "error", "from", "inline", "repr"}
 FOREIGN = re.compile(r"\b(?:AllocError|AllocFailed|Global|HostRuntime|Model|alloc|ghost|prove|simd|tactic|unsafe)\b"
                      r"|: Drop\b|[^\x00-\x7f]")

@@ -5,7 +5,7 @@ use Rattle.std.specs.Prelude.{◌⊎◌, ◌==◌, ◌&&◌, Some, nat_le, nat_l
 use Rattle.std.proofs.lemmas.Bool.{leb-true, ltb-true, or_cases, and_parts}
 use Rattle.std.proofs.lemmas.Bool.Decides.{leb_tells, eqb_tells}
 use Rattle.std.proofs.lemmas.List.FromFn.{length-map-range_with_len}
-use Rattle.vbi_side.specs.declared.sighting.Sightings.{Sightings}
+use Rattle.vbi_c.specs.Types.{Sightings}
 use Rattle.vbi_side.specs.Beliefs.{reach, enough, field_weight}
 use Rattle.vbi_side.specs.Chapters.{says, opposes, said_weight, opposed_weight}
 use Rattle.vbi_whole.specs.CleanRuns.{IsReadTwice}

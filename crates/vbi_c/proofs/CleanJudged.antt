@@ -1,14 +1,12 @@
 -- A side that leaves nothing to doubt is judged as it is.
 use Rattle.std.specs.Prelude.{◌⊎◌}
 use Rattle.std.proofs.Common.{◌≡◌, ◌≢◌, ◌∙◌, ℕ, ◌+◌, ◌*◌, ap, false, refl, inl, inr}
-use Rattle.vbi_side.specs.declared.pace.Pace.TheVariants.{Video, Film}
+use Rattle.vbi_c.specs.Types.{Video, Film, Asked, Given, Found}
 use Rattle.vbi_whole.specs.CleanRuns.{IsCleanRun}
 use Rattle.vbi_side.specs.Numbers.{AreAnswers}
 use Rattle.vbi_whole.specs.Verdicts.{found_whole}
 use Rattle.vbi_whole.proofs.CleanRuns.{finds_video, one_field}
 use Rattle.vbi_whole.proofs.CleanSides.{called_whole}
-use Rattle.vbi_seek.specs.declared.asked.Asked.{Asked}
-use Rattle.vbi_seek.specs.declared.asked.Asked.TheVariants.{Given, Found}
 use Rattle.vbi_c.specs.CalledWhole.{Called}
 use Rattle.vbi_c.specs.CleanSides.{IsJudgedClean}
 use Rattle.vbi_c.specs.Judging.{IsGiven}

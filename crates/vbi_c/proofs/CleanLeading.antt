@@ -5,9 +5,7 @@ use Rattle.std.specs.Prelude.{◌⊎◌, slice_get}
 use Rattle.std.specs.List.{range_with_len}
 use Rattle.std.proofs.lemmas.Bool.Decides.{leb_tells, eqb_tells}
 use Rattle.std.proofs.lemmas.List.FromFn.{length-map-range_with_len}
-use Rattle.vbi_side.specs.declared.clock.Clock.{Clock}
-use Rattle.vbi_side.specs.declared.pace.Pace.TheVariants.{Video}
-use Rattle.vbi_side.specs.declared.sighting.Sightings.{Sightings}
+use Rattle.vbi_c.specs.Types.{Clock, Video, Sightings}
 use Rattle.vbi_side.specs.Beliefs.{window_weight}
 use Rattle.vbi_whole.specs.CleanRuns.{IsReadTwice, IsOneOfThree}
 use Rattle.vbi_side.specs.Clocks.{kept}

@@ -3,16 +3,8 @@ use Rattle.std.proofs.Common.{◌≡◌, ◌≢◌, ℕ, ◌+◌, ◌*◌, ◌-�
 use Rattle.std.proofs.Common.{subst, inl, inr, min}
 use Rattle.std.specs.Prelude.{◌⊎◌, slice_get}
 use Rattle.std.proofs.lemmas.Bool.Decides.{leb_tells, eqb_tells}
-use Rattle.vbi_words.specs.declared.system.System.{System}
-use Rattle.vbi_words.specs.declared.system.System.TheVariants.{Ntsc, Pal}
-use Rattle.vbi_side.specs.declared.clock.Clock.{Clock}
-use Rattle.vbi_side.specs.declared.clock.Clock.TheVariants.{Plain}
-use Rattle.vbi_side.specs.declared.lines.Counted.{Counted}
-use Rattle.vbi_side.specs.declared.lines.Counted.TheVariants.{Times}
-use Rattle.vbi_side.specs.declared.number.Number.{Number}
-use Rattle.vbi_side.specs.declared.pace.Pace.{Pace}
-use Rattle.vbi_side.specs.declared.pace.Pace.TheVariants.{Video}
-use Rattle.vbi_side.specs.declared.sighting.Sightings.{Sightings}
+use Rattle.vbi_c.specs.Types.{System, Ntsc, Pal, Clock, Plain, Counted, Times, Number, Pace, Video, Sightings, Given}
+use Rattle.vbi_c.specs.Types.{Found}
 use Rattle.vbi_side.specs.Beliefs.{reach, Believed}
 use Rattle.vbi_whole.specs.CleanRuns.{IsReadTwice, IsOneOfThree}
 use Rattle.vbi_side.specs.Clocks.{kept}
@@ -23,7 +15,6 @@ use Rattle.vbi_side.specs.Sightings.{Shows}
 use Rattle.vbi_whole.proofs.CleanRuns.{all_believed, finds_video}
 use Rattle.vbi_side.proofs.Counting.{plain}
 use Rattle.vbi_side.proofs.Filling.{unlike, not_due}
-use Rattle.vbi_seek.specs.declared.asked.Asked.TheVariants.{Given, Found}
 use Rattle.vbi_c.specs.Judging.{IsGiven}
 use Rattle.vbi_seek.specs.NumberLeads.{IsFirstKnown}
 use Rattle.vbi_seek.specs.NumberSearch.{Numbers, shown_at, shown_of, around_most, HasOther, IsJudgedIn}

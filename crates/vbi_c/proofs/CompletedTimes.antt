@@ -2,18 +2,13 @@
 use Rattle.std.proofs.Common.{◌≡◌, ◌∙◌, ℕ, ◌<◌, ◌/◌, ◌^◌, List, [], ◌∷◌, length, true, sym, ap, subst, inl, inr}
 use Rattle.std.specs.Prelude.{Option, Some, None, slice_get, ◌⊎◌, nat_le, nat_lt, if◌then◌else◌}
 use Rattle.std.proofs.lemmas.Bool.{le-leb, lt-ltb, and_from}
-use Rattle.vbi_words.specs.declared.system.System as words
 use Rattle.vbi_words.specs.Words.{IsWord}
-use Rattle.vbi_side.specs.declared.lines.Counted.TheVariants.{Times}
-use Rattle.vbi_side.specs.declared.lines.Shown.{Shown}
-use Rattle.vbi_side.specs.declared.sighting.Sightings.{Sightings}
+use Rattle.vbi_c.specs.Types.{Times, Shown, Sightings, LdvbiFieldReadings, LdvbiReading, System}
 use Rattle.vbi_side.specs.Sightings.{Shows}
 use Rattle.vbi_side.specs.Votes.{minute_of, part_of, time_word, IsCompleted, IsVotedSoundly, IsVotedRightly}
 use Rattle.vbi_side.specs.Lines.{sighting_of}
 use Rattle.vbi_side.proofs.RightVotes.{rightly_soundly}
 use Rattle.vbi_side.proofs.ToldTimes.{completed_rightly, completed_soundly, word_of_minute}
-use Rattle.vbi_c.specs.declared.reading.LdvbiFieldReadings.{LdvbiFieldReadings}
-use Rattle.vbi_c.specs.declared.reading.LdvbiReading.{LdvbiReading}
 use Rattle.vbi_c.specs.Completing.{read_as, with_time, IsCompletedField, TellsTime, AreCompleted}
 use Rattle.vbi_c.specs.Judging.{shown_by, lines_of, lines_in}
 
@@ -25,13 +20,13 @@ shown_word word pass (low, high) =
     ap (λ b. record { word = if b then Some word else None; pass = pass }) (and_from _ _ least most)
 
 -- the word that completes a field is one
-completed_word : (system : words.System) (line_16 : Shown) (seen : List Sightings) (i word : ℕ)
+completed_word : (system : System) (line_16 : Shown) (seen : List Sightings) (i word : ℕ)
     → IsCompleted system line_16 seen i word → IsWord word
 completed_word system line_16 seen i word (part, m, has, completed) =
     subst IsWord (sym completed.word_is) (word_of_minute (m / minute_of system) completed.early)
 
 -- where votes are sound the lines of a completed field tell the number of the disc
-told_lines : (system : words.System) (recorded : ℕ → Option ℕ) (seen : List Sightings) (lines : List LdvbiReading)
+told_lines : (system : System) (recorded : ℕ → Option ℕ) (seen : List Sightings) (lines : List LdvbiReading)
     (i part m word : ℕ) → part_of system (lines_of lines).line_16 ≡ Some part
     → IsVotedSoundly recorded (record { minute = minute_of system; field = i; part = part }) seen m
     → IsCompleted system (lines_of lines).line_16 seen i word
@@ -44,7 +39,7 @@ told_lines system recorded seen other i part m word has voted completed =
     absurd (let clash : None ≡ Some part → ⊥ = λ h. cc in clash has)
 
 -- a field is as it was then, or tells that number
-pub told_field : (system : words.System) (recorded : ℕ → Option ℕ) (seen : List Sightings) (i part m : ℕ)
+pub told_field : (system : System) (recorded : ℕ → Option ℕ) (seen : List Sightings) (i part m : ℕ)
     (before after : LdvbiFieldReadings) → part_of system (lines_in before).line_16 ≡ Some part
     → IsVotedSoundly recorded (record { minute = minute_of system; field = i; part = part }) seen m
     → IsCompletedField system seen i before after → (after ≡ before) ⊎ TellsTime system m after
@@ -54,7 +49,7 @@ told_field system recorded seen i part m before after has voted (inl (word, comp
 told_field system recorded seen i part m before after has voted (inr (none, is)) = inl is
 
 -- where they are right it tells it if it shows no time
-pub told_unseen : (system : words.System) (recorded : ℕ → Option ℕ) (seen : List Sightings) (i part m : ℕ)
+pub told_unseen : (system : System) (recorded : ℕ → Option ℕ) (seen : List Sightings) (i part m : ℕ)
     (before after : LdvbiFieldReadings) → part_of system (lines_in before).line_16 ≡ Some part
     → IsVotedRightly recorded (record { minute = minute_of system; field = i; part = part }) seen m
     → ((n : ℕ) → Shows (slice_get seen i) n → ⊥) → m / minute_of system < 600
@@ -70,7 +65,7 @@ told_unseen system recorded seen i part m before after has voted unseen early (i
 -- ---- field by field
 
 -- where each field is completed
-pub are_completed : (system : words.System) (readings : List LdvbiFieldReadings) (seen : List Sightings)
+pub are_completed : (system : System) (readings : List LdvbiFieldReadings) (seen : List Sightings)
     (completed : List LdvbiFieldReadings) → length completed ≡ length readings
     → ((i : ℕ) (before after : LdvbiFieldReadings) → slice_get readings i ≡ Some before
     → slice_get completed i ≡ Some after → IsCompletedField system seen i before after)

@@ -5,7 +5,7 @@ use Rattle.vbi_words.specs.Words.{IsWordOrNone}
 use Rattle.vbi_words.specs.Levels.{row_levels}
 use Rattle.vbi_words.proofs.DrawnLines.{drawn_reads}
 use Rattle.vbi_line.proofs.OneReading.{only_reading}
-use Rattle.vbi_c.specs.declared.words.Drawing.{Drawing}
+use Rattle.vbi_c.specs.Types.{Drawing}
 use Rattle.vbi_c.specs.Readings.{line_reading, reading_for_c}
 
 -- a drawn line is read as its word

@@ -3,21 +3,18 @@ use Rattle.std.proofs.Common.{◌≡◌, ℕ, ◌+◌, ◌*◌, ◌-◌, ◌<◌
 use Rattle.std.proofs.Common.{refl, arith, ap, sym, ◌∙◌, subst}
 use Rattle.std.specs.Prelude.{Option, Some, None, slice_get}
 use Rattle.std.proofs.lemmas.List.{drop-take, take-take, drop-drop}
-use Rattle.vbi_words.specs.declared.system.System.{System}
-use Rattle.vbi_words.specs.declared.system.System.TheVariants.{Ntsc, Pal}
+use Rattle.vbi_c.specs.Types.{System, Ntsc, Pal, Recovered, WordRow}
 use Rattle.vbi_words.specs.Drawn.{drawn_reading}
 use Rattle.vbi_words.specs.Geometry.{line_at}
 use Rattle.vbi_words.specs.Levels.{Slicing, row_levels}
 use Rattle.vbi_words.specs.Readings.{IsReading}
 use Rattle.vbi_line.specs.OneReading.{reading_of}
 use Rattle.vbi_line.proofs.OneReading.{only_reading}
-use Rattle.vbi_near.specs.declared.recovery.Recovered.{Recovered}
 use Rattle.vbi_near.specs.Distances.{unit_of}
 use Rattle.vbi_near.specs.Recovery.{alone, stands_of, shown_in, row_reading, IsSureBy}
 use Rattle.vbi_near.proofs.Kept.{sure-shown}
 use Rattle.vbi_field.specs.ConfigView.{ConfigView}
 use Rattle.vbi_field.specs.Draws.{draw_out, AreDrawable}
-use Rattle.vbi_field.specs.declared.word_row.WordRow.{WordRow}
 use Rattle.vbi_field.proofs.DrawnReads.{drawn_field}
 use Rattle.vbi_side.specs.Misread.{numbers_in}
 use Rattle.vbi_seek.specs.FieldLines.{Side, code_bytes, field_in, lines_by, recovered_at}

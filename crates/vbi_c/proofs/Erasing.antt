@@ -8,7 +8,7 @@ use Rattle.std.proofs.lemmas.Bool.Decides.{nat_tests}
 use Rattle.std.proofs.lemmas.List.Elements.{All-cons, All-nil, All-same}
 use Rattle.std.proofs.Math.Nat.{eq-or-lt_of_le}
 use Rattle.std.proofs.lemmas.List.{drop_more, drop_all}
-use Rattle.vbi_c.specs.declared.erased.LdvbiErased.{LdvbiErased}
+use Rattle.vbi_c.specs.Types.{LdvbiErased}
 use Rattle.vbi_c.specs.Erased.{is_code_line, is_entry, may_follow, are_sorted, is_taken}
 
 -- stands where there is no entry

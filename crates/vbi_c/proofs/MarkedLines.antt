@@ -6,14 +6,12 @@ use Rattle.std.specs.List.{range_with_len}
 use Rattle.std.proofs.Math.Nat.{eq-or-lt_of_le, mul-le-mul_left}
 use Rattle.std.proofs.lemmas.List.{drop-take, take-take}
 use Rattle.std.proofs.lemmas.List.FromFn.{fill_by_all, get_or-map-range_with_len, length-map-range_with_len}
-use Rattle.vbi_words.specs.declared.system.System.{System}
+use Rattle.vbi_c.specs.Types.{System, LdvbiErased, Setup}
 use Rattle.vbi_words.specs.Geometry.{width_of, line_at}
 use Rattle.vbi_near.specs.Candidates.{Row, row_of}
 use Rattle.vbi_near.specs.PileRule.{row_in, rows_in, IsSaidTogether}
-use Rattle.vbi_c.specs.declared.erased.LdvbiErased.{LdvbiErased}
 use Rattle.vbi_c.specs.Erased.{line_marks}
 use Rattle.vbi_c.specs.Piling.{HasMarks, row_erased, rows_erased, count_in}
-use Rattle.vbi_seek.specs.declared.side_bytes.Setup.{Setup}
 
 -- a part of what lies before a place stays where all before the place does
 part-kept : (old new : List Bool) (w from to : ℕ) → from + w ≤ to → take to new ≡ take to old

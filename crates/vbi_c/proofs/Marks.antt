@@ -3,7 +3,7 @@ use Rattle.std.proofs.Common.{◌≡◌, ◌≢◌, ℕ, ◌+◌, ◌-◌, ◌*�
 use Rattle.std.proofs.Common.{length, get_or, take, drop, refl, ap, ◌∙◌, sym, subst, arith, inl, inr}
 use Rattle.std.proofs.Common.{length-append, ◌⊎◌, ◌/◌, ◌%◌}
 use Rattle.std.proofs.Math.Nat.{div-lt_iff_lt-mul, mul-le-mul_left}
-use Rattle.vbi_words.specs.declared.system.System.TheVariants.{Ntsc, Pal}
+use Rattle.vbi_c.specs.Types.{Ntsc, Pal, System, LdvbiErased}
 use Rattle.std.proofs.lemmas.Bool.{cases_lt, cases_order, cases_Bool}
 use Rattle.std.proofs.lemmas.Bool.Decides.{nat_tests}
 use Rattle.std.specs.Prelude.{◌||◌, All, IsTrue}
@@ -14,9 +14,7 @@ use Rattle.std.proofs.lemmas.List.{get_or-take, get_or-drop, length-take-le, len
 use Rattle.std.proofs.lemmas.List.FromFn.{length-map-range_with_len, get_or-map-range_with_len}
 use Rattle.std.proofs.lemmas.List.Elements.{All-weaker, All-nil}
 use Rattle.std.proofs.lemmas.List.Folds.{list_any-append, list_any_none}
-use Rattle.vbi_words.specs.declared.system.System.{System}
 use Rattle.vbi_words.specs.Geometry.{width_of}
-use Rattle.vbi_c.specs.declared.erased.LdvbiErased.{LdvbiErased}
 use Rattle.vbi_c.specs.Erased.{is_code_line, erases, line_marks, erased_of, none_erased}
 
 -- a line has columns

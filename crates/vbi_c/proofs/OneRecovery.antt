@@ -4,20 +4,16 @@ use Rattle.std.proofs.lemmas.List.{length-map, get_or-map, get_or_default}
 use Rattle.std.proofs.lemmas.List.FromFn.{fill_by_all}
 use Rattle.std.proofs.lemmas.Option.{slice_get_read}
 use Rattle.std.specs.Prelude.{◌↔◌}
-use Rattle.vbi_words.specs.declared.outcome.Outcome.{Outcome}
-use Rattle.vbi_words.specs.declared.outcome.Outcome.TheVariants.{Word, Blank, Unfinished, Change, Hold}
-use Rattle.vbi_near.specs.declared.recovery.Recovered.{Recovered}
+use Rattle.vbi_c.specs.Types.{Outcome, Word, Blank, Unfinished, Change, Hold, Recovered, LdvbiFieldReadings, Setup}
+use Rattle.vbi_c.specs.Types.{Shown}
 use Rattle.vbi_near.specs.Distances.{unit_of}
 use Rattle.vbi_near.specs.Recovery.{alone, shown_in, stands_of}
 use Rattle.vbi_side.specs.Chapters.{chapters_of}
-use Rattle.vbi_c.specs.declared.reading.LdvbiFieldReadings.{LdvbiFieldReadings}
-use Rattle.vbi_seek.specs.declared.side_bytes.Setup.{Setup}
 use Rattle.vbi_c.specs.Erased.{none_erased}
 use Rattle.vbi_c.specs.FieldCodes.{chapters_in, IsStopOf}
 use Rattle.vbi_c.specs.Judging.{seen_in, shown_by, lines_of}
 use Rattle.vbi_c.specs.Recovering.{AreRecovered, AreAllRecovered, code_bytes, recovered_for_c, recovered_reading}
 use Rattle.vbi_c.specs.Recovering.{reading_at}
-use Rattle.vbi_side.specs.declared.lines.Shown.{Shown}
 use Rattle.vbi_side.specs.Misread.{Lines, numbers_in}
 use Rattle.vbi_side.specs.Stops.{IsJudgedStop}
 use Rattle.vbi_seek.specs.ChapterSearch.{chapters_at}

@@ -2,14 +2,10 @@
 use Rattle.std.proofs.Common.{ℕ, ◌+◌, List, map, ap, sym, ◌∙◌}
 use Rattle.std.specs.Prelude.{option_map}
 use Rattle.std.proofs.lemmas.Option.{slice_get-map}
-use Rattle.vbi_side.specs.declared.number.Number.{Number}
-use Rattle.vbi_side.specs.declared.pace.Pace as paces
-use Rattle.vbi_side.specs.declared.sighting.Sightings.{Sightings}
+use Rattle.vbi_c.specs.Types.{Number, Sightings, LdvbiFieldReadings, Judging, Pace}
 use Rattle.vbi_side.specs.Numbers.{IsAnswer}
 use Rattle.vbi_side.specs.Parts.{IsPart}
 use Rattle.vbi_side.proofs.Parts.{same_in_part}
-use Rattle.vbi_c.specs.declared.reading.LdvbiFieldReadings.{LdvbiFieldReadings}
-use Rattle.vbi_seek.specs.declared.asked.Judging.{Judging}
 use Rattle.vbi_c.specs.Judging.{seen_in, IsAskedPace, IsJudgedField}
 
 shown_part : (judging : Judging) (whole part : List LdvbiFieldReadings) (first i : ℕ)
@@ -23,7 +19,7 @@ shown_part judging whole part first i is = record {
 }
 
 pub judged_field : (judging : Judging) (readings : List LdvbiFieldReadings) (field : ℕ) (number : Number)
-    (pace : paces.Pace) → IsAskedPace judging (map (seen_in judging) readings) pace
+    (pace : Pace) → IsAskedPace judging (map (seen_in judging) readings) pace
     → IsAnswer pace (map (seen_in judging) readings) field number → IsJudgedField judging readings field number pace
 judged_field judging readings field number pace asked answer = record {
   pace_is = asked;

@@ -5,7 +5,7 @@ use Rattle.std.proofs.Math.Nat.{eq-or-lt_of_le}
 use Rattle.std.proofs.lemmas.List.{get_or-set_other, get_or-set_same, length-set}
 use Rattle.std.proofs.lemmas.Option.{get_or_from_slice_get, slice_get-get_or, slice_get_within}
 use Rattle.std.specs.List.{slice_get}
-use Rattle.vbi_c.specs.declared.reading.LdvbiFieldReadings.{LdvbiFieldReadings}
+use Rattle.vbi_c.specs.Types.{LdvbiFieldReadings}
 
 -- what holds of each of the first items and of the next, when that is set, holds of all up to it
 pub each_set : (P : ℕ → LdvbiFieldReadings → Type 0) (all : List LdvbiFieldReadings) (i : ℕ) (new : LdvbiFieldReadings)

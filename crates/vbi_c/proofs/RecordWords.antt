@@ -2,17 +2,14 @@
 use Rattle.std.proofs.Common.{◌≡◌, ◌∙◌, ℕ, ◌+◌, ◌*◌, Bool, List, ◌++◌, length, map, take, drop, refl, ap, sym, subst}
 use Rattle.std.proofs.Common.{arith}
 use Rattle.std.proofs.lemmas.List.{length-drop, take-append-drop, take_all, drop-drop}
-use Rattle.vbi_words.specs.declared.system.System.{System}
+use Rattle.vbi_c.specs.Types.{System, Recovered, LdvbiFieldReadings, Setup}
 use Rattle.vbi_words.specs.Geometry.{line_bytes, field_bytes}
 use Rattle.vbi_words.specs.Levels.{Slicing}
-use Rattle.vbi_near.specs.declared.recovery.Recovered.{Recovered}
 use Rattle.vbi_near.specs.Recovery.{IsRecovered}
 use Rattle.vbi_field.specs.RecoveredDocument.{nears_text_of, recovered_without}
 use Rattle.vbi_field.specs.RecoveredRows.{recovery_of, joined_rows, as_readings}
 use Rattle.vbi_field.specs.Stream.{rows_in}
 use Rattle.vbi_field.proofs.OneShown.{only_shown}
-use Rattle.vbi_c.specs.declared.reading.LdvbiFieldReadings.{LdvbiFieldReadings}
-use Rattle.vbi_seek.specs.declared.side_bytes.Setup.{Setup}
 use Rattle.vbi_c.specs.Recovering.{lines_for_c, HasWordsOf, AreRecovered, recovered_for_c}
 
 -- what rows show is three lines

@@ -1,16 +1,10 @@
 -- Sides that are called whole by the calls: the laws of vbi_side, of what C hands over.
 use Rattle.std.proofs.Common.{◌≡◌, ◌∙◌, ℕ, Bool, ap, arith, refl, sym, subst}
 use Rattle.std.specs.Prelude.{Option, if◌then◌else◌}
-use Rattle.vbi_side.specs.declared.pace.Pace.{Pace}
-use Rattle.vbi_side.specs.declared.pace.Pace.TheVariants.{Video}
+use Rattle.vbi_c.specs.Types.{Pace, Video, Finding, Reasons, Verdict, Yes, No, CannotTell, LdvbiSide}
 use Rattle.vbi_side.specs.Numbers.{AreAnswers}
-use Rattle.vbi_whole.specs.declared.verdict.Finding.{Finding}
-use Rattle.vbi_whole.specs.declared.verdict.Reasons.{Reasons}
-use Rattle.vbi_whole.specs.declared.verdict.Verdict.{Verdict}
-use Rattle.vbi_whole.specs.declared.verdict.Verdict.TheVariants.{Yes, No, CannotTell}
 use Rattle.vbi_whole.specs.SaidWhole.{IsSaidWhole}
 use Rattle.vbi_whole.specs.Verdicts.{IsFinding}
-use Rattle.vbi_c.specs.declared.whole_side.LdvbiSide.{LdvbiSide}
 use Rattle.vbi_c.specs.CalledWhole.{Called, Finds, IsAnswered, IsCalledWhole, judged_at, slack_at}
 use Rattle.vbi_c.specs.Numbers.{both_by, verdict_for_c}
 

@@ -1,19 +1,11 @@
 -- What the calls answer of a side one after the other, and a side that is called whole by that.
 use Rattle.std.specs.Prelude.{◌≡◌, ℕ, ◌+◌, ◌<◌, ◌≤◌, Bool, List, Option}
-use Rattle.vbi_whole.specs.declared.gap.Gap.{Gap}
-use Rattle.vbi_side.specs.declared.number.Number.{Number}
-use Rattle.vbi_side.specs.declared.pace.Pace as paces
-use Rattle.vbi_side.specs.declared.sighting.Sightings.{Sightings}
-use Rattle.vbi_whole.specs.declared.verdict.Finding.{Finding}
+use Rattle.vbi_c.specs.Types.{Gap, Number, Sightings, Finding, LdvbiFieldReadings, Judging, Siding, LdvbiSide, Pace}
 use Rattle.vbi_side.specs.Clocks.{IsClearAt}
 use Rattle.vbi_side.specs.Side.{Rises, captured, AreLost}
 use Rattle.vbi_side.specs.Truth.{wrong_weight, IsNear}
 use Rattle.vbi_whole.specs.Verdicts.{IsFinding}
-use Rattle.vbi_c.specs.declared.reading.LdvbiFieldReadings.{LdvbiFieldReadings}
-use Rattle.vbi_seek.specs.declared.asked.Judging.{Judging}
-use Rattle.vbi_c.specs.declared.whole_side.Siding.{Siding}
 use Rattle.vbi_c.specs.Judging.{AreJudged}
-use Rattle.vbi_c.specs.declared.whole_side.LdvbiSide.{LdvbiSide}
 use Rattle.vbi_c.specs.WholeSides.{slack_by, side_for_c}
 use Rattle.vbi_whole.specs.Gaps.{Judged, to_judge, rule_by}
 
@@ -33,16 +25,16 @@ pub record Called : Type 0 where
   pub side : LdvbiSide
 
 -- by how many fields its numbers may be off from each other, at this pace
-abbrev pub slack_at : paces.Pace → Called → ℕ
+abbrev pub slack_at : Pace → Called → ℕ
 slack_at pace called = slack_by pace called.both called.numbers
 
 -- the side as it is judged at this pace and to within so many fields
-abbrev pub judged_at : Called → paces.Pace → ℕ → Judged
+abbrev pub judged_at : Called → Pace → ℕ → Judged
 judged_at called pace slack =
     to_judge (rule_by pace slack called.siding.numbering) called.seen called.numbers called.ends
 
 -- this is found of it then, and answered
-abbrev pub Finds : Called → paces.Pace → ℕ → Type 0
+abbrev pub Finds : Called → Pace → ℕ → Type 0
 Finds called pace slack =
     (found : Finding) × IsFinding (judged_at called pace slack) called.may_end found called.old called.new
     × (called.side ≡ side_for_c found)

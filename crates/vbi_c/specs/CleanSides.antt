@@ -1,14 +1,7 @@
 -- A side that leaves nothing to doubt, by what the calls answer one after the other, and one whose chapters do.
 use Rattle.std.specs.Prelude.{◌≡◌, ◌≢◌, ◌⊎◌, ℕ, ◌<◌, ◌≤◌, ◌+◌, List}
-use Rattle.vbi_words.specs.declared.system.System.TheVariants.{Pal}
-use Rattle.vbi_side.specs.declared.clock.Clock.{Clock}
-use Rattle.vbi_side.specs.declared.clock.Clock.TheVariants.{Plain}
-use Rattle.vbi_side.specs.declared.lines.Counted.TheVariants.{Times}
-use Rattle.vbi_side.specs.declared.pace.Pace.TheVariants.{Video, Film}
-use Rattle.vbi_side.specs.declared.sighting.Sightings.{Sightings}
+use Rattle.vbi_c.specs.Types.{Pal, Clock, Plain, Times, Video, Film, Sightings, Given, Found, Judging}
 use Rattle.vbi_whole.specs.CleanRuns.{IsCleanSide, IsReadRun}
-use Rattle.vbi_seek.specs.declared.asked.Asked.TheVariants.{Given, Found}
-use Rattle.vbi_seek.specs.declared.asked.Judging.{Judging}
 use Rattle.vbi_c.specs.CalledWhole.{Called, IsAnswered, judged_at, slack_at}
 
 -- what was seen is one run of a disc that counts by the clock, from its first number to lead-out, each number read on

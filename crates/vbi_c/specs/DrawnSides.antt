@@ -1,11 +1,8 @@
 -- A side that is drawn, from which its numbers are read.
 use Rattle.std.specs.Prelude.{ℕ, List, [], ◌∷◌, Some, None}
-use Rattle.vbi_words.specs.declared.system.System.{System}
+use Rattle.vbi_c.specs.Types.{System, WordRow, Pictures, Asked}
 use Rattle.vbi_words.specs.Levels.{Slicing}
 use Rattle.vbi_field.specs.Draws.{draw_out, no_words}
-use Rattle.vbi_field.specs.declared.word_row.WordRow.{WordRow}
-use Rattle.vbi_side.specs.declared.lines.Counted.TheVariants.{Pictures}
-use Rattle.vbi_seek.specs.declared.asked.Asked.{Asked}
 use Rattle.vbi_seek.specs.NumberSearch.{Numbers}
 
 -- the bytes of a side of pictures 1, 2 and 3, each on lines 17 and 18 of its first field, between fields without words

@@ -2,12 +2,9 @@
 use Rattle.std.specs.Prelude.{ℕ, Bool, true, ◌==◌, ◌&&◌, ◌||◌, nat_le, nat_lt, if◌then◌else◌, List, [], ◌∷◌}
 use Rattle.std.specs.Prelude.{◌++◌, ◌<◌, ◌≤◌, take, drop, map, Result, Ok, Err, All}
 use Rattle.std.specs.List.{list_any, list_all, range_with_len}
-use Rattle.vbi_words.specs.declared.system.System as words
 use Rattle.vbi_words.specs.Geometry.{width_of}
 pub use Rattle.vbi_near.specs.Recovery.{none_erased}
-use Rattle.vbi_c.specs.declared.erased.LdvbiErased.{LdvbiErased}
-use Rattle.vbi_seek.specs.declared.side_bytes.Setup.{Setup}
-use Rattle.vbi_c.specs.declared.status.Refusal.{Refusal}
+use Rattle.vbi_c.specs.Types.{LdvbiErased, Setup, Refusal, System}
 use Rattle.vbi_c.specs.declared.status.Refusal.TheVariants.{Erased}
 use Rattle.vbi_c.specs.Statuses.{in_turn}
 
@@ -48,12 +45,12 @@ erases field line column entry =
     entry.field == field && entry.line == line && nat_le entry.first column && nat_le column entry.last
 
 -- the marks of a line's columns: whether an entry erases them
-abbrev pub line_marks : List LdvbiErased → words.System → ℕ → ℕ → List Bool
+abbrev pub line_marks : List LdvbiErased → System → ℕ → ℕ → List Bool
 line_marks list system field line =
     map (λ column. list_any (erases field line column) list) (range_with_len 0 (width_of system))
 
 -- the marks of the columns of lines 16, 17 and 18 of a field, one line after the other
-unfoldable pub erased_of : List LdvbiErased → words.System → ℕ → List Bool
+unfoldable pub erased_of : List LdvbiErased → System → ℕ → List Bool
 erased_of list system field =
     line_marks list system field 16 ++ line_marks list system field 17 ++ line_marks list system field 18
 

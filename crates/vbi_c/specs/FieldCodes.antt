@@ -1,22 +1,13 @@
 -- The judging of chapters, of picture stops, and of lead-in and lead-out, as C asks for it.
-use Rattle.std.specs.Prelude.{◌≡◌, ℕ, ◌==◌, ◌&&◌, if◌then◌else◌, List, [], ◌∷◌, length, slice_get, Option, Some}
-use Rattle.vbi_side.specs.declared.number.Number.{Number}
-use Rattle.vbi_side.specs.declared.sighting.Sightings.{Sightings}
+use Rattle.std.specs.Prelude.{◌≡◌, ℕ, List, [], ◌∷◌, length, slice_get, Option, Some}
+use Rattle.vbi_c.specs.Types.{Number, Sightings, LdvbiFieldReadings, LdvbiReading}
 use Rattle.vbi_side.specs.Chapters.{chapters_of, AreChapters, IsSoundChapter}
 use Rattle.vbi_side.specs.Ends.{end_of}
 use Rattle.vbi_side.specs.Numbers.{believed}
 use Rattle.vbi_side.specs.Stops.{IsJudgedStop}
-use Rattle.vbi_c.specs.declared.reading.LdvbiFieldReadings.{LdvbiFieldReadings}
-use Rattle.vbi_c.specs.declared.reading.LdvbiReading.{LdvbiReading}
-use Rattle.vbi_c.specs.declared.status.Refusal.TheVariants.{Length}
 use Rattle.vbi_c.specs.Judging.{lines_in, shown_by}
-use Rattle.vbi_c.specs.Statuses.{refusal_status}
 
 -- ---- chapters
-
--- the status of a call with arrays of these lengths: both have to be as long as that of the readings
-abbrev pub chapters_status : ℕ → ℕ → ℕ → ℕ
-chapters_status count seen chapters = if seen == count && chapters == count then 0 else refusal_status Length
 
 -- what a field's readings show of its chapter: lines 17 and 18 alone have one
 abbrev pub chapters_in : LdvbiFieldReadings → Sightings
@@ -30,10 +21,6 @@ pub record AreJudgedChapters (seen : List Sightings) (chapters : List Number) : 
       → IsSoundChapter recorded seen i n
 
 -- ---- stops and ends
-
--- the status of a call with an array of this length: it has to be as long as that of the readings
-abbrev pub array_status : ℕ → ℕ → ℕ
-array_status count answers = if answers == count then 0 else refusal_status Length
 
 -- the answer is that of a field's three lines: lines 16 and 17 alone have a stop
 abbrev pub IsStopOf : List LdvbiReading → ℕ → Type 0

@@ -4,19 +4,12 @@ use Rattle.std.specs.Prelude.{◌≡◌, ℕ, ◌+◌, ◌^◌, Bool, ◌==◌, 
 use Rattle.std.specs.Prelude.{slice_get, Option, Some, None, ok_or, Result, Ok, Err}
 use Rattle.vbi_words.specs.declared.system.System as words
 use Rattle.vbi_side.specs.declared.lines.Counted as side
-use Rattle.vbi_side.specs.declared.lines.Shown.{Shown}
-use Rattle.vbi_side.specs.declared.number.Number.{Number}
+use Rattle.vbi_c.specs.Types.{Shown, Number, Video, Sightings, LdvbiFieldReadings, Judging, Asked, LdvbiReading}
+use Rattle.vbi_c.specs.Types.{Refusal}
 use Rattle.vbi_side.specs.declared.pace.Pace as paces
-use Rattle.vbi_side.specs.declared.pace.Pace.TheVariants.{Video}
-use Rattle.vbi_side.specs.declared.sighting.Sightings.{Sightings}
 use Rattle.vbi_side.specs.Numbers.{believed, due, AreAnswers, AreRight, IsAnswer}
 use Rattle.vbi_side.specs.Truth.{IsRegular, IsSoundStill}
 use Rattle.vbi_side.specs.Misread.{Capture, Lines, Words, numbers_in, IsRead}
-use Rattle.vbi_c.specs.declared.reading.LdvbiFieldReadings.{LdvbiFieldReadings}
-use Rattle.vbi_seek.specs.declared.asked.Judging.{Judging}
-use Rattle.vbi_seek.specs.declared.asked.Asked.{Asked}
-use Rattle.vbi_c.specs.declared.reading.LdvbiReading.{LdvbiReading}
-use Rattle.vbi_c.specs.declared.status.Refusal.{Refusal}
 use Rattle.vbi_c.specs.declared.status.Refusal.TheVariants.{System, Length, Counted, Pace}
 pub use Rattle.vbi_seek.specs.Asked.{IsGiven, IsAskedPace}
 use Rattle.vbi_c.specs.Numbers.{system_of, counted_of, asked_of, given_of}

@@ -14,5 +14,6 @@ pub mod Recovering
 pub mod Seeking
 pub mod Setups
 pub mod Statuses
+pub mod Types
 pub mod WholeSides
 pub mod Worked

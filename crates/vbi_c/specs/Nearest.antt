@@ -1,12 +1,10 @@
 -- The nearest word of lines, as C sees it.
 use Rattle.std.specs.Prelude.{◌≡◌, ℕ, ◌/◌, List, length, unwrap_or}
 use Rattle.vbi_words.specs.Geometry.{line_bytes}
-use Rattle.vbi_near.specs.declared.near.Near.{Near}
+use Rattle.vbi_c.specs.Types.{Near, Setup, LdvbiNear}
 use Rattle.vbi_near.specs.Distances.{Samples, lines_of}
 use Rattle.vbi_near.specs.Nearest.{IsNearest}
 use Rattle.vbi_near.specs.LongerSignal.{IsLonger}
-use Rattle.vbi_seek.specs.declared.side_bytes.Setup.{Setup}
-use Rattle.vbi_c.specs.declared.piling.LdvbiNear.{LdvbiNear}
 
 -- the nearest word; 0 for none
 abbrev pub near_for_c : Near → LdvbiNear

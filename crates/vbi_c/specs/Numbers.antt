@@ -1,49 +1,30 @@
 -- What the numbers that C hands over stand for, and the numbers in which it is answered.
 use Rattle.std.specs.Prelude.{ℕ, ◌+◌, ◌==◌, ◌^◌, ◌&&◌, nat_le, nat_lt, if◌then◌else◌, Bool, true, false, not}
 use Rattle.std.specs.Prelude.{List, [], ◌∷◌, Option, Some, None, Result, Ok, Err}
-use Rattle.vbi_words.specs.declared.code.Code.{Code}
-use Rattle.vbi_words.specs.declared.code.Code.TheVariants.{Picture, Chapter, Time, ClvPicture, CxOn, CxOff}
-use Rattle.vbi_words.specs.declared.code.Code.TheVariants.{Users, LeadIn, LeadOut, PictureStop, ClvMark, Other}
-use Rattle.vbi_words.specs.declared.format.Format.{Format}
-use Rattle.vbi_words.specs.declared.format.Format.TheVariants.{Cav, Clv, Both, Neither}
-use Rattle.vbi_words.specs.declared.system.System as words
-use Rattle.vbi_words.specs.declared.system.System.TheVariants.{Ntsc, Pal}
-use Rattle.vbi_side.specs.declared.clock.Clock.{Clock}
-use Rattle.vbi_side.specs.declared.clock.Clock.TheVariants.{Plain, DropFrame, OneIn}
-use Rattle.vbi_side.specs.declared.lines.Counted as side
-use Rattle.vbi_side.specs.declared.lines.Counted.TheVariants.{Pictures, Times}
-use Rattle.vbi_side.specs.declared.number.Number.{Number}
-use Rattle.vbi_side.specs.declared.pace.Pace as paces
-use Rattle.vbi_side.specs.declared.pace.Pace.TheVariants.{Video, Film}
+use Rattle.vbi_c.specs.Types.{Code, Picture, Chapter, Time, ClvPicture, CxOn, CxOff, Users, LeadIn, LeadOut}
+use Rattle.vbi_c.specs.Types.{PictureStop, ClvMark, Other, Format, Cav, Clv, Both, Neither, Ntsc, Pal, Clock, Plain}
+use Rattle.vbi_c.specs.Types.{DropFrame, OneIn, Pictures, Times, Number, Video, Film, Reasons, Verdict, Yes, No}
+use Rattle.vbi_c.specs.Types.{CannotTell, PlanRule, Disordered, NotThere, Twice, Misplaced, Hidden, Asked, Given, Found}
+use Rattle.vbi_c.specs.Types.{LdvbiClock, LdvbiCode, Refusal, System, Counted, Pace}
 use Rattle.vbi_whole.specs.NumbersOnBoth.{is_on_both}
-use Rattle.vbi_whole.specs.declared.verdict.Reasons.{Reasons}
-use Rattle.vbi_whole.specs.declared.verdict.Verdict.{Verdict}
-use Rattle.vbi_whole.specs.declared.verdict.Verdict.TheVariants.{Yes, No, CannotTell}
-use Rattle.vbi_plan.specs.declared.plan.PlanRule.{PlanRule}
-use Rattle.vbi_plan.specs.declared.plan.PlanRule.TheVariants.{Disordered, NotThere, Twice, Misplaced, Hidden}
 use Rattle.vbi_plan.specs.declared.plan.Spacing as spacings
 use Rattle.vbi_plan.specs.declared.plan.Spacing.TheVariants as spacing
-use Rattle.vbi_seek.specs.declared.asked.Asked.{Asked}
-use Rattle.vbi_seek.specs.declared.asked.Asked.TheVariants.{Given, Found}
-use Rattle.vbi_c.specs.declared.numbers.LdvbiClock.{LdvbiClock}
-use Rattle.vbi_c.specs.declared.numbers.LdvbiCode.{LdvbiCode}
-use Rattle.vbi_c.specs.declared.status.Refusal.{Refusal}
 use Rattle.vbi_c.specs.declared.status.Refusal.TheVariants.{Word}
 use Rattle.vbi_c.specs.Statuses.{in_turn}
 
 -- ---- what they stand for
 
 -- the system of a number
-abbrev pub system_of : ℕ → Option words.System
+abbrev pub system_of : ℕ → Option System
 system_of number = if number == 1 then Some Ntsc else (if number == 2 then Some Pal else None)
 
 -- a number of a system's geometry, or 0 if there is no system
-abbrev pub of_system : (words.System → ℕ) → Option words.System → ℕ
+abbrev pub of_system : (System → ℕ) → Option System → ℕ
 of_system number None = 0
 of_system number (Some system) = number system
 
 -- what is counted, by its number
-abbrev pub counted_of : ℕ → Option side.Counted
+abbrev pub counted_of : ℕ → Option Counted
 counted_of number = if number == 1 then Some Pictures else (if number == 2 then Some Times else None)
 
 -- the pace that is asked for, by its number: one that is given, or the one that is found
@@ -57,7 +38,7 @@ abbrev pub given_of : ℕ → Option Asked
 given_of number = if number == 3 then None else asked_of number
 
 -- the pace of this number, 1 for that of video, 2 for that of film
-abbrev pub pace_given : ℕ → Option paces.Pace
+abbrev pub pace_given : ℕ → Option Pace
 pace_given number = if number == 1 then Some Video else (if number == 2 then Some Film else None)
 
 -- the spacing of this number: 1 for two fields, 2 for two or three, 3 for two with numbers on both, 4 for one or more
@@ -98,12 +79,12 @@ three_words first second third =
 -- ---- what is answered
 
 -- a pace as C sees it
-abbrev pub pace_for_c : paces.Pace → ℕ
+abbrev pub pace_for_c : Pace → ℕ
 pace_for_c Video = 1
 pace_for_c Film = 2
 
 -- the pace of a number that was sought, or 0 if none was found
-abbrev pub sought_pace : Option paces.Pace → ℕ
+abbrev pub sought_pace : Option Pace → ℕ
 sought_pace None = 0
 sought_pace (Some pace) = pace_for_c pace
 

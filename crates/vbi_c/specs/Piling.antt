@@ -3,12 +3,9 @@ use Rattle.std.specs.Prelude.{◌≡◌, ◌&&◌, ◌==◌, ℕ, ◌/◌, Bool,
 use Rattle.std.specs.Prelude.{Result, Ok, Err, Option, ◌<◌}
 use Rattle.std.specs.List.{list_all, range_with_len}
 use Rattle.vbi_words.specs.Geometry.{line_bytes, line_at}
-use Rattle.vbi_words.specs.declared.system.System as words
 use Rattle.vbi_near.specs.Candidates.{Row, row_of, marks_at}
 use Rattle.vbi_near.specs.PileRule.{IsSaidTogether}
-use Rattle.vbi_c.specs.declared.erased.LdvbiErased.{LdvbiErased}
-use Rattle.vbi_seek.specs.declared.side_bytes.Setup.{Setup}
-use Rattle.vbi_c.specs.declared.status.Refusal.{Refusal}
+use Rattle.vbi_c.specs.Types.{LdvbiErased, Setup, Refusal, System}
 use Rattle.vbi_c.specs.declared.status.Refusal.TheVariants.{Erased, Line, Known}
 use Rattle.vbi_c.specs.Erased.{is_code_line, is_taken, line_marks}
 use Rattle.vbi_c.specs.Setups.{lines_setup}
@@ -17,7 +14,7 @@ use Rattle.vbi_c.specs.Statuses.{in_turn}
 -- ---- what is refused
 
 -- how many lines this many bytes are
-abbrev pub count_in : words.System → ℕ → ℕ
+abbrev pub count_in : System → ℕ → ℕ
 count_in system bytes = bytes / line_bytes system
 
 -- a list is taken if this many lines of one number are handed over: its entries are of these
@@ -36,12 +33,12 @@ pile_setup system black white line known bytes list = in_turn (lines_setup syste
 -- ---- what is answered
 
 -- the line of this place, of which the columns are erased that an entry of its place names
-abbrev pub row_erased : words.System → ℕ → List ℕ → List LdvbiErased → ℕ → Row
+abbrev pub row_erased : System → ℕ → List ℕ → List LdvbiErased → ℕ → Row
 row_erased system line bytes list place =
     row_of (line_at system bytes 0 place) (line_marks list system place line)
 
 -- all of them
-abbrev pub rows_erased : words.System → ℕ → List ℕ → List LdvbiErased → List Row
+abbrev pub rows_erased : System → ℕ → List ℕ → List LdvbiErased → List Row
 rows_erased system line bytes list =
     map (row_erased system line bytes list) (range_with_len 0 (count_in system (length bytes)))
 
@@ -53,6 +50,6 @@ IsWordOf setup line known rows answer = (said : Option ℕ)
 -- ---- as it is found
 
 -- the marks of the first lines lie one line after the other
-abbrev pub HasMarks : words.System → ℕ → List LdvbiErased → ℕ → List Bool → Type 0
+abbrev pub HasMarks : System → ℕ → List LdvbiErased → ℕ → List Bool → Type 0
 HasMarks system line list count marks = (place : ℕ) → place < count
     → marks_at system marks place ≡ line_marks list system place line

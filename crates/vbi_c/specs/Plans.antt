@@ -1,11 +1,7 @@
 -- The plan of a file, as C asks about it: first the spacing is looked at, then the clock.
 use Rattle.std.specs.Prelude.{◌≡◌, ◌↔◌, ℕ, length, Option, Some, None, IfSome, ok_or, Result, Ok}
-use Rattle.vbi_plan.specs.declared.plan.Layout.{Layout}
-use Rattle.vbi_plan.specs.declared.plan.PlanFault.{PlanFault}
+use Rattle.vbi_c.specs.Types.{Layout, PlanFault, LdvbiClock, LdvbiChecked, Refusal}
 use Rattle.vbi_plan.specs.Plans.{IsDone, IsFirstFault, Plan}
-use Rattle.vbi_c.specs.declared.numbers.LdvbiClock.{LdvbiClock}
-use Rattle.vbi_c.specs.declared.plan.LdvbiChecked.{LdvbiChecked}
-use Rattle.vbi_c.specs.declared.status.Refusal.{Refusal}
 use Rattle.vbi_c.specs.declared.status.Refusal.TheVariants.{Pace, Clock}
 use Rattle.vbi_c.specs.Numbers.{spacing_given, clock_given, rule_for_c}
 use Rattle.vbi_c.specs.Statuses.{in_turn}

@@ -1,17 +1,12 @@
 -- The readings of a line, of a field's lines 16, 17 and 18, and of each field of a stream, as C sees them.
 use Rattle.std.specs.Prelude.{ℕ, ◌+◌, List, [], ◌∷◌, map}
 use Rattle.std.specs.List.{range_with_len}
-use Rattle.vbi_words.specs.declared.outcome.Outcome.{Outcome}
-use Rattle.vbi_words.specs.declared.outcome.Outcome.TheVariants.{Word, Blank, Unfinished, Change, Hold}
-use Rattle.vbi_words.specs.declared.outcome.Reading.{Reading}
-use Rattle.vbi_words.specs.declared.system.System.{System}
+use Rattle.vbi_c.specs.Types.{Outcome, Word, Blank, Unfinished, Change, Hold, Reading, System, Setup, LdvbiReading}
+use Rattle.vbi_c.specs.Types.{LdvbiFieldReadings}
 use Rattle.vbi_words.specs.Geometry.{line_at}
 use Rattle.vbi_words.specs.Levels.{row_levels}
 use Rattle.vbi_line.specs.OneReading.{reading_of}
 pub use Rattle.vbi_seek.specs.FieldLines.{field_in}
-use Rattle.vbi_seek.specs.declared.side_bytes.Setup.{Setup}
-use Rattle.vbi_c.specs.declared.reading.LdvbiReading.{LdvbiReading}
-use Rattle.vbi_c.specs.declared.reading.LdvbiFieldReadings.{LdvbiFieldReadings}
 
 -- an outcome with the pass of its reading; the word and the column are 0 if there is none
 abbrev pub outcome_for_c : Outcome → ℕ → LdvbiReading

@@ -2,14 +2,9 @@
 -- words has of a field, as C sees them.
 use Rattle.std.specs.Prelude.{◌≡◌, ◌<◌, ℕ, ◌-◌, Bool, List, [], ◌∷◌, ◌++◌, map, length, replicate, slice_get, Some}
 use Rattle.vbi_field.specs.RecoveredDocument.{recovered_record_of, recovered_without, record_with, cause_lines}
-use Rattle.vbi_field.specs.declared.readings.FieldReadings.{FieldReadings}
+use Rattle.vbi_c.specs.Types.{FieldReadings, Recovered, Setup, LdvbiReading, LdvbiFieldReadings, LdvbiRecord}
 use Rattle.vbi_field.specs.Stream.{row_readings, rows_in}
-use Rattle.vbi_near.specs.declared.recovery.Recovered.{Recovered}
 use Rattle.vbi_near.specs.Recovery.{IsRecovered}
-use Rattle.vbi_seek.specs.declared.side_bytes.Setup.{Setup}
-use Rattle.vbi_c.specs.declared.reading.LdvbiReading.{LdvbiReading}
-use Rattle.vbi_c.specs.declared.reading.LdvbiFieldReadings.{LdvbiFieldReadings}
-use Rattle.vbi_c.specs.declared.recovering.LdvbiRecord.{LdvbiRecord}
 use Rattle.vbi_seek.specs.FieldLines.{Side, recovery_of}
 pub use Rattle.vbi_seek.specs.FieldLines.{code_bytes}
 use Rattle.vbi_c.specs.Readings.{outcome_for_c, reading_for_c, field_in}

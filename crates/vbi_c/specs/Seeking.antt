@@ -1,10 +1,7 @@
 -- Seeking in the bytes of a side, as C asks for it: first the system is looked at, then black and white, then what is
 -- counted, then the pace.
 use Rattle.std.specs.Prelude.{ℕ, Result, Ok}
-use Rattle.vbi_seek.specs.declared.number_search.Sought.{Sought}
-use Rattle.vbi_seek.specs.declared.search.Seek.{Seek}
-use Rattle.vbi_c.specs.declared.seeking.LdvbiSought.{LdvbiSought}
-use Rattle.vbi_c.specs.declared.status.Refusal.{Refusal}
+use Rattle.vbi_c.specs.Types.{Sought, Seek, LdvbiSought, Refusal}
 use Rattle.vbi_c.specs.Judging.{with_pace}
 use Rattle.vbi_c.specs.Numbers.{counted_of, asked_of, sought_pace}
 use Rattle.vbi_c.specs.Setups.{setup_of}

@@ -3,9 +3,7 @@
 use Rattle.std.specs.Prelude.{ℕ, Bool, ◌*◌, ◌%◌, ◌==◌, ◌&&◌, nat_lt, nat_le, if◌then◌else◌, ok_or, Result, Ok, Err}
 use Rattle.vbi_words.specs.declared.system.System as words
 use Rattle.vbi_words.specs.Geometry.{line_bytes, field_bytes}
-use Rattle.vbi_seek.specs.declared.side_bytes.Setup.{Setup}
-use Rattle.vbi_c.specs.declared.words.Drawing.{Drawing}
-use Rattle.vbi_c.specs.declared.status.Refusal.{Refusal}
+use Rattle.vbi_c.specs.Types.{Setup, Drawing, Refusal}
 use Rattle.vbi_c.specs.declared.status.Refusal.TheVariants.{System, Levels, Length}
 use Rattle.vbi_c.specs.Numbers.{system_of, word_or_none}
 use Rattle.vbi_c.specs.Statuses.{in_turn}

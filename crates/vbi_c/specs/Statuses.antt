@@ -1,6 +1,6 @@
 -- How a call ends, and that what is looked at first is refused first.
-use Rattle.std.specs.Prelude.{◌≡◌, ◌≢◌, ℕ, IfOk, Result, Ok, Err}
-use Rattle.vbi_c.specs.declared.status.Refusal.{Refusal}
+use Rattle.std.specs.Prelude.{◌≡◌, ◌≢◌, ℕ, IfOk, Result, Ok, Err, Bool, if◌then◌else◌}
+use Rattle.vbi_c.specs.Types.{Refusal}
 use Rattle.vbi_c.specs.declared.status.Refusal.TheVariants.{System, Levels, Length, Word, Counted, Pace}
 use Rattle.vbi_c.specs.declared.status.Refusal.TheVariants.{Erased, Line, Known, Clock}
 
@@ -26,6 +26,10 @@ status_of (Err refusal) = refusal_status refusal
 abbrev pub in_turn : {A B : Type 0} → Result A Refusal → (A → Result B Refusal) → Result B Refusal
 in_turn (Ok found) next = next found
 in_turn (Err refusal) next = Err refusal
+
+-- the lengths of the arrays of a call fit, or the call is refused
+abbrev pub fitting : Bool → Result (Unit {0}) Refusal
+fitting fit = if fit then Ok tt else Err Length
 
 -- a call is answered the status of what its arguments stand for: if they are found right, this holds of what they stand
 -- for; after any status but 0 all is unwritten

@@ -1,25 +1,17 @@
 -- The verdict on a side, as C asks for it: first the system is looked at, then the lengths of the arrays, then what is
 -- counted, then the pace, then the clock.
 use Rattle.std.specs.Prelude.{◌≡◌, ◌⊎◌, ℕ, if◌then◌else◌, Bool, true, false, List, Option, Some, ok_or, Result, Ok}
-use Rattle.vbi_side.specs.declared.number.Number.{Number}
+use Rattle.vbi_c.specs.Types.{Number, Plain, DropFrame, Video, Film, Finding, Numbering, LdvbiSide, LdvbiSideRule}
+use Rattle.vbi_c.specs.Types.{Siding, Refusal, Sightings}
 use Rattle.vbi_side.specs.declared.clock.Clock as clocks
-use Rattle.vbi_side.specs.declared.clock.Clock.TheVariants.{Plain, DropFrame}
 use Rattle.vbi_side.specs.declared.pace.Pace as paces
-use Rattle.vbi_side.specs.declared.pace.Pace.TheVariants.{Video, Film}
-use Rattle.vbi_whole.specs.declared.verdict.Finding.{Finding}
 use Rattle.vbi_side.specs.Clocks.{IsProper}
-use Rattle.vbi_whole.specs.declared.gap.Numbering.{Numbering}
 use Rattle.vbi_whole.specs.ClockSearch.{IsClockTold, ExplainsMost}
-use Rattle.vbi_c.specs.declared.whole_side.LdvbiSide.{LdvbiSide}
-use Rattle.vbi_c.specs.declared.whole_side.LdvbiSideRule.{LdvbiSideRule}
-use Rattle.vbi_c.specs.declared.whole_side.Siding.{Siding}
-use Rattle.vbi_c.specs.declared.status.Refusal.{Refusal}
 use Rattle.vbi_c.specs.declared.status.Refusal.TheVariants.{Counted, Pace, Clock}
 use Rattle.vbi_c.specs.Numbers.{system_of, counted_of, pace_given, both_by, clock_given, verdict_for_c, reasons_for_c}
 use Rattle.vbi_c.specs.Statuses.{in_turn}
 use Rattle.vbi_c.specs.Judging.{with_lengths}
 use Rattle.vbi_whole.specs.Gaps.{Judged, to_judge, rule_by, has_clock}
-use Rattle.vbi_side.specs.declared.sighting.Sightings.{Sightings}
 
 -- what a rule with this clock asks for, of arrays whose lengths fit or don't
 abbrev pub siding_with : LdvbiSideRule → Option clocks.Clock → Bool → Result Siding Refusal

@@ -1,25 +1,10 @@
 -- What the laws of the calls speak of, written down: setups, what is judged, what C is answered, readings, entries of
 -- erased columns, and what fields show.
-use Rattle.std.specs.Prelude.{ℕ, List, [], ◌∷◌, ◌==◌, if◌then◌else◌}
-use Rattle.vbi_words.specs.declared.system.System.{System}
-use Rattle.vbi_words.specs.declared.system.System.TheVariants.{Ntsc, Pal}
-use Rattle.vbi_side.specs.declared.lines.Counted.{Counted}
-use Rattle.vbi_side.specs.declared.number.Number.{Number}
-use Rattle.vbi_side.specs.declared.clock.Clock.{Clock}
-use Rattle.vbi_side.specs.declared.clock.Clock.TheVariants.{Plain}
-use Rattle.vbi_side.specs.declared.pace.Pace.{Pace}
+use Rattle.std.specs.Prelude.{ℕ, List, [], ◌∷◌, Option, ◌==◌, if◌then◌else◌}
+use Rattle.vbi_c.specs.Types.{System, Ntsc, Pal, Counted, Number, Clock, Plain, Pace, LdvbiCode, LdvbiErased}
+use Rattle.vbi_c.specs.Types.{LdvbiFieldReadings, Asked, Judging, LdvbiNear, LdvbiReading, Setup, LdvbiClock}
+use Rattle.vbi_c.specs.Types.{LdvbiSideRule, Siding, Near}
 use Rattle.vbi_side.specs.Numbers.{believed, nothing}
-use Rattle.vbi_c.specs.declared.numbers.LdvbiCode.{LdvbiCode}
-use Rattle.vbi_c.specs.declared.erased.LdvbiErased.{LdvbiErased}
-use Rattle.vbi_c.specs.declared.reading.LdvbiFieldReadings.{LdvbiFieldReadings}
-use Rattle.vbi_seek.specs.declared.asked.Asked.{Asked}
-use Rattle.vbi_seek.specs.declared.asked.Judging.{Judging}
-use Rattle.vbi_c.specs.declared.piling.LdvbiNear.{LdvbiNear}
-use Rattle.vbi_c.specs.declared.reading.LdvbiReading.{LdvbiReading}
-use Rattle.vbi_seek.specs.declared.side_bytes.Setup.{Setup}
-use Rattle.vbi_c.specs.declared.numbers.LdvbiClock.{LdvbiClock}
-use Rattle.vbi_c.specs.declared.whole_side.LdvbiSideRule.{LdvbiSideRule}
-use Rattle.vbi_c.specs.declared.whole_side.Siding.{Siding}
 use Rattle.vbi_c.specs.Numbers.{clock_as}
 
 -- black and white of ld-decode's TBC files of NTSC, and of PAL
@@ -41,7 +26,17 @@ code_as kind first second = record { kind = kind; first = first; second = second
 abbrev pub reading_as : ℕ → ℕ → ℕ → ℕ → LdvbiReading
 reading_as cause pass column word = record { cause = cause; pass = pass; column = column; word = word }
 
--- what is found nearest, as C sees it
+-- what is found nearest, and how C sees it
+abbrev pub found_near : Option ℕ → ℕ → ℕ → ℕ → ℕ → ℕ → Near
+found_near word start distance rival longer shorter = record {
+  word = word;
+  start = start;
+  distance = distance;
+  rival = rival;
+  longer = longer;
+  shorter = shorter;
+}
+
 abbrev pub near_as : ℕ → ℕ → ℕ → ℕ → ℕ → LdvbiNear
 near_as word start distance rival longer = record {
   word = word;

@@ -6,7 +6,7 @@ ghost use Rattle.vbi_c.specs.{Judging.lines_in, Judging.seen_in, Statuses.Answer
 
 use crate::judging::{Asked, Judging, are_as_long, see_all, shown_by, with_lengths};
 use crate::reading::{LdvbiFieldReadings, LdvbiReading};
-use crate::status::DONE;
+use crate::status::{DONE, settled};
 use vbi_side::{Counted, Shown, Sightings, completed_time};
 use vbi_words::{System, Word24};
 
@@ -93,12 +93,8 @@ pub extern "C" fn ldvbi_complete_times(
         ((seen.new ≡ seen.old) × (completed.new ≡ completed.old)) }
 {
     let fit = are_as_long(readings.len(), seen.len(), completed.len());
-    match with_lengths(system, fit) {
-        Ok(system) => {
-            see_all(&times_of(system), readings, seen);
-            complete_all(system, readings, seen, completed);
-            DONE
-        }
-        Err(refusal) => refusal.status(),
-    }
+    let system = settled!(with_lengths(system, fit));
+    see_all(&times_of(system), readings, seen);
+    complete_all(system, readings, seen, completed);
+    DONE
 }

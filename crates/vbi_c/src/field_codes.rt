@@ -1,12 +1,12 @@
 //! Judging the chapters, the picture stops, and the lead-in and lead-out of fields.
 
-ghost use Rattle.std.specs.Prelude.{◌≡◌, ◌≢◌, length, map};
-ghost use Rattle.vbi_c.specs.FieldCodes.{chapters_status, chapters_in, AreJudgedChapters, array_status};
-ghost use Rattle.vbi_c.specs.FieldCodes.{IsStopOf, IsEndOf, AreAnswered};
+ghost use Rattle.std.specs.Prelude.{◌≡◌, ◌==◌, length, map};
+ghost use Rattle.vbi_c.specs.FieldCodes.{chapters_in, AreJudgedChapters, IsStopOf, IsEndOf, AreAnswered};
+ghost use Rattle.vbi_c.specs.{Judging.are_as_long, Statuses.fitting, Statuses.Answers};
 
 use crate::judging::{are_as_long, shown_by};
 use crate::reading::LdvbiFieldReadings;
-use crate::status::{DONE, Refusal};
+use crate::status::{DONE, Refusal, refuse_unless, settled};
 use vbi_side::{Number, Sightings, chapters_shown, judge_chapters, judge_end, judge_stop};
 
 /// What a field's lines show of its chapter.
@@ -35,14 +35,12 @@ pub extern "C" fn ldvbi_judge_chapters(
     seen: &mut [Sightings],
     chapters: &mut [Number],
 ) -> u32
-    ensures status { result ≡ chapters_status (length readings.now) (length seen.old) (length chapters.old) }
-    ensures sees { result ≡ 0 → seen.new ≡ map chapters_in readings.now }
-    ensures judges { result ≡ 0 → AreJudgedChapters seen.new chapters.new }
-    ensures unwritten { result ≢ 0 → (seen.new ≡ seen.old) × (chapters.new ≡ chapters.old) }
+    ensures judges { Answers (fitting (are_as_long (length readings.now) (length seen.old) (length chapters.old)))
+        result (λ fits. (seen.new ≡ map chapters_in readings.now) × AreJudgedChapters seen.new chapters.new)
+        ((seen.new ≡ seen.old) × (chapters.new ≡ chapters.old)) }
 {
-    if !are_as_long(readings.len(), seen.len(), chapters.len()) {
-        return Refusal::Length.status();
-    }
+    let fit = are_as_long(readings.len(), seen.len(), chapters.len());
+    settled!(refuse_unless(fit, Refusal::Length));
     sight_chapters(readings, seen);
     judge_chapters(seen, chapters);
     DONE
@@ -70,13 +68,10 @@ fn judge_all_stops(readings: &[LdvbiFieldReadings], stops: &mut [u32])
 /// as long as `readings`: 1 for a stop that is believed, 2 for one in doubt, 0 for none.
 #[unsafe(no_mangle)]
 pub extern "C" fn ldvbi_judge_stops(readings: &[LdvbiFieldReadings], stops: &mut [u32]) -> u32
-    ensures status { result ≡ array_status (length readings.now) (length stops.old) }
-    ensures judges { result ≡ 0 → AreAnswered IsStopOf readings.now stops.new }
-    ensures unwritten { result ≢ 0 → stops.new ≡ stops.old }
+    ensures judges { Answers (fitting (length stops.old == length readings.now)) result
+        (λ fits. AreAnswered IsStopOf readings.now stops.new) (stops.new ≡ stops.old) }
 {
-    if stops.len() != readings.len() {
-        return Refusal::Length.status();
-    }
+    settled!(refuse_unless(stops.len() == readings.len(), Refusal::Length));
     judge_all_stops(readings, stops);
     DONE
 }
@@ -103,13 +98,10 @@ fn judge_all_ends(readings: &[LdvbiFieldReadings], ends: &mut [u32])
 /// `ends`, which is as long as `readings`: 1 for lead-out, 3 for lead-in, 2 for either in doubt, 0 for none.
 #[unsafe(no_mangle)]
 pub extern "C" fn ldvbi_judge_ends(readings: &[LdvbiFieldReadings], ends: &mut [u32]) -> u32
-    ensures status { result ≡ array_status (length readings.now) (length ends.old) }
-    ensures judges { result ≡ 0 → AreAnswered IsEndOf readings.now ends.new }
-    ensures unwritten { result ≢ 0 → ends.new ≡ ends.old }
+    ensures judges { Answers (fitting (length ends.old == length readings.now)) result
+        (λ fits. AreAnswered IsEndOf readings.now ends.new) (ends.new ≡ ends.old) }
 {
-    if ends.len() != readings.len() {
-        return Refusal::Length.status();
-    }
+    settled!(refuse_unless(ends.len() == readings.len(), Refusal::Length));
     judge_all_ends(readings, ends);
     DONE
 }

@@ -9,7 +9,7 @@ ghost use Rattle.vbi_c.specs.{Numbers.system_of, Numbers.counted_of, Numbers.pac
 
 use crate::numbers::{asked_of, counted_of, pace_for_c, pace_given, system_of};
 use crate::reading::{LdvbiFieldReadings, LdvbiReading};
-use crate::status::{DONE, Refusal, Settled, answer, refuse_unless};
+use crate::status::{DONE, Refusal, Settled, refuse_unless, settled};
 pub(crate) use vbi_seek::{Asked, Judging, pace_for};
 use vbi_side::{Number, PART, Shown, Sightings, first_of, judge, judge_one, sightings};
 use vbi_words::{System, Word24};
@@ -100,14 +100,10 @@ pub extern "C" fn ldvbi_judge(
         ((seen.new ≡ seen.old) × (numbers.new ≡ numbers.old)) }
 {
     let fit = are_as_long(readings.len(), seen.len(), numbers.len());
-    match judging_of(system, counted, pace, fit) {
-        Ok(judging) => {
-            see_all(&judging, readings, seen);
-            judge(seen, pace_for(&judging, seen), numbers);
-            DONE
-        }
-        Err(refusal) => refusal.status(),
-    }
+    let judging = settled!(judging_of(system, counted, pace, fit));
+    see_all(&judging, readings, seen);
+    judge(seen, pace_for(&judging, seen), numbers);
+    DONE
 }
 
 /// The first of these numbers, counted from 0, that is believed or due and is this one; as many as there are if none
@@ -118,10 +114,7 @@ pub extern "C" fn ldvbi_first_of(numbers: &[Number], number: u32) -> usize
     ensures none { length numbers.now ≤ result
         → (result ≡ length numbers.now) × IsFirst numbers.now number None }
 {
-    match first_of(numbers, number) {
-        Some(field) => field,
-        None => numbers.len(),
-    }
+    first_of(numbers, number).unwrap_or(numbers.len())
 }
 
 /// The pace that `ldvbi_judge` takes if it is to find one, 1 or 2. What is read of each field goes to `seen`, which
@@ -139,14 +132,10 @@ pub extern "C" fn ldvbi_find_pace(
         × (found : paces.Pace) × IsAskedPace judging seen.new found × (pace.new ≡ pace_for_c found))
         ((seen.new ≡ seen.old) × (pace.new ≡ pace.old)) }
 {
-    match judging_of(system, counted, FIND, seen.len() == readings.len()) {
-        Ok(judging) => {
-            see_all(&judging, readings, seen);
-            *pace = pace_for_c(pace_for(&judging, seen));
-            DONE
-        }
-        Err(refusal) => refusal.status(),
-    }
+    let judging = settled!(judging_of(system, counted, FIND, seen.len() == readings.len()));
+    see_all(&judging, readings, seen);
+    *pace = pace_for_c(pace_for(&judging, seen));
+    DONE
 }
 
 /// What these numbers ask for of one field, or why they are refused.
@@ -194,7 +183,7 @@ pub extern "C" fn ldvbi_judge_field(
         (λ judging. (given : paces.Pace) × IsJudgedField judging readings.now field number.new given)
         (number.new ≡ number.old) }
 {
-    let judging = one_judging_of(system, counted, pace, readings.len(), field);
-    let found = judging.map(|judging| answer_of(&judging, readings, field));
-    answer(found, number)
+    let judging = settled!(one_judging_of(system, counted, pace, readings.len(), field));
+    *number = answer_of(&judging, readings, field);
+    DONE
 }

@@ -4,29 +4,16 @@
 ghost use Rattle.std.specs.Prelude.{◌≡◌, ◌≤◌, ◌*◌, ◌↔◌, ℕ, List, length, [], ◌∷◌, map, take, drop, replicate, Some};
 ghost use Rattle.std.specs.Prelude.{None, Result, Ok, Err, Bool, true, false, Option, unwrap_or};
 ghost use Rattle.std.specs.List.{All};
-ghost use Rattle.vbi_words.specs.declared.code.Code.TheVariants.{Picture, Chapter, Time, ClvPicture, CxOn, CxOff};
-ghost use Rattle.vbi_words.specs.declared.code.Code.TheVariants.{Users, LeadIn, LeadOut, PictureStop, ClvMark, Other};
-ghost use Rattle.vbi_words.specs.declared.format.Format.TheVariants.{Cav, Clv, Both, Neither};
-ghost use Rattle.vbi_words.specs.declared.outcome.Outcome.TheVariants.{Blank, Unfinished, Change, Hold};
 ghost use Rattle.vbi_words.specs.Geometry.{width_of, height_of, line_bytes, field_bytes};
-ghost use Rattle.vbi_words.specs.{declared.system.System.TheVariants.Ntsc, declared.system.System.TheVariants.Pal};
 ghost use Rattle.vbi_words.specs.{Codes.IsBetween};
 ghost use Rattle.vbi_near.specs.{Candidates.Row, PileRule.IsSaidTogether};
-ghost use Rattle.vbi_side.specs.declared.clock.Clock.TheVariants.{Plain, DropFrame, OneIn};
-ghost use Rattle.vbi_side.specs.{declared.lines.Counted.TheVariants.Pictures, declared.lines.Counted.TheVariants.Times};
-ghost use Rattle.vbi_side.specs.{declared.pace.Pace.TheVariants.Video, declared.pace.Pace.TheVariants.Film};
 ghost use Rattle.vbi_side.specs.{Clocks.IsProper, Worked.field_of};
-ghost use Rattle.vbi_seek.specs.{declared.asked.Asked.TheVariants.Given, declared.asked.Asked.TheVariants.Found};
-ghost use Rattle.vbi_seek.specs.{declared.side_bytes.Setup.Setup, NumberSearch.Numbers, NumberSearch.shown_of};
+ghost use Rattle.vbi_seek.specs.{NumberSearch.Numbers, NumberSearch.shown_of};
 ghost use Rattle.vbi_seek.specs.{FieldLines.Side, ChapterSearch.chapters_at, StopSearch.HasStop};
-ghost use Rattle.vbi_whole.specs.declared.verdict.Verdict.TheVariants.{Yes, No, CannotTell};
 ghost use Rattle.vbi_whole.specs.Verdicts.{no_reason};
-ghost use Rattle.vbi_words.specs.declared.outcome.Outcome.TheVariants as outcomes;
-ghost use Rattle.vbi_words.specs.declared.system.System as words;
-ghost use Rattle.vbi_side.specs.declared.clock.Clock as clocks;
 ghost use Rattle.vbi_c.specs.Completing.{times_of, with_time, TellsTime, completing_of};
 ghost use Rattle.vbi_c.specs.Erased.{none_erased, erased_of, with_erased, is_code_line, is_entry, may_follow, is_taken};
-ghost use Rattle.vbi_c.specs.FieldCodes.{chapters_in, IsStopOf, IsEndOf, chapters_status, array_status};
+ghost use Rattle.vbi_c.specs.FieldCodes.{chapters_in, IsStopOf, IsEndOf};
 ghost use Rattle.vbi_c.specs.Judging.{are_as_long, seen_in, IsGiven, judging_of, one_judging_of, shown_by};
 ghost use Rattle.vbi_c.specs.Numbers.{clock_given, clock_for_c, clock_as, code_for_c, format_for_c, counted_of};
 ghost use Rattle.vbi_c.specs.Numbers.{asked_of, given_of, pace_for_c, sought_pace, system_of, of_system, pace_given};
@@ -34,16 +21,19 @@ ghost use Rattle.vbi_c.specs.Numbers.{both_by, both_for_c, may_end_by, word_or_n
 ghost use Rattle.vbi_c.specs.Readings.{field_in, field_reading, fields_reading, rows_reading, outcome_for_c};
 ghost use Rattle.vbi_c.specs.Recovering.{HasText, HasWordsOf, code_bytes, reading_at, recovered_reading, AreRecovered};
 ghost use Rattle.vbi_c.specs.Worked.{ntsc, pal, judged_as, code_as, reading_as, near_as, lines_read_as, field_read_as};
-ghost use Rattle.vbi_c.specs.Worked.{sided_as, sided_by, rule_as, plain_rule, on_one, on_both, columns_of};
+ghost use Rattle.vbi_c.specs.Worked.{found_near, sided_as, sided_by, rule_as, plain_rule, on_one, on_both, columns_of};
 ghost use Rattle.vbi_c.specs.declared.status.Refusal.TheVariants.{System, Length, Counted, Pace, Clock, Levels, Word};
 ghost use Rattle.vbi_c.specs.declared.status.Refusal.TheVariants.{Erased, Line, Known};
 ghost use Rattle.vbi_c.specs.Setups.{drawing_of, setup_of, line_setup, rows_setup, fields_setup, lines_setup};
-ghost use Rattle.vbi_c.specs.{declared.reading.LdvbiFieldReadings.LdvbiFieldReadings};
-ghost use Rattle.vbi_c.specs.{declared.recovering.LdvbiRecord.LdvbiRecord, Erased.erases, Nearest.near_for_c};
 ghost use Rattle.vbi_c.specs.{Numbers.reasons_for_c, Piling.IsWordOf, Piling.pile_setup, Recovering.AreAllRecovered};
-ghost use Rattle.vbi_c.specs.{WholeSides.siding_by, WholeSides.numbering_of, WholeSides.slack_by};
-ghost use Rattle.vbi_c.specs.{declared.numbers.LdvbiClock.LdvbiClock, declared.status.Refusal.Refusal, Seeking.seek_of};
-ghost use Rattle.vbi_c.specs.{Statuses.refusal_status, Statuses.status_of};
+ghost use Rattle.vbi_c.specs.{Erased.erases, Nearest.near_for_c, Seeking.seek_of, Statuses.refusal_status};
+ghost use Rattle.vbi_c.specs.WholeSides.{siding_by, numbering_of, slack_by};
+ghost use Rattle.vbi_c.specs.Types as types;
+ghost use Rattle.vbi_c.specs.Types.{Picture, Chapter, Time, ClvPicture, CxOn, CxOff, Users, LeadIn, LeadOut};
+ghost use Rattle.vbi_c.specs.Types.{PictureStop, ClvMark, Other, Cav, Clv, Both, Neither, Blank, Unfinished, Change};
+ghost use Rattle.vbi_c.specs.Types.{Hold, Ntsc, Pal, Plain, DropFrame, OneIn, Pictures, Times, Video, Film, Given};
+ghost use Rattle.vbi_c.specs.Types.{Found, Setup, Yes, No, CannotTell, LdvbiFieldReadings, LdvbiRecord, LdvbiClock};
+ghost use Rattle.vbi_c.specs.{Types.Refusal, Statuses.status_of, Statuses.fitting};
 
 /// What the numbers that C hands over stand for, and the sizes that it is answered.
 pub fn worked_numbers()
@@ -70,26 +60,12 @@ pub fn worked_answers()
     ensures paces { map pace_for_c (Video ∷ Film ∷ []) ≡ 1 ∷ 2 ∷ [] }
     ensures no_pace { sought_pace None ≡ 0 }
     ensures formats { map format_for_c (Neither ∷ Cav ∷ Clv ∷ Both ∷ []) ≡ 0 ∷ 1 ∷ 2 ∷ 3 ∷ [] }
-    ensures words { map (outcome_for_c (outcomes.Word 0xF12345)) (1 ∷ 2 ∷ 3 ∷ [])
+    ensures words { map (outcome_for_c (types.Word 0xF12345)) (1 ∷ 2 ∷ 3 ∷ [])
         ≡ reading_as 0 1 0 0xF12345 ∷ reading_as 0 2 0 0xF12345 ∷ reading_as 0 3 0 0xF12345 ∷ [] }
     ensures causes { map (λ outcome. outcome_for_c outcome 0) (Blank ∷ Unfinished ∷ Change 34 ∷ Hold 46 ∷ [])
         ≡ reading_as 1 0 0 0 ∷ reading_as 2 0 0 0 ∷ reading_as 3 0 34 0 ∷ reading_as 4 0 46 0 ∷ [] }
-    ensures near { near_for_c (record {
-      word = Some 0xF12345;
-      start = 1;
-      distance = 2;
-      rival = 3;
-      longer = 4;
-      shorter = 5;
-    }) ≡ near_as 0xF12345 1 2 3 4 }
-    ensures none_near { near_for_c (record {
-      word = None;
-      start = 0;
-      distance = 2;
-      rival = 3;
-      longer = 2;
-      shorter = 2;
-    }) ≡ near_as 0 0 2 3 2 }
+    ensures near { near_for_c (found_near (Some 0xF12345) 1 2 3 4 5) ≡ near_as 0xF12345 1 2 3 4 }
+    ensures none_near { near_for_c (found_near None 0 2 3 2 2) ≡ near_as 0 0 2 3 2 }
     ensures record_bytes { (written : LdvbiRecord) → HasText (123 ∷ 125 ∷ []) written
         → (written.length ≡ 2) × (written.text ≡ 123 ∷ 125 ∷ replicate 446 0) }
 {}
@@ -144,7 +120,7 @@ pub fn one_recovery()
 /// An empty list erases no column, and no call is refused by it.
 pub fn none_is_erased()
     ensures taken { (count : ℕ) (asked : Result Setup Refusal) → with_erased count [] asked ≡ asked }
-    ensures columns { (system : words.System) (field : ℕ) → erased_of [] system field ≡ none_erased system }
+    ensures columns { (system : types.System) (field : ℕ) → erased_of [] system field ≡ none_erased system }
 {}
 
 /// The record of a field has the words and passes that `ldvbi_recover_rows` answers of its rows and their
@@ -224,7 +200,7 @@ pub fn worked_clocks()
         ∷ []) ≡ None ∷ None ∷ None ∷ None ∷ [] }
     ensures answered { map clock_for_c (Plain ∷ DropFrame ∷ OneIn 1001 7 ∷ [])
         ≡ clock_as 0 0 0 ∷ clock_as 1 0 0 ∷ clock_as 2 1001 7 ∷ [] }
-    ensures taken_again { (clock : clocks.Clock) → IsProper clock → clock_given (clock_for_c clock) ≡ Some clock }
+    ensures taken_again { (clock : types.Clock) → IsProper clock → clock_given (clock_for_c clock) ≡ Some clock }
     ensures taken { (siding_by (rule_as 1 2 1 (clock_as 2 1000 399)) true
         ≡ Ok (sided_by Ntsc Times Video (OneIn 1000 399)))
         × (siding_by (rule_as 2 1 2 (clock_as 1 0 0)) true ≡ Ok (sided_by Pal Pictures Film DropFrame)) }
@@ -243,8 +219,7 @@ pub fn worked_statuses()
         (System ∷ Levels ∷ Length ∷ Word ∷ Counted ∷ Pace ∷ Erased ∷ Line ∷ Known ∷ Clock ∷ [])
         ≡ 1 ∷ 2 ∷ 3 ∷ 4 ∷ 5 ∷ 6 ∷ 7 ∷ 8 ∷ 9 ∷ 10 ∷ [] }
     ensures calls { map (λ number. status_of (word_or_none number)) (0 ∷ 1 ∷ []) ≡ 0 ∷ 4 ∷ [] }
-    ensures chapters { (chapters_status 2 2 2 ≡ 0) × (chapters_status 2 1 2 ≡ 3) × (chapters_status 2 2 3 ≡ 3) }
-    ensures stops_and_ends { map (array_status 2) (1 ∷ 2 ∷ 3 ∷ []) ≡ 3 ∷ 0 ∷ 3 ∷ [] }
+    ensures lengths { map (λ fit. status_of (fitting fit)) (true ∷ false ∷ []) ≡ 0 ∷ 3 ∷ [] }
 {}
 
 /// Which black and white are taken, and how many bytes. The system is looked at first, then the two, then the bytes.

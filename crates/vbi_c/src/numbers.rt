@@ -40,10 +40,8 @@ pub(crate) fn asked_of(number: u32) -> Option<Asked>
     ensures { result ≡ asked_of number }
 {
     match number {
-        1 => Some(Asked::Given(Pace::Video)),
-        2 => Some(Asked::Given(Pace::Film)),
         3 => Some(Asked::Found),
-        _ => None,
+        _ => pace_given(number).map(Asked::Given),
     }
 }
 
@@ -133,10 +131,7 @@ pub(crate) fn word_or_none(number: u32) -> Settled<Option<Word24>>
     if number == 0 {
         return Ok(None);
     }
-    match Word24::new(number) {
-        Ok(word) => Ok(Some(word)),
-        Err(_) => Err(Refusal::Word),
-    }
+    Word24::new(number).map(Some).map_err(|_| Refusal::Word)
 }
 
 /// A pace as C sees it.

@@ -3,14 +3,14 @@
 ghost use Rattle.std.specs.Prelude.{◌≡◌, ◌<◌, length, ◌*◌, ◌≤◌, ◌+◌, ◌/◌, ◌==◌, take, drop, IfOk, IsTrue};
 ghost use Rattle.std.specs.List.{list_all};
 ghost use Rattle.vbi_words.specs.Geometry.{line_bytes, width_of};
-ghost use Rattle.vbi_c.specs.Piling.{is_list_of, pile_setup, IsWordOf, HasMarks, rows_erased};
+ghost use Rattle.vbi_c.specs.Piling.{pile_setup, IsWordOf, HasMarks, rows_erased};
 ghost use Rattle.vbi_c.specs.{Nearest.near_for_c, Nearest.IsNearestOf, Setups.lines_setup, Statuses.Answers};
 ghost use Rattle.vbi_c.specs.{Erased.is_code_line, Erased.is_taken};
 
 use crate::erased::{FIRST_LINE, LdvbiErased, is_code_line, is_taken, mark_field};
 use crate::recovering::WIDEST;
 use crate::setup::{MOST_LINES, Setup, lines_setup};
-use crate::status::{DONE, Refusal, Settled, answer, refuse_unless};
+use crate::status::{DONE, Refusal, Settled, refuse_unless, settled};
 use vbi_near::{Near, marks_of_line, nearest_of_lines, recover_pile};
 use vbi_words::System;
 
@@ -57,14 +57,10 @@ pub extern "C" fn ldvbi_nearest(
     ensures nearest { Answers (lines_setup system black white (length bytes.now)) result
         (λ setup. IsNearestOf setup bytes.now near.new) (near.new ≡ near.old) }
 {
-    match lines_setup(system, black, white, bytes.len()) {
-        Ok(setup) => {
-            let count = bytes.len() / setup.system.line_bytes();
-            *near = near_for_c(nearest_of_lines(setup.system, setup.levels, bytes, count));
-            DONE
-        }
-        Err(refusal) => refusal.status(),
-    }
+    let setup = settled!(lines_setup(system, black, white, bytes.len()));
+    let count = bytes.len() / setup.system.line_bytes();
+    *near = near_for_c(nearest_of_lines(setup.system, setup.levels, bytes, count));
+    DONE
 }
 
 /// Whether each entry is of a line of this number.
@@ -72,13 +68,6 @@ fn are_of_line(line: u32, list: &[LdvbiErased]) -> bool
     ensures { result ≡ list_all (λ entry. entry.line == line) list.now }
 {
     list.iter().all(|entry| entry.line == line)
-}
-
-/// Whether a list is taken if this many lines of one number are handed over.
-fn is_list_of(line: u32, count: usize, list: &[LdvbiErased]) -> bool
-    ensures { result ≡ is_list_of line count list.now }
-{
-    is_taken(count, list) && are_of_line(line, list)
 }
 
 /// The setup of a call with this many bytes, of lines that all have this number, and whose dropouts are known, by 1, or
@@ -103,7 +92,8 @@ fn pile_setup(
     refuse_unless(is_code_line(line), Refusal::Line)?;
     refuse_unless(known <= 1, Refusal::Known)?;
     let count = length / setup.system.line_bytes();
-    refuse_unless(is_list_of(line, count, list), Refusal::Erased)?;
+    let taken = is_taken(count, list) && are_of_line(line, list);
+    refuse_unless(taken, Refusal::Erased)?;
     Ok(setup)
 }
 
@@ -150,10 +140,8 @@ fn word_of(setup: &Setup, line: u32, known: u32, bytes: &[u8], erased: &[LdvbiEr
     let mut most = [false; MOST_LINES * WIDEST];
     let marks = &mut most[..count * system.width()];
     mark_lines(system, line, erased, count, marks);
-    match recover_pile(system, line, setup.levels, known == 1, bytes, marks, count) {
-        Some(word) => word.value(),
-        None => 0,
-    }
+    let said = recover_pile(system, line, setup.levels, known == 1, bytes, marks, count);
+    said.map_or(0, |word| word.value())
 }
 
 /// The word that 1 to 28 lines of one number say together, which all have one word, or none; 0 if they say none. In
@@ -173,7 +161,7 @@ pub extern "C" fn ldvbi_recover_pile(
         (λ setup. IsWordOf setup line known (rows_erased setup.system line bytes.now erased.now) word.new)
         (word.new ≡ word.old) }
 {
-    let setup = pile_setup(system, black, white, line, known, bytes.len(), erased);
-    let found = setup.map(|setup| word_of(&setup, line, known, bytes, erased));
-    answer(found, word)
+    let setup = settled!(pile_setup(system, black, white, line, known, bytes.len(), erased));
+    *word = word_of(&setup, line, known, bytes, erased);
+    DONE
 }

@@ -4,7 +4,7 @@ ghost use Rattle.std.specs.Prelude.{◌≡◌};
 ghost use Rattle.vbi_c.specs.{Plans.layout_of, Plans.checked_for_c, Plans.IsChecked, Statuses.Answers};
 
 use crate::numbers::{LdvbiClock, clock_given, rule_for_c, spacing_given};
-use crate::status::{DONE, Refusal, Settled};
+use crate::status::{DONE, Refusal, Settled, settled};
 use vbi_plan::{Capture, Layout, Plan, PlanFault, Stretch, check_plan};
 use vbi_side::Number;
 
@@ -66,17 +66,13 @@ pub extern "C" fn ldvbi_check_plan(
           stretches = plan.now;
         }) checked.new) (checked.new ≡ checked.old) }
 {
-    match layout_of(spacing, clock, begin, end) {
-        Ok(layout) => {
-            let asked = Plan {
-                layout,
-                numbers,
-                captures,
-                stretches: plan,
-            };
-            *checked = checked_for_c(plan.len(), check_plan(&asked));
-            DONE
-        }
-        Err(refusal) => refusal.status(),
-    }
+    let layout = settled!(layout_of(spacing, clock, begin, end));
+    let asked = Plan {
+        layout,
+        numbers,
+        captures,
+        stretches: plan,
+    };
+    *checked = checked_for_c(plan.len(), check_plan(&asked));
+    DONE
 }

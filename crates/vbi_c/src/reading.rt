@@ -7,7 +7,7 @@ ghost use Rattle.vbi_c.specs.{Readings.fields_reading, Setups.line_setup, Setups
 ghost use Rattle.vbi_c.specs.{Statuses.Answers};
 
 use crate::setup::{Setup, fields_setup, line_setup, rows_setup};
-use crate::status::{DONE, answer};
+use crate::status::{DONE, settled};
 use vbi_line::read_bytes_twice;
 use vbi_words::{Outcome, System};
 
@@ -114,8 +114,9 @@ pub extern "C" fn ldvbi_read_line(
     ensures reads { Answers (line_setup system black white (length bytes.now)) result
         (λ setup. reading.new ≡ line_reading setup bytes.now) (reading.new ≡ reading.old) }
 {
-    let setup = line_setup(system, black, white, bytes.len());
-    answer(setup.map(|setup| read_bytes(&setup, bytes)), reading)
+    let setup = settled!(line_setup(system, black, white, bytes.len()));
+    *reading = read_bytes(&setup, bytes);
+    DONE
 }
 
 /// The readings of lines 16, 17 and 18, one after the other, of 3 * `ldvbi_line_bytes(system)` bytes in all.
@@ -131,8 +132,9 @@ pub extern "C" fn ldvbi_read_rows(
         (λ setup. readings.new ≡ rows_reading setup (three_rows setup.system bytes.now 0))
         (readings.new ≡ readings.old) }
 {
-    let setup = rows_setup(system, black, white, bytes.len());
-    answer(setup.map(|setup| read_three(&setup, bytes, 0)), readings)
+    let setup = settled!(rows_setup(system, black, white, bytes.len()));
+    *readings = read_three(&setup, bytes, 0);
+    DONE
 }
 
 /// The readings of lines 16, 17 and 18 of a field of `ldvbi_field_bytes(system)` bytes. No other line is looked at.
@@ -147,11 +149,9 @@ pub extern "C" fn ldvbi_read_field(
     ensures reads { Answers (fields_setup system black white (length bytes.now) 1) result
         (λ setup. readings.new ≡ field_reading setup bytes.now) (readings.new ≡ readings.old) }
 {
-    let setup = fields_setup(system, black, white, bytes.len(), 1);
-    answer(
-        setup.map(|setup| read_three(&setup, bytes, FIRST_ROW)),
-        readings,
-    )
+    let setup = settled!(fields_setup(system, black, white, bytes.len(), 1));
+    *readings = read_three(&setup, bytes, FIRST_ROW);
+    DONE
 }
 
 /// The readings of lines 16, 17 and 18 of each field of a stream, which has as many whole fields as there is room for
@@ -167,11 +167,7 @@ pub extern "C" fn ldvbi_read_fields(
     ensures reads { Answers (fields_setup system black white (length bytes.now) (length readings.old)) result
         (λ setup. readings.new ≡ fields_reading setup bytes.now (length readings.old)) (readings.new ≡ readings.old) }
 {
-    match fields_setup(system, black, white, bytes.len(), readings.len()) {
-        Ok(setup) => {
-            read_all(&setup, bytes, readings);
-            DONE
-        }
-        Err(refusal) => refusal.status(),
-    }
+    let setup = settled!(fields_setup(system, black, white, bytes.len(), readings.len()));
+    read_all(&setup, bytes, readings);
+    DONE
 }

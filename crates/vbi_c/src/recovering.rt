@@ -9,7 +9,7 @@ ghost use Rattle.vbi_c.specs.{Recovering.record_text_of, Setups.rows_setup, Setu
 use crate::erased::{LdvbiErased, mark_field, with_erased};
 use crate::reading::{FIRST_ROW, LdvbiFieldReadings, LdvbiReading, outcome_for_c};
 use crate::setup::{Setup, fields_setup, rows_setup};
-use crate::status::{DONE, answer};
+use crate::status::{DONE, settled};
 use vbi_field::recovered_record;
 use vbi_near::{Recovered, recover_rows};
 use vbi_words::System;
@@ -124,13 +124,10 @@ pub extern "C" fn ldvbi_recover_rows(
         (λ setup. AreRecovered setup bytes.now (erased_of erased.now setup.system 0) readings.new)
         (readings.new ≡ readings.old) }
 {
-    match with_erased(1, erased, rows_setup(system, black, white, bytes.len())) {
-        Ok(setup) => {
-            *readings = recover_listed(&setup, bytes, erased);
-            DONE
-        }
-        Err(refusal) => refusal.status(),
-    }
+    let asked = rows_setup(system, black, white, bytes.len());
+    let setup = settled!(with_erased(1, erased, asked));
+    *readings = recover_listed(&setup, bytes, erased);
+    DONE
 }
 
 /// What lines 16, 17 and 18 of each field of a stream show with the nearest words of worn lines. The stream has as many
@@ -152,13 +149,9 @@ pub extern "C" fn ldvbi_recover_fields(
 {
     let count = readings.len();
     let asked = fields_setup(system, black, white, bytes.len(), count);
-    match with_erased(count, erased, asked) {
-        Ok(setup) => {
-            recover_all(&setup, bytes, erased, readings);
-            DONE
-        }
-        Err(refusal) => refusal.status(),
-    }
+    let setup = settled!(with_erased(count, erased, asked));
+    recover_all(&setup, bytes, erased, readings);
+    DONE
 }
 
 /// Copies a text over the first bytes of a room.
@@ -211,7 +204,7 @@ pub extern "C" fn ldvbi_recovered_record(
         (λ setup. HasText (record_text_of setup number bytes.now (erased_of erased.now setup.system 0)) written.new)
         (written.new ≡ written.old) }
 {
-    let setup = with_erased(1, erased, rows_setup(system, black, white, bytes.len()));
-    let found = setup.map(|setup| record_listed(&setup, number, bytes, erased));
-    answer(found, written)
+    let setup = settled!(with_erased(1, erased, rows_setup(system, black, white, bytes.len())));
+    *written = record_listed(&setup, number, bytes, erased);
+    DONE
 }

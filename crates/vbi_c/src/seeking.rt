@@ -10,7 +10,7 @@ ghost use Rattle.vbi_c.specs.{Seeking.seek_of, Seeking.sought_for_c, Setups.setu
 use crate::judging::with_pace;
 use crate::numbers::{asked_of, pace_for_c};
 use crate::setup::setup_of;
-use crate::status::{DONE, Settled, answer};
+use crate::status::{DONE, Settled, settled};
 use vbi_seek::{FoundField, Neighbour, Seek, Sought, next_stop, seek_chapter, seek_number};
 use vbi_side::Number;
 
@@ -74,9 +74,9 @@ pub extern "C" fn ldvbi_seek(
         × IsSought seek bytes.now number found × IsComplete seek bytes.now number found
         × AreBeside seek bytes.now number found × (sought.new ≡ sought_for_c found)) (sought.new ≡ sought.old) }
 {
-    let seek = seek_of(system, black, white, counted, pace);
-    let found = seek.map(|seek| sought_for_c(seek_number(seek, bytes, number)));
-    answer(found, sought)
+    let seek = settled!(seek_of(system, black, white, counted, pace));
+    *sought = sought_for_c(seek_number(seek, bytes, number));
+    DONE
 }
 
 /// Seeks a chapter in the bytes of a side: a field of which `ldvbi_judge_chapters` believes it, by what
@@ -95,13 +95,9 @@ pub extern "C" fn ldvbi_seek_chapter(
         (λ setup. IsChapterSought (side_in setup bytes.now) chapter place.new
         × IsChapterComplete (side_in setup bytes.now) chapter place.new) (place.new ≡ place.old) }
 {
-    match setup_of(system, black, white) {
-        Ok(setup) => {
-            *place = seek_chapter(setup, bytes, chapter);
-            DONE
-        }
-        Err(refusal) => refusal.status(),
-    }
+    let setup = settled!(setup_of(system, black, white));
+    *place = seek_chapter(setup, bytes, chapter);
+    DONE
 }
 
 /// Seeks the next picture stop in the bytes of a side: the first field from `field` on of which `ldvbi_judge_stops`
@@ -120,7 +116,7 @@ pub extern "C" fn ldvbi_next_stop(
     ensures finds { Answers (setup_of system black white) result
         (λ setup. IsNextStop (side_in setup bytes.now) field most stop.new) (stop.new ≡ stop.old) }
 {
-    let setup = setup_of(system, black, white);
-    let found = setup.map(|setup| next_stop(setup, bytes, field, most));
-    answer(found, stop)
+    let setup = settled!(setup_of(system, black, white));
+    *stop = next_stop(setup, bytes, field, most);
+    DONE
 }

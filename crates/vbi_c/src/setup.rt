@@ -20,10 +20,8 @@ pub(crate) fn setup_of(number: u32, black: u32, white: u32) -> Settled<Setup>
     let system = system_of(number).ok_or(Refusal::System)?;
     // Samples have 16 bits.
     refuse_unless(black <= 65535 && white <= 65535, Refusal::Levels)?;
-    match Levels::new(black as u16, white as u16) {
-        Ok(levels) => Ok(Setup { system, levels }),
-        Err(_) => Err(Refusal::Levels),
-    }
+    let levels = Levels::new(black as u16, white as u16).map_err(|_| Refusal::Levels)?;
+    Ok(Setup { system, levels })
 }
 
 /// The setup of a call with this many bytes, which have to be those of a line, or why the call is refused.

@@ -1,7 +1,7 @@
 //! How a call ends.
 
 ghost use Rattle.std.specs.Prelude.{◌≡◌, if◌then◌else◌, Ok, Err};
-ghost use Rattle.vbi_c.specs.Statuses.{refusal_status, Answers};
+ghost use Rattle.vbi_c.specs.Statuses.{refusal_status};
 
 /// The call did what its name says.
 pub const DONE: u32 = 0;
@@ -51,15 +51,14 @@ pub(crate) fn refuse_unless(holds: bool, refusal: Refusal) -> Settled<()>
     if holds { Ok(()) } else { Err(refusal) }
 }
 
-/// Writes what a call found into its place, and answers the call's status. If it is refused, nothing is written.
-pub(crate) fn answer<T: Copy>(found: Settled<T>, place: &mut T) -> u32
-    ensures { Answers found result (λ found. place.new ≡ found) (place.new ≡ place.old) }
-{
-    match found {
-        Ok(found) => {
-            *place = found;
-            DONE
+/// What the arguments of a call stand for. If they are refused, the call ends here, with the status.
+macro_rules! settled {
+    ($asked:expr) => {
+        match $asked {
+            Ok(found) => found,
+            Err(refusal) => return refusal.status(),
         }
-        Err(refusal) => refusal.status(),
-    }
+    };
 }
+
+pub(crate) use settled;

@@ -4,23 +4,19 @@
 //! what C hands over and is answered: by `ldvbi_judge`, and then by `ldvbi_judge_side`, by a clock or by none (the
 //! clauses `plain`). The last ones say what a search finds on such a side.
 
-ghost use Rattle.std.specs.Prelude.{◌≡◌, ℕ, ◌+◌, ◌*◌, ◌-◌, ◌<◌, ◌≤◌, true, false, Bool, List, Option, Some, Ok};
-ghost use Rattle.vbi_words.specs.{declared.system.System.System, Levels.Slicing};
-ghost use Rattle.vbi_side.specs.Clocks.{DiscCountsBy, DiscNearlyBy, IsProper, out_near};
-ghost use Rattle.vbi_side.specs.{declared.clock.Clock.Clock, declared.clock.Clock.TheVariants.Plain};
-ghost use Rattle.vbi_side.specs.{declared.pace.Pace.TheVariants.Video, declared.pace.Pace.TheVariants.Film};
+ghost use Rattle.std.specs.Prelude.{◌≡◌, ℕ, ◌+◌, ◌*◌, ◌-◌, ◌<◌, ◌≤◌, true, false, Bool, Option, Some, Ok};
+ghost use Rattle.vbi_words.specs.Levels.{Slicing};
+ghost use Rattle.vbi_side.specs.{Clocks.DiscCountsBy, Clocks.DiscNearlyBy, Clocks.out_near, Truth.IsNear};
 ghost use Rattle.vbi_side.specs.{Numbers.IsMarked, Side.DiscRuns, Side.DiscCounts, Side.AreLost, Side.NoneLost};
-ghost use Rattle.vbi_side.specs.{Truth.IsNear};
 ghost use Rattle.vbi_whole.specs.CleanRuns.{IsCleanRun};
-ghost use Rattle.vbi_c.specs.CalledWhole.{Called, IsCalledWhole, AreClearEnds, AreFewLost};
+ghost use Rattle.vbi_c.specs.{Types.FoundField, CalledWhole.Called, CalledWhole.IsCalledWhole};
+ghost use Rattle.vbi_c.specs.CalledWhole.{AreClearEnds, AreFewLost};
+ghost use Rattle.vbi_c.specs.Types.{System, Clock, Plain, Video, Film, LdvbiSideRule, Siding, Asked, Sought};
 ghost use Rattle.vbi_c.specs.CleanSides.{IsJudgedClean, AsksVideo, AreChaptersRead, IsFirstPicture};
-ghost use Rattle.vbi_c.specs.{declared.whole_side.LdvbiSideRule.LdvbiSideRule, declared.whole_side.Siding.Siding};
 ghost use Rattle.vbi_c.specs.{DrawnSides.drawn_numbers, Numbers.clock_given, Numbers.both_by, WholeSides.siding_by};
-ghost use Rattle.vbi_seek.specs.{declared.asked.Asked.Asked, declared.number_search.Sought.Sought};
 ghost use Rattle.vbi_seek.specs.{NumberLeads.IsCompleteIn, NumberLeads.number_spots, Spots.Leads, NumberSearch.Numbers};
-ghost use Rattle.vbi_seek.specs.{NumberSearch.shown_of, declared.side_bytes.FoundField.FoundField, FieldLines.Side};
+ghost use Rattle.vbi_seek.specs.{NumberSearch.shown_of, FieldLines.Side, ChapterSearch.chapters_from};
 ghost use Rattle.vbi_seek.specs.{ChapterLeads.IsChapterComplete, ChapterLeads.chapter_spots};
-ghost use Rattle.vbi_seek.specs.{ChapterSearch.chapters_from};
 
 /// A call that isn't refused judges by the clock of its rule, and by none if the rule has none.
 pub fn clock_asked()

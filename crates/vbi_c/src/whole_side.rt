@@ -14,7 +14,7 @@ use crate::numbers::{
     LdvbiClock, both_by, clock_for_c, clock_given, counted_of, pace_given, reasons_for_c,
     verdict_for_c,
 };
-use crate::status::{DONE, Refusal, Settled, answer};
+use crate::status::{DONE, Refusal, Settled, settled};
 use vbi_side::{Clock, Number, Pace, Sightings};
 use vbi_whole::{
     Finding, Gap, Numbering, Rule, Side, Tally, find_clock, is_on_both, judge_whole, set_aside,
@@ -36,21 +36,15 @@ pub struct LdvbiSideRule {
     pub clock: LdvbiClock,
 }
 
-/// What is said of a side, in C's numbers.
+/// What is said of a side: a `Finding`, whose fields have comments, with its verdict and its reasons in C's numbers.
 #[derive(Clone, Copy)]
 #[repr(C)]
 pub struct LdvbiSide {
-    /// What its gaps come to.
     pub tally: Tally,
-    /// The first field with a believed number, counted from 0; 0 if there is none.
     pub first: usize,
-    /// The last one.
     pub last: usize,
-    /// The first field that was swapped with one beside it, counted from 0; 0 if there is none.
     pub swap: usize,
-    /// How many of its fields are padding.
     pub padded: usize,
-    /// The first of over a hundred fields without a number between two that go on, counted from 0; 0 if there are none.
     pub blank: usize,
     /// 1 if it is whole, 2 if it isn't, 0 if that can't be told.
     pub verdict: u32,
@@ -150,9 +144,9 @@ pub extern "C" fn ldvbi_find_clock(
         × IsClockFound siding.pace (slack_by siding.pace rule.now.both numbers.now) siding.numbering numbers.now found
         × (clock.new ≡ clock_for_c found)) (clock.new ≡ clock.old) }
 {
-    let siding = siding_with(rule, Some(Clock::Plain), true);
-    let found = siding.map(|siding| clock_for_c(siding.clock(rule.both, numbers)));
-    answer(found, clock)
+    let siding = settled!(siding_with(rule, Some(Clock::Plain), true));
+    *clock = clock_for_c(siding.clock(rule.both, numbers));
+    DONE
 }
 
 /// Where the numbers and the fields of a side don't go on together by a rule, and whether its capture is whole: by what
@@ -175,19 +169,15 @@ pub extern "C" fn ldvbi_judge_side(
         ((gaps.new ≡ gaps.old) × (side.new ≡ side.old)) }
 {
     let fit = are_as_long(seen.len(), numbers.len(), ends.len());
-    match siding_with(rule, clock_given(&rule.clock), fit) {
-        Ok(siding) => {
-            let judged = Side {
-                rule: siding.rule(rule.both, numbers),
-                seen,
-                numbers,
-                ends,
-            };
-            *side = side_for_c(judge_whole(&judged, may_end != 0, gaps));
-            DONE
-        }
-        Err(refusal) => refusal.status(),
-    }
+    let siding = settled!(siding_with(rule, clock_given(&rule.clock), fit));
+    let judged = Side {
+        rule: siding.rule(rule.both, numbers),
+        seen,
+        numbers,
+        ends,
+    };
+    *side = side_for_c(judge_whole(&judged, may_end != 0, gaps));
+    DONE
 }
 
 /// Sets aside the numbers of a side that replace others, where the rows of numbers around them weigh more: `gaps` are
@@ -208,11 +198,7 @@ pub extern "C" fn ldvbi_set_aside(
         ((left.new ≡ left.old) × (count.new ≡ count.old)) }
 {
     let fit = left.len() == numbers.len();
-    match siding_with(rule, clock_given(&rule.clock), fit) {
-        Ok(siding) => {
-            *count = set_aside(gaps, numbers, siding.rule(rule.both, numbers), left);
-            DONE
-        }
-        Err(refusal) => refusal.status(),
-    }
+    let siding = settled!(siding_with(rule, clock_given(&rule.clock), fit));
+    *count = set_aside(gaps, numbers, siding.rule(rule.both, numbers), left);
+    DONE
 }

@@ -8,7 +8,7 @@ ghost use Rattle.vbi_c.specs.{Readings.line_reading, Readings.reading_for_c, Set
 
 use crate::numbers::{LdvbiCode, code_for_c, format_for_c, word_or_none};
 use crate::setup::{Setup, line_setup};
-use crate::status::{DONE, Refusal, Settled};
+use crate::status::{DONE, Refusal, Settled, settled};
 use vbi_words::{Word24, classify, draw_line, format_of};
 
 /// What a word says, by its six hexadecimal digits.
@@ -19,13 +19,9 @@ pub extern "C" fn ldvbi_classify(word: u32, code: &mut LdvbiCode) -> u32
     ensures classifies { result ≡ 0 → code.new ≡ code_for_c (code_of word) }
     ensures unwritten { result ≢ 0 → code.new ≡ code.old }
 {
-    match Word24::new(word) {
-        Ok(word) => {
-            *code = code_for_c(classify(word));
-            DONE
-        }
-        Err(_) => Refusal::Word.status(),
-    }
+    let word = settled!(Word24::new(word).map_err(|_| Refusal::Word));
+    *code = code_for_c(classify(word));
+    DONE
 }
 
 /// The words with these three numbers, each a word or 0 for none.
@@ -47,13 +43,9 @@ pub extern "C" fn ldvbi_format(first: u32, second: u32, third: u32, format: &mut
     ensures value { Answers (three_words first second third) result
         (λ lines. format.new ≡ format_for_c (format_of_lines lines)) (format.new ≡ format.old) }
 {
-    match three_words(first, second, third) {
-        Ok(words) => {
-            *format = format_for_c(format_of(&words));
-            DONE
-        }
-        Err(refusal) => refusal.status(),
-    }
+    let words = settled!(three_words(first, second, third));
+    *format = format_for_c(format_of(&words));
+    DONE
 }
 
 /// What is to be drawn, and how.
@@ -90,12 +82,7 @@ pub extern "C" fn ldvbi_draw_line(
         × (line_reading drawing.setup bytes.new ≡ reading_for_c (drawn_reading drawing.word)))
         (bytes.new ≡ bytes.old) }
 {
-    match drawing_of(system, black, white, word, bytes.len()) {
-        Ok(drawing) => {
-            let setup = &drawing.setup;
-            draw_line(setup.system, setup.levels, drawing.word, bytes);
-            DONE
-        }
-        Err(refusal) => refusal.status(),
-    }
+    let Drawing { setup, word } = settled!(drawing_of(system, black, white, word, bytes.len()));
+    draw_line(setup.system, setup.levels, word, bytes);
+    DONE
 }

@@ -2,7 +2,7 @@ use Rattle.std.proofs.Common.{◌≡◌, Some, subst, arith}
 use Rattle.std.specs.Prelude.{slice_get}
 use Rattle.std.proofs.lemmas.Option.{get_or_from_slice_get, slice_get_within}
 use Rattle.std.proofs.lemmas.List.{length-set}
-use Rattle.vbi_c.specs.declared.reading.LdvbiFieldReadings.{LdvbiFieldReadings}
+use Rattle.vbi_c.specs.Types.{LdvbiFieldReadings}
 use Rattle.vbi_c.specs.Completing.{IsCompletedField}
 use Rattle.vbi_c.proofs.CompletedTimes.{are_completed}
 use Rattle.vbi_c.proofs.Placed.{each_set}

@@ -1,6 +1,6 @@
 use Rattle.std.proofs.Common.{◌≡◌, ℕ, ◌<◌, length, Some}
 use Rattle.std.specs.Prelude.{slice_get}
-use Rattle.vbi_c.specs.declared.reading.LdvbiFieldReadings.{LdvbiFieldReadings}
+use Rattle.vbi_c.specs.Types.{LdvbiFieldReadings}
 use Rattle.vbi_c.specs.Completing.{IsCompletedField}
 use Rattle.vbi_c.proofs.completing.complete_all.Given as goal
 

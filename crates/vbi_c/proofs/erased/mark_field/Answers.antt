@@ -3,7 +3,7 @@ use Rattle.std.proofs.Common.{drop, length, replicate, ap, sym, ◌∙◌, arith
 use Rattle.std.specs.Prelude.{All}
 use Rattle.std.proofs.lemmas.List.{take_more, drop_more, take-append-drop, take_all, drop_all}
 use Rattle.std.proofs.lemmas.List.Elements.{All-weaker, All-more, All-rest, All-same, All-nil, All-head}
-use Rattle.vbi_c.specs.declared.erased.LdvbiErased.{LdvbiErased}
+use Rattle.vbi_c.specs.Types.{LdvbiErased}
 use Rattle.vbi_c.specs.Erased.{erased_of}
 use Rattle.vbi_c.proofs.Marks.{erased_of-none, erased_of-others}
 use Rattle.vbi_c.proofs.Erasing.{no_entry, taken-line, taken-later}

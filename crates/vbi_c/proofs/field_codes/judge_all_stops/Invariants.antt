@@ -1,6 +1,6 @@
 use Rattle.std.proofs.Common.{◌≡◌, ℕ, ◌<◌, length, Some}
 use Rattle.std.specs.Prelude.{slice_get}
-use Rattle.vbi_c.specs.declared.reading.LdvbiFieldReadings.{LdvbiFieldReadings}
+use Rattle.vbi_c.specs.Types.{LdvbiFieldReadings}
 use Rattle.vbi_c.specs.FieldCodes.{IsStopOf}
 use Rattle.vbi_c.proofs.field_codes.judge_all_stops.Given as goal
 

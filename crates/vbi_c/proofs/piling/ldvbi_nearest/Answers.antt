@@ -6,9 +6,9 @@ use Rattle.vbi_words.specs.Geometry.{line_bytes}
 use Rattle.vbi_c.specs.Nearest.{IsNearestOf}
 use Rattle.vbi_c.proofs.piling.ldvbi_nearest.Goals as goal
 
-pub returns-in-Ok : goal.returns-in-Ok
-returns-in-Ok c =
-    let setup = c.in-Ok.setup in
+pub returns : goal.returns
+returns c =
+    let setup = c.in-Ok.found in
     let near = c.nearest_of_lines.result in
     let count : length c.args.bytes.now / c.line_bytes.result ≡ length c.args.bytes.now / line_bytes setup.system
     = ap (λ (n : ℕ). length c.args.bytes.now / n) c.line_bytes.ensures in

@@ -1,12 +1,11 @@
 use Rattle.std.proofs.Common.{subst, rules}
 use Rattle.std.specs.Prelude.{IfOk, Result}
-use Rattle.vbi_plan.specs.declared.plan.Layout.{Layout}
-use Rattle.vbi_c.specs.declared.status.Refusal.{Refusal}
+use Rattle.vbi_c.specs.Types.{Layout, Refusal}
 use Rattle.vbi_c.specs.Plans.{IsChecked}
 use Rattle.vbi_c.proofs.plan.ldvbi_check_plan.Goals as goal
 
-pub returns-in-Ok : goal.returns-in-Ok
-returns-in-Ok c = record {
+pub returns : goal.returns
+returns c = record {
   checks = record {
     status_is = search rules;
     does = subst (λ (asked : Result Layout Refusal). IfOk asked (λ layout. IsChecked (record {

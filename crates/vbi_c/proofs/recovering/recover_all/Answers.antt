@@ -1,5 +1,5 @@
 use Rattle.std.proofs.Common.{◌≡◌, ◌∙◌, ℕ, List, Bool, ap, subst}
-use Rattle.vbi_c.specs.declared.reading.LdvbiFieldReadings.{LdvbiFieldReadings}
+use Rattle.vbi_c.specs.Types.{LdvbiFieldReadings}
 use Rattle.vbi_c.specs.Erased.{erased_of}
 use Rattle.vbi_c.specs.Readings.{field_in}
 use Rattle.vbi_c.specs.Recovering.{AreRecovered, code_bytes}

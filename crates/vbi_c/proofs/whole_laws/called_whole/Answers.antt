@@ -1,7 +1,6 @@
 use Rattle.std.proofs.Common.{false}
 use Rattle.vbi_side.proofs.Counting.{plain_clear, plain_runs}
-use Rattle.vbi_side.specs.declared.pace.Pace.TheVariants.{Video}
-use Rattle.vbi_whole.specs.declared.verdict.Verdict.TheVariants.{Yes}
+use Rattle.vbi_c.specs.Types.{Video, Yes}
 use Rattle.vbi_whole.proofs.WholeSides.{whole_clock}
 use Rattle.vbi_c.proofs.SidesCalled.{found_on, as_found, said_whole}
 use Rattle.vbi_c.proofs.whole_laws.called_whole.Goals as goal

@@ -1,7 +1,7 @@
 use Rattle.std.proofs.Common.{◌+◌, ◌*◌, ◌-◌}
 use Rattle.vbi_c.proofs.CleanLeading.{clean_leads}
 use Rattle.vbi_c.proofs.CleanSought.{first_known}
-use Rattle.vbi_side.specs.declared.pace.Pace.TheVariants.{Video}
+use Rattle.vbi_c.specs.Types.{Video}
 use Rattle.vbi_c.proofs.whole_laws.clean_leads.Goals as goal
 
 pub returns-clause-leads : goal.returns-clause-leads

@@ -1,5 +1,5 @@
 use Rattle.std.proofs.Common.{ap}
-use Rattle.vbi_c.specs.declared.whole_side.LdvbiSide.{LdvbiSide}
+use Rattle.vbi_c.specs.Types.{LdvbiSide}
 use Rattle.vbi_c.proofs.CleanJudged.{clean_whole}
 use Rattle.vbi_c.proofs.whole_laws.clean_side_is_whole.Goals as goal
 

@@ -1,7 +1,6 @@
 use Rattle.std.proofs.Common.{true, false, lit≤}
 use Rattle.vbi_side.proofs.Counting.{plain_clear, plain_runs, plain_counts}
-use Rattle.vbi_side.specs.declared.pace.Pace.TheVariants.{Video, Film}
-use Rattle.vbi_whole.specs.declared.verdict.Verdict.TheVariants.{Yes}
+use Rattle.vbi_c.specs.Types.{Video, Film, Yes}
 use Rattle.vbi_whole.proofs.WholeSides.{yes_of_both, yes_of_film, yes_anywhere}
 use Rattle.vbi_c.proofs.SidesCalled.{found_at, found_on, as_found, said_whole}
 use Rattle.vbi_c.proofs.whole_laws.nearly_called_whole.Goals as goal

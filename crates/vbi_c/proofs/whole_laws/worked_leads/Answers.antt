@@ -1,19 +1,14 @@
 use Rattle.std.proofs.Common.{◌≡◌, ◌<◌, ℕ, zero, suc, ◌+◌, ◌*◌, ◌≤◌, List, [], ◌∷◌, ap, sym, refl, arith, subst, inl}
 use Rattle.std.specs.Prelude.{Some, slice_get}
 use Rattle.vbi_words.specs.Codes.{code_of}
-use Rattle.vbi_words.specs.declared.system.System.{System}
+use Rattle.vbi_c.specs.Types.{System, Plain, Sightings, Asked, WordRow, Pictures}
 use Rattle.vbi_words.specs.Levels.{Slicing}
-use Rattle.vbi_side.specs.declared.clock.Clock.TheVariants.{Plain}
-use Rattle.vbi_side.specs.declared.sighting.Sightings.{Sightings}
 use Rattle.vbi_whole.specs.CleanRuns.{IsReadTwice}
 use Rattle.vbi_side.specs.Sightings.{Shows}
 use Rattle.vbi_side.specs.Worked.{field_of, blank}
 use Rattle.vbi_whole.proofs.ThreeInRow.{plain_steps, plain_in_row}
 use Rattle.vbi_side.proofs.Worked.{none_shown}
-use Rattle.vbi_seek.specs.declared.asked.Asked.{Asked}
-use Rattle.vbi_field.specs.declared.word_row.WordRow.{WordRow}
 use Rattle.vbi_field.specs.Draws.{AreDrawable, no_words}
-use Rattle.vbi_side.specs.declared.lines.Counted.TheVariants.{Pictures}
 use Rattle.vbi_side.specs.Misread.{numbers_in}
 use Rattle.vbi_c.specs.DrawnSides.{picture_row, picture_rows, drawn_numbers}
 use Rattle.vbi_seek.specs.FieldLines.{lines_by}
