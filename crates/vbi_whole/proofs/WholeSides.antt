@@ -130,7 +130,8 @@ module _ (disc : ℕ → Option ℕ) (place : ℕ → ℕ) (slack : ℕ) (number
             (omega (arith, on, here.0, there.1, near.0, near.1)),
       )
 
-  pub yes_of_both : AreClearEnds (to_judge (rule_by Video slack numbering) seen answers ends) finding → AreFewLost place finding (2 * slack)
+  pub yes_of_both : AreClearEnds (to_judge (rule_by Video slack numbering) seen answers ends) finding
+      → AreFewLost place finding (2 * slack)
   yes_of_both clear = grind (arith, video_lost)
 
 exactly : (clock : Clock) (disc : ℕ → Option ℕ) → DiscCountsBy clock Video disc → DiscNearlyBy clock 0 disc
