@@ -1,6 +1,6 @@
-use Rattle.std.proofs.Common.{subst}
-use Rattle.vbi_whole.specs.Gaps.{IsGap, to_judge}
+use Rattle.vbi_whole.specs.Gaps.{IsGap}
 use Rattle.vbi_whole.proofs.DetourLaws.{cancels, one_run, misread}
+use Rattle.vbi_whole.proofs.GapLaws.{as_video}
 use Rattle.vbi_whole.proofs.detour_laws.replaced_is.Goals as goal
 
 pub returns-clause-cancels : goal.returns-clause-cancels
@@ -14,6 +14,6 @@ returns-clause-in_order c disc place numbering a b right order =
 pub returns-clause-misread : goal.returns-clause-misread
 returns-clause-misread c disc place judged a b video right one other between =
     misread disc place judged.rule.numbering judged.seen judged.numbers judged.ends a b right.counts
-    (subst (λ rule. IsGap (to_judge rule judged.seen judged.numbers judged.ends) a) video one)
-    (subst (λ rule. IsGap (to_judge rule judged.seen judged.numbers judged.ends) b) video other)
+    (as_video (λ judged. IsGap judged a) judged video one)
+    (as_video (λ judged. IsGap judged b) judged video other)
     between right.is right.from right.to

@@ -4,6 +4,7 @@ use Rattle.vbi_side.proofs.Counting.{plain_runs, plain_counts}
 use Rattle.vbi_whole.specs.Gaps.{Judged, rule_by, to_judge}
 use Rattle.vbi_whole.specs.SaidWhole.{IsSaidWhole}
 use Rattle.vbi_whole.specs.Types.{Finding, Pace, Sightings, Film, Video}
+use Rattle.vbi_whole.proofs.GapLaws.{as_video}
 use Rattle.vbi_whole.proofs.WholeSides.{yes_of_both, yes_of_film, yes_anywhere, clear_ends}
 use Rattle.vbi_whole.proofs.gap_laws.nearly_whole.Goals as goal
 
@@ -29,8 +30,7 @@ returns-clause-film c disc place judged fields finding at said =
 pub returns-clause-anywhere : goal.returns-clause-anywhere
 returns-clause-anywhere c disc place judged fields finding video said =
     yes_anywhere disc place judged.rule.numbering judged.seen fields judged.numbers judged.ends finding
-    (subst (λ rule. IsSaidWhole disc place (to_judge rule judged.seen judged.numbers judged.ends) fields finding) video
-    said)
+    (as_video (λ judged. IsSaidWhole disc place judged fields finding) judged video said)
 
 pub returns-clause-both_plain : goal.returns-clause-both_plain
 returns-clause-both_plain c disc place judged fields finding at one said none counts =
