@@ -196,14 +196,10 @@ fn believed(
     ensures { (n : ℕ) → (result ≡ Some n) ↔ IsBelieved pace fields.now (spot field n) sighting.now other.now }
 {
     let number = sighting.number;
-    if sighting.is_seen()
+    let is_believed = sighting.is_seen()
         && is_supported(fields, pace, field, number)
-        && is_ahead(fields, pace, field, number, other)
-    {
-        Some(number)
-    } else {
-        None
-    }
+        && is_ahead(fields, pace, field, number, other);
+    is_believed.then_some(number)
 }
 
 /// The number that is believed of a field, if one is.

@@ -29,17 +29,12 @@ pub fn chapters_complete()
         → BelievedChapter fields i m }
 {}
 
-/// At most one chapter is believed of a field.
-#[tactic(auto, using(crate::proofs::ChapterAnswers::one_chapter))]
+/// At most one chapter is believed of a field, and there is one answer of it about its chapter.
+#[tactic(auto, using(crate::proofs::ChapterAnswers::one_chapter, crate::proofs::ChapterAnswers::one_answer))]
 pub fn one_chapter()
-    ensures { (fields : List Sightings) (i m n : ℕ)
+    ensures believed { (fields : List Sightings) (i m n : ℕ)
         → BelievedChapter fields i m → BelievedChapter fields i n → m ≡ n }
-{}
-
-/// There is one answer of a field about its chapter.
-#[tactic(auto, using(crate::proofs::ChapterAnswers::one_answer))]
-pub fn one_chapter_answer()
-    ensures { (fields : List Sightings) (i : ℕ) (one other : Number)
+    ensures answer { (fields : List Sightings) (i : ℕ) (one other : Number)
         → IsChapter fields i one → IsChapter fields i other → one ≡ other }
 {}
 

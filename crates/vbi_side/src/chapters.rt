@@ -27,10 +27,7 @@ fn chapter(line: &Shown) -> Sighting
             number: u32::from(number),
             weight: line.weight(),
         },
-        _ => Sighting {
-            number: 0,
-            weight: 0,
-        },
+        _ => Sighting::default(),
     }
 }
 
@@ -63,15 +60,11 @@ fn believed(fields: &[Sightings], field: usize, line: &Sighting, other: &Sightin
     ensures { (n : ℕ) → (result ≡ Some n) ↔ IsBelievedOf fields.now field line.now other.now n }
 {
     let chapter = line.number;
-    if line.is_seen()
+    let is_believed = line.is_seen()
         && reaches(fields, Fit::Says, field, chapter, ENOUGH)
         && !reaches(fields, Fit::Opposes, field, chapter, ENOUGH)
-        && is_ahead(fields, field, chapter, other)
-    {
-        Some(chapter)
-    } else {
-        None
-    }
+        && is_ahead(fields, field, chapter, other);
+    is_believed.then_some(chapter)
 }
 
 /// The chapter that is believed of a field, if one is.

@@ -66,11 +66,7 @@ pub fn completed_time(
     if shows_any(&fields[field]) {
         return None;
     }
-    match part(system, line_16) {
-        Some(part) => match elected(system, fields, field, part) {
-            Some(number) => word_of(system, number),
-            None => None,
-        },
-        None => None,
-    }
+    let part = part(system, line_16)?;
+    let number = elected(system, fields, field, part)?;
+    word_of(system, number)
 }

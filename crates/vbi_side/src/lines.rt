@@ -78,10 +78,7 @@ fn sighting(system: System, counted: Counted, line_16: &Shown, line: &Shown) -> 
                 weight: line_16.weight().min(line.weight()),
             }
         }
-        _ => Sighting {
-            number: 0,
-            weight: 0,
-        },
+        _ => Sighting::default(),
     }
 }
 

@@ -101,24 +101,18 @@ pub fn worked_sides()
     ensures wrong { Believed Video wrong_by_10 4 102 }
 {}
 
-/// At most one number is believed of a field.
-#[tactic(auto, using(crate::proofs::Ahead::one_believed))]
-pub fn one_believed()
-    ensures { (pace : Pace) (fields : List Sightings) (i m n : ℕ)
+/// Of a field at most one number is believed, at most one is due, and there is one answer. Of a capture one pace is
+/// found.
+#[tactic(auto, using(crate::proofs::Ahead::one_believed, crate::proofs::DueLemmas::one_due))]
+pub fn one_of_each()
+    ensures believed { (pace : Pace) (fields : List Sightings) (i m n : ℕ)
         → Believed pace fields i m → Believed pace fields i n → m ≡ n }
-{}
-
-/// In a field at most one number is due.
-#[tactic(auto, using(crate::proofs::DueLemmas::one_due))]
-pub fn one_due()
-    ensures { (pace : Pace) (fields : List Sightings) (i m n : ℕ)
+    ensures due { (pace : Pace) (fields : List Sightings) (i m n : ℕ)
         → Due pace fields i m → Due pace fields i n → m ≡ n }
-{}
-
-/// There is one answer of a field.
-pub fn one_answer()
-    ensures { (pace : Pace) (fields : List Sightings) (i : ℕ) (one other : Number)
+    ensures answer { (pace : Pace) (fields : List Sightings) (i : ℕ) (one other : Number)
         → IsAnswer pace fields i one → IsAnswer pace fields i other → one ≡ other }
+    ensures pace { (system : System) (counted : Counted) (fields : List Sightings) (one other : Pace)
+        → IsFound system counted fields one → IsFound system counted fields other → one ≡ other }
 {}
 
 /// A field is known to have just the number that is believed of it or due in it, so that a search finds no other.
@@ -143,13 +137,6 @@ pub fn worked_paces()
     ensures equal { map (pace_by 10) (0 ∷ 10 ∷ 11 ∷ 12 ∷ []) ≡ Video ∷ Video ∷ Video ∷ Film ∷ [] }
     ensures many { map (pace_by 1000) (1000 ∷ 1100 ∷ 1101 ∷ 2000 ∷ []) ≡ Video ∷ Video ∷ Film ∷ Film ∷ [] }
     ensures none { map (pace_by 0) (0 ∷ 1 ∷ []) ≡ Video ∷ Film ∷ [] }
-{}
-
-/// One pace is found of a capture.
-#[tactic(auto, using(crate::proofs::Counts::one_found))]
-pub fn one_found()
-    ensures { (system : System) (counted : Counted) (fields : List Sightings) (one other : Pace)
-        → IsFound system counted fields one → IsFound system counted fields other → one ≡ other }
 {}
 
 /// A number is never believed for its own field alone: another field within reach shows one that fits it, or that is of
@@ -248,19 +235,16 @@ pub fn worked_numbers()
         ∷ field_of 12345 1 12345 2 ∷ field_of 88687 1 88687 1 ∷ [] }
 {}
 
-/// The numbers that codes of times tell at either system's rate.
-pub fn worked_rates()
+/// The numbers that codes of times tell at either system's rate: also those of the last pictures of hours 0 and 9, and
+/// of a minute 60, which is none.
+pub fn worked_times()
     ensures ntsc { map (λ line_16. number_from Ntsc Times line_16 (Some (Time 1 23)))
         (Some (ClvPicture 0 0) ∷ Some (ClvPicture 0 29) ∷ Some (ClvPicture 0 30) ∷ Some (ClvPicture 59 29) ∷ None ∷ [])
         ≡ Some 149400 ∷ Some 149429 ∷ None ∷ Some 151199 ∷ None ∷ [] }
     ensures pal { map (λ line_16. number_from Pal Times line_16 (Some (Time 1 23)))
         (Some (ClvPicture 0 0) ∷ Some (ClvPicture 0 24) ∷ Some (ClvPicture 0 25) ∷ Some (ClvPicture 59 24) ∷ None ∷ [])
         ≡ Some 124500 ∷ Some 124524 ∷ None ∷ Some 125999 ∷ None ∷ [] }
-{}
-
-/// The numbers of the last pictures of hours 0 and 9, and of a minute 60, which is none.
-pub fn worked_minutes()
-    ensures { map (number_from Pal Times (Some (ClvPicture 59 24)))
+    ensures minutes { map (number_from Pal Times (Some (ClvPicture 59 24)))
         (Some (Time 0 59) ∷ Some (Time 0 60) ∷ Some (Time 9 59) ∷ None ∷ [])
         ≡ Some 89999 ∷ None ∷ Some 899999 ∷ None ∷ [] }
 {}
@@ -305,19 +289,12 @@ pub fn worked_stills()
     ensures most { field_most ≡ 4 }
 {}
 
-/// Others count within 24 fields.
-pub fn worked_reach()
-    ensures { reach ≡ 24 }
-{}
-
-/// A weight of 10 is enough.
-pub fn worked_enough()
-    ensures { enough ≡ 10 }
-{}
-
-/// Between numbers at most 8 fields apart others may be a field off.
-pub fn worked_slack()
-    ensures { map (slack_of 0) (2 ∷ 8 ∷ 9 ∷ 48 ∷ []) ≡ 1 ∷ 1 ∷ 0 ∷ 0 ∷ [] }
+/// Others count within 24 fields, and a weight of 10 is enough. Between numbers at most 8 fields apart others may be a
+/// field off.
+pub fn worked_bounds()
+    ensures reach { reach ≡ 24 }
+    ensures enough { enough ≡ 10 }
+    ensures slack { map (slack_of 0) (2 ∷ 8 ∷ 9 ∷ 48 ∷ []) ≡ 1 ∷ 1 ∷ 0 ∷ 0 ∷ [] }
 {}
 
 /// What supports a number: others within 24 fields, on either side, and not further; of a still all but the weight of

@@ -70,14 +70,10 @@ pub fn believed_at(numbers: &[Number], field: usize) -> Option<Place>
     ensures none { result ≡ None → (n : ℕ) → IsMarked numbers.now field n → ⊥ }
 {
     let answer = numbers[field];
-    if answer.is_believed() {
-        Some(Place {
-            field,
-            number: answer.number,
-        })
-    } else {
-        None
-    }
+    answer.is_believed().then_some(Place {
+        field,
+        number: answer.number,
+    })
 }
 
 /// The first field with a believed number.

@@ -5,8 +5,9 @@ ghost use Rattle.vbi_side.specs.Sightings.{weight_of, IsSeen, shows_between};
 
 use std::mem::size_of;
 
-/// A number that a line shows. As all of its bytes may be handed in by C, any two numbers are a sighting.
-#[derive(Clone, Copy)]
+/// A number that a line shows, by default none. As all of its bytes may be handed in by C, any two numbers are a
+/// sighting.
+#[derive(Clone, Copy, Default)]
 #[repr(C)]
 pub struct Sighting {
     /// The picture's number, or the pictures from the disc's beginning.
@@ -57,6 +58,7 @@ impl Sightings {
     {
         self.instead != 0
     }
+
     /// Whether both lines show one number, as they do if both were read in pass 1.
     pub fn shows_twice(&self) -> bool
         ensures { (result ≡ true) ↔ ((2 ≤ self.now.line_17.weight) × (2 ≤ self.now.line_18.weight)

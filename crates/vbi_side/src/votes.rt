@@ -84,25 +84,14 @@ fn with_vote(count: Count, key: u64, weight: u32) -> Count
 {
     let weight = u64::from(weight);
     let all = count.all + weight;
-    if key == count.key {
-        Count {
-            key,
-            ahead: count.ahead + weight,
-            all,
-        }
+    let (key, ahead) = if key == count.key {
+        (key, count.ahead + weight)
     } else if weight <= count.ahead {
-        Count {
-            key: count.key,
-            ahead: count.ahead - weight,
-            all,
-        }
+        (count.key, count.ahead - weight)
     } else {
-        Count {
-            key,
-            ahead: weight - count.ahead,
-            all,
-        }
-    }
+        (key, weight - count.ahead)
+    };
+    Count { key, ahead, all }
 }
 
 /// The weight of a sighting, if it votes.
@@ -224,11 +213,7 @@ fn number_of(election: Election, key: u64) -> Option<u64>
         return None;
     }
     let number = (key - reach) / 2;
-    if number % minute(election.system) == u64::from(election.part) {
-        Some(number)
-    } else {
-        None
-    }
+    (number % minute(election.system) == u64::from(election.part)).then_some(number)
 }
 
 /// Whether this many votes are enough: at least what both lines of one field weigh in pass 1, and more than half of

@@ -22,6 +22,9 @@ leads_self Film a = le-leb (2 * a.field + 5 * a.number) (2 * a.field + 5 * a.num
 pub leads_on : (pace : Pace) (a b c : Place) → leads pace a b ≡ true → leads pace b c ≡ true → leads pace a c ≡ true
 leads_on pace a b c h1 h2 = grind (arith, le-leb, leb-true)
 
+pub leads_back : (rule : Rule) (a b : Place) → leads_by rule a b ≡ false → leads_by rule b a ≡ true
+leads_back rule a b e = grind (arith, leb_tells)
+
 -- a place by the clock
 abbrev by : Rule → Place → Place
 by rule a = by_clock rule.numbering.clock a

@@ -14,7 +14,7 @@ use Rattle.vbi_side.specs.Side.{captured, AreLost}
 use Rattle.vbi_whole.specs.Gaps.{lost, held, lacking_by, gap_as}
 use Rattle.vbi_whole.specs.Gaps.{kind_of, fields_of, ended_between, shown_between, AreNeighbours, IsGap, AreGaps}
 use Rattle.vbi_whole.specs.Gaps.{CountTo, HasRightEnds, LostAtLeast, HeldAtLeast, lacking, Judged, amid_of, from_of}
-use Rattle.vbi_whole.specs.Gaps.{to_of, goes_on, of_video}
+use Rattle.vbi_whole.specs.Gaps.{to_of, goes_on, of_video, to_judge, IsOfVideo}
 use Rattle.std.proofs.lemmas.Bool.{and_parts}
 use Rattle.vbi_whole.proofs.Telling.{gap_is, some_is}
 
@@ -218,3 +218,8 @@ gap_is_cut disc place numbering seen answers ends gap runs is (first, last) same
     let counts : gap.before + 2 * from ≡ gap.after + 2 * to = omega (arith, on, order, same) in
     not_on (of_video numbering seen answers ends) gap is
     (near_same (gap.before + 2 * from) (gap.after + 2 * to) counts)
+
+-- what holds of a capture of video holds of it by the rule of video
+pub as_video : (P : Judged → Type 0) (judged : Judged) → IsOfVideo judged → P judged
+    → P (of_video judged.rule.numbering judged.seen judged.numbers judged.ends)
+as_video P judged video holds = subst (λ rule. P (to_judge rule judged.seen judged.numbers judged.ends)) video holds

@@ -1,12 +1,12 @@
 -- How the pairs of neighbours are told, field by field.
-use Rattle.std.proofs.Common.{◌≡◌, ℕ, zero, suc, ◌+◌, ◌≤◌, ◌∙◌, List, length, refl, sym, ap, arith, subst, inl, inr}
+use Rattle.std.proofs.Common.{◌≡◌, ℕ, zero, suc, ◌+◌, ◌<◌, ◌≤◌, ◌∙◌, List, refl, sym, ap, arith, subst, inl, inr}
 use Rattle.std.specs.Prelude.{◌⊎◌}
 use Rattle.vbi_side.specs.Numbers.{IsMarked}
 use Rattle.vbi_whole.proofs.GapLaws.{same_before, same_number}
-use Rattle.vbi_whole.specs.Types.{Clock, Number, Rule}
+use Rattle.vbi_whole.specs.Types.{Clock, DropFrame, Number, Rule}
 use Rattle.vbi_whole.specs.declared.clock_search.Pairs.{Pairs}
 use Rattle.vbi_side.specs.Paces.{spot}
-use Rattle.vbi_whole.specs.ClockSearch.{with_pair, ArePairs, AreEnough, ExplainsMost}
+use Rattle.vbi_whole.specs.ClockSearch.{with_pair, ArePairs, IsClockTold, IsWeight, ExplainsMost}
 use Rattle.vbi_whole.specs.Gaps.{AreNeighbours, IsFree}
 
 -- a field that ends no pair ends none
@@ -53,11 +53,25 @@ one_count clock rule answers (suc k) a b (inr (i, m, n, fewer, pair, one, e))
     ∙ ap (λ (x : Pairs). with_pair clock rule (spot h l) (spot k o) x) same ∙ sym f
 
 -- what is told of a clock that explains most is no less than what is told of another
-pub most_told : (clock other : Clock) (rule : Rule) (answers : List Number) (pairs others : Pairs)
-    (weight less : ℕ) → ExplainsMost clock rule answers
-    → ArePairs clock rule answers (length answers) pairs
-    → (AreEnough pairs × (weight ≡ pairs.explained)) ⊎ ((AreEnough pairs → ⊥) × (weight ≡ 0))
-    → ArePairs other rule answers (length answers) others
-    → (AreEnough others × (less ≡ others.explained)) ⊎ ((AreEnough others → ⊥) × (less ≡ 0))
-    → (3 ≤ weight) × (less ≤ weight)
-most_told clock other rule answers pairs others weight less h1 h2 h3 h4 h5 = grind (arith, one_count)
+pub most_told : (clock other : Clock) (rule : Rule) (answers : List Number) (weight less : ℕ)
+    → ExplainsMost clock rule answers
+    → IsWeight clock rule answers weight → IsWeight other rule answers less → (3 ≤ weight) × (less ≤ weight)
+most_told clock other rule answers weight less h1 h2 h3 = grind (arith, one_count)
+
+-- a clock that explains some is told
+pub some_told : (clock : Clock) (rule : Rule) (answers : List Number) (weight : ℕ) → IsWeight clock rule answers weight
+    → 0 < weight → IsClockTold clock rule answers
+some_told clock rule answers weight (pairs, are, inl (enough, e)) some = (pairs, are, enough)
+some_told clock rule answers weight (pairs, are, inr (never, e)) some = absurd (omega (arith, e, some))
+
+-- so drop-frame isn't passed over for two others
+pub not_passed : (rule : Rule) (answers : List Number) (one two : Clock) (drop first second : ℕ)
+    → ExplainsMost DropFrame rule answers → IsWeight DropFrame rule answers drop → IsWeight one rule answers first
+    → IsWeight two rule answers second
+    → (0 < drop × first ≤ drop × drop < second) ⊎ (0 < drop × drop < first) ⊎ drop ≤ 0 → ⊥
+not_passed rule answers one two drop first second most is is_first is_second (inl (some, le, less)) =
+    absurd (omega (arith, less, (most_told DropFrame two rule answers drop second most is is_second).1))
+not_passed rule answers one two drop first second most is is_first is_second (inr (inl (some, less))) =
+    absurd (omega (arith, less, (most_told DropFrame one rule answers drop first most is is_first).1))
+not_passed rule answers one two drop first second most is is_first is_second (inr (inr none)) =
+    absurd (omega (arith, none, (most_told DropFrame one rule answers drop first most is is_first).0))

@@ -1,17 +1,24 @@
 -- Where a swap is found, and where none is.
 use Rattle.std.proofs.Common.{◌≡◌, ℕ, true, false, List, arith, ◌<◌, ◌≤◌, inl}
-use Rattle.std.proofs.Common.{inr}
+use Rattle.std.proofs.Common.{inr, subst}
 use Rattle.std.specs.Prelude.{Option, Some, None, IfSome, slice_get}
 use Rattle.std.proofs.lemmas.Bool.Decides.{eqb_tells}
 use Rattle.vbi_whole.specs.Types.{Number, Place, Video, Sightings, Clock}
 use Rattle.vbi_side.specs.Clocks.{nearly_by}
 use Rattle.vbi_side.specs.Numbers.{IsMarked}
 use Rattle.vbi_side.specs.Paces.{spot}
-use Rattle.vbi_whole.specs.Gaps.{IsLast}
-use Rattle.vbi_whole.specs.Swaps.{is_stray, IsSwap, IsFirstStray}
+use Rattle.vbi_whole.specs.Gaps.{IsLast, Judged}
+use Rattle.vbi_whole.specs.Swaps.{is_stray, IsSwap, IsFirstStray, IsSearch}
+use Rattle.vbi_whole.specs.declared.swaps.Search.{Search}
 use Rattle.vbi_side.proofs.Truth.{video_fits, near_same}
 use Rattle.vbi_whole.proofs.Telling.{neighbours_of}
 use Rattle.vbi_whole.proofs.GapLaws.{same_before, same_number, on_video}
+
+-- what the search knows, where this is the last number
+pub search_at : (judged : Judged) (k : ℕ) (search : Search) (place : Place) → IsSearch judged k search
+    → search.last ≡ Some place → IsSearch judged k (record { last = Some place; stray = search.stray })
+search_at judged k search place is at =
+    subst (λ last. IsSearch judged k (record { last = last; stray = search.stray })) at is
 
 -- where a number and the one before it don't go on, no swap lies between
 pub none_between : (clock : Clock) (seen : List Sightings) (answers : List Number) (k n : ℕ) (place : Place)

@@ -130,7 +130,8 @@ module _ (disc : ℕ → Option ℕ) (place : ℕ → ℕ) (slack : ℕ) (number
             (omega (arith, on, here.0, there.1, near.0, near.1)),
       )
 
-  pub yes_of_both : AreClearEnds numbering.clock answers finding → AreFewLost place finding (2 * slack)
+  pub yes_of_both : AreClearEnds (to_judge (rule_by Video slack numbering) seen answers ends) finding
+      → AreFewLost place finding (2 * slack)
   yes_of_both clear = grind (arith, video_lost)
 
 exactly : (clock : Clock) (disc : ℕ → Option ℕ) → DiscCountsBy clock Video disc → DiscNearlyBy clock 0 disc
@@ -140,7 +141,7 @@ exactly clock disc runs d e m n here there =
 pub whole_clock : (disc : ℕ → Option ℕ) (place : ℕ → ℕ) (numbering : Numbering) (seen fields : List Sightings)
     (answers : List Number) (ends : List ℕ) (finding : Finding)
     → IsSaidWhole disc place (of_video numbering seen answers ends) fields finding
-    → DiscCountsBy numbering.clock Video disc → AreClearEnds numbering.clock answers finding
+    → DiscCountsBy numbering.clock Video disc → AreClearEnds (of_video numbering seen answers ends) finding
     → NoneLost place (finding.first + reach) (finding.last - reach)
 whole_clock disc place numbering seen fields answers ends finding said runs clear =
     let lost = yes_of_both disc place 0 numbering seen fields answers ends finding said (omega arith)
@@ -162,8 +163,8 @@ yes_anywhere disc place numbering seen fields answers ends finding said runs =
 module _ (disc : ℕ → Option ℕ) (place : ℕ → ℕ) (slack : ℕ) (numbering : Numbering) (seen fields : List Sightings)
     (answers : List Number) (ends : List ℕ) (finding : Finding)
     (said : IsSaidWhole disc place (to_judge (rule_by Film slack numbering) seen answers ends) fields finding) where
-  pub yes_of_film : DiscCountsBy numbering.clock Film disc → AreClearEnds numbering.clock answers finding
-      → AreFewLost place finding 4
+  pub yes_of_film : DiscCountsBy numbering.clock Film disc
+      → AreClearEnds (to_judge (rule_by Film slack numbering) seen answers ends) finding → AreFewLost place finding 4
   yes_of_film runs clear =
       let clock = numbering.clock in
       let e = yes_near (to_judge (rule_by Film slack numbering) seen answers ends) said.may_end finding said.old
@@ -192,9 +193,11 @@ module _ (disc : ℕ → Option ℕ) (place : ℕ → ℕ) (slack : ℕ) (number
       (omega (arith, fit.0, fit.1, here.0, here.1, there.0, there.1, near.0, near.1))
 
 -- with no clock no number is left out near an end
-pub clear_ends : (clock : Clock) (answers : List Number) (finding : Finding) → clock ≡ Plain
-    → AreClearEnds clock answers finding
-clear_ends clock answers finding none = (λ n at. plain_clear clock n none, λ n at. plain_clear clock n none)
+pub clear_ends : (judged : Judged) (finding : Finding) → judged.rule.numbering.clock ≡ Plain
+    → AreClearEnds judged finding
+clear_ends judged finding none =
+    let clock = judged.rule.numbering.clock in
+    (λ n at. plain_clear clock n none, λ n at. plain_clear clock n none)
 
 pub blank_not_yes : (judged : Judged) (may_end : Bool) (finding : Finding) (old new : List Gap)
     → IsFinding judged may_end finding old new → (i : ℕ)

@@ -49,6 +49,11 @@ abbrev pub IsClockTold : Clock → Rule → List Number → Type 0
 IsClockTold clock rule answers = (pairs : Pairs) × ArePairs clock rule answers (length answers) pairs
     × AreEnough pairs
 
+-- the clock explains this many pairs, if it is told; else this is 0
+abbrev pub IsWeight : Clock → Rule → List Number → ℕ → Type 0
+IsWeight clock rule answers weight = (pairs : Pairs) × ArePairs clock rule answers (length answers) pairs
+    × ((AreEnough pairs × (weight ≡ pairs.explained)) ⊎ ((AreEnough pairs → ⊥) × (weight ≡ 0)))
+
 -- it is told, and no clock that is told explains more
 abbrev pub ExplainsMost : Clock → Rule → List Number → Type 0
 ExplainsMost clock rule answers = (pairs : Pairs) × ArePairs clock rule answers (length answers) pairs

@@ -2,9 +2,11 @@
 -- read in place of others, or the player left the fields around and came back to them.
 use Rattle.std.specs.Prelude.{◌≡◌, ℕ, zero, suc, ◌+◌, ◌*◌, ◌-◌, ◌/◌, ◌<◌, ◌≤◌, ◌==◌, nat_lt, ◌&&◌, ◌||◌, ◌⊎◌, Bool}
 use Rattle.std.specs.Prelude.{if◌then◌else◌, List, [], ◌∷◌, slice_get, Option, Some, None}
-use Rattle.vbi_whole.specs.Types.{Clock, Gap, Pace, Video, Film, Rule}
-use Rattle.vbi_side.specs.Clocks.{kept}
+use Rattle.vbi_whole.specs.Types.{Clock, Gap, Numbering, Pace, Video, Film, Rule}
+use Rattle.vbi_side.specs.Clocks.{kept, DiscCountsBy}
+use Rattle.vbi_side.specs.Side.{captured}
 use Rattle.vbi_whole.specs.Gaps.{lost, held, back, still, open_gap, inserted, replaced, goes_on, from_of, to_of}
+use Rattle.vbi_whole.specs.Gaps.{rule_by}
 
 -- a gap of this kind may be one of a detour
 abbrev pub may_turn : ℕ → Bool
@@ -91,6 +93,15 @@ skips place i (suc k) = skips place i k + (place (suc (i + k)) - suc (place (i +
 unfoldable pub repeats : (ℕ → ℕ) → ℕ → ℕ → ℕ
 repeats place i zero = 0
 repeats place i (suc k) = repeats place i k + (suc (place (i + k)) - place (suc (i + k)))
+
+-- the detour over two gaps of a disc of video, which counts on by the clock, is of this kind, and the numbers around it
+-- are right
+pub record IsRightDetour (disc : ℕ → Option ℕ) (place : ℕ → ℕ) (numbering : Numbering) (a b : Gap) (kind : ℕ)
+    : Type 0 where
+  pub counts : DiscCountsBy numbering.clock Video disc
+  pub is : detour_of (rule_by Video 0 numbering) a b ≡ Some kind
+  pub from : captured disc place a.after ≡ Some a.from
+  pub to : captured disc place b.before ≡ Some b.to
 
 -- the numbers around the two gaps count to fewer fields than the capture has between, to at least one, and to no more
 -- than stand outside of the run between the gaps; it is inserted at least

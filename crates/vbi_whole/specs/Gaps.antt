@@ -196,6 +196,10 @@ to_judge rule seen numbers ends = record { rule = rule; seen = seen; numbers = n
 abbrev pub of_video : Numbering → List Sightings → List Number → List ℕ → Judged
 of_video numbering seen numbers ends = to_judge (rule_by Video 0 numbering) seen numbers ends
 
+-- the disc that is judged is of video, with a number on one field of each picture
+abbrev pub IsOfVideo : Judged → Type 0
+IsOfVideo judged = judged.rule ≡ rule_by Video 0 judged.rule.numbering
+
 -- what is judged of a side
 abbrev pub judged_in : Side → Judged
 judged_in side = to_judge side.rule side.seen.now side.numbers.now side.ends.now

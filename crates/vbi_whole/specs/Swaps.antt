@@ -6,7 +6,7 @@ use Rattle.vbi_whole.specs.Types.{Clock, Number, Video, Place, Sighting, Sightin
 use Rattle.vbi_side.specs.Clocks.{clock_fits, by_clock}
 use Rattle.vbi_side.specs.Paces.{spot}
 use Rattle.vbi_whole.specs.declared.swaps.Search.{Search}
-use Rattle.vbi_whole.specs.Gaps.{AreNeighbours}
+use Rattle.vbi_whole.specs.Gaps.{AreNeighbours, IsLast, Judged}
 
 -- place b stands one field before or after the place that place a leaves for its number
 abbrev pub stands_off : Place → Place → Bool
@@ -47,6 +47,10 @@ pub record IsSwap (clock : Clock) (seen : List Sightings) (answers : List Number
   pub before : k < j
   pub stray : is_stray clock answers (spot i m) k (slice_get seen k) ≡ true
 
+-- of this capture field k was swapped
+abbrev pub IsSwapIn : Judged → ℕ → Type 0
+IsSwapIn judged k = IsSwap judged.rule.numbering.clock judged.seen judged.numbers k
+
 -- of a disc of video with a number on one field of its pictures: the field that is named was swapped and none before
 -- it, or none was
 abbrev pub IsSwapTold : Rule → List Sightings → List Number → ℕ → Bool → Type 0
@@ -68,3 +72,8 @@ IsFirstStray clock seen answers field search = elim search.last [
         × ((j : ℕ) → place.field < j → j < k → is_stray clock answers place j (slice_get seen j) ≡ true → ⊥)
   ]
 ]
+
+-- and this is the last number before it
+abbrev pub IsSearch : Judged → ℕ → Search → Type 0
+IsSearch judged field search = IsLast judged.numbers field search.last
+    × IsFirstStray judged.rule.numbering.clock judged.seen judged.numbers field search

@@ -159,11 +159,7 @@ fn mark(from: usize, to: usize, left: &mut [Number])
 fn begun(first: Option<Gap>, gap: Gap) -> Option<Gap>
     ensures { result ≡ begun first (Some gap) }
 {
-    if first.is_none() && gap.kind == REPLACED {
-        Some(gap)
-    } else {
-        None
-    }
+    (first.is_none() && gap.kind == REPLACED).then_some(gap)
 }
 
 /// Sets aside the numbers of the run that ends with this gap, if one does and the rows around weigh more.

@@ -26,11 +26,7 @@ fn blank_before(numbers: &[Number], rule: Rule, at: Reached) -> Option<usize>
     if there.field - here.field <= SCRATCH + 1 {
         return None;
     }
-    if rule.goes_on(here, there) {
-        Some(here.field)
-    } else {
-        None
-    }
+    rule.goes_on(here, there).then_some(here.field)
 }
 
 /// The first field of the first such stretch, counted from 0; 0 if there is none.

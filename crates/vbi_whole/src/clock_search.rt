@@ -12,9 +12,9 @@
 //! gaps.rt has the pass and gap.rt the test whether two numbers go on; clock.rt says what each clock leaves out.
 //! Another bound, or a clock more, changes `specs/ClockSearch.antt` and the contract of `find_clock`.
 
-ghost use Rattle.std.specs.Prelude.{◌≡◌, ◌+◌, ◌*◌, ◌<◌, ◌≤◌, ◌^◌, ◌↔◌, ◌⊎◌, true, false, length, List};
-ghost use Rattle.vbi_whole.specs.ClockSearch.{explains, opposes, with_pair, ArePairs, AreEnough, IsClockTold};
-ghost use Rattle.vbi_whole.specs.{Types.DropFrame, Types.OneIn, Types.Number, ClockSearch.ExplainsMost, Gaps.IsLast};
+ghost use Rattle.std.specs.Prelude.{◌≡◌, ◌+◌, ◌*◌, ◌<◌, ◌≤◌, ◌^◌, ◌↔◌, ◌⊎◌, true, false, length};
+ghost use Rattle.vbi_whole.specs.ClockSearch.{explains, opposes, with_pair, ArePairs, IsClockTold, IsWeight};
+ghost use Rattle.vbi_whole.specs.{Types.DropFrame, ClockSearch.ExplainsMost, Gaps.IsLast};
 ghost use Rattle.vbi_whole.specs.{Gaps.has_clock};
 ghost use Rattle.vbi_side.specs.{Paces.nearly, Clocks.nearly_by, Clocks.IsProper};
 
@@ -29,20 +29,6 @@ struct Pairs {
     explained: u64,
     /// They go on without it, and not by it.
     opposed: u64,
-}
-
-impl Pairs {
-    /// How many it explains, if that is enough to believe in the clock, else 0.
-    fn told(self) -> u64
-        requires { self.opposed < 2 ^ 60 }
-        ensures { (AreEnough self × (result ≡ self.explained)) ⊎ ((AreEnough self → ⊥) × (result ≡ 0)) }
-    {
-        if self.explained >= 3 && self.explained >= 2 * self.opposed {
-            self.explained
-        } else {
-            0
-        }
-    }
 }
 
 /// The pairs with one more.
@@ -160,51 +146,34 @@ fn leading(numbers: &[Number], rule: Rule, period: u32) -> u32
     leader.phase
 }
 
-/// What is said of all neighbouring numbers by the clock that leaves out one in this many.
+/// A clock that was tried, and how many neighbouring numbers it explains, if that is enough to believe in it, else 0.
 #[derive(Clone, Copy)]
-struct Even {
-    phase: u32,
-    pairs: Pairs,
+struct Trial {
+    clock: Clock,
+    explained: u64,
 }
 
-/// That of the phase that leads.
-fn even_by(numbers: &[Number], rule: Rule, period: u32) -> Even
+/// What all neighbouring numbers tell of a clock.
+fn tried(numbers: &[Number], rule: Rule, clock: Clock) -> Trial
+    ensures clock { result.clock ≡ clock }
+    ensures told { IsWeight clock rule numbers.now result.explained }
+{
+    let pairs = pairs_by(numbers, rule, clock);
+    let is_enough = pairs.explained >= 3 && pairs.explained >= 2 * pairs.opposed;
+    Trial {
+        clock,
+        explained: if is_enough { pairs.explained } else { 0 },
+    }
+}
+
+/// What they tell of the clock that leaves out one number in this many, with the phase that leads.
+fn tried_in(numbers: &[Number], rule: Rule, period: u32) -> Trial
     requires period { 0 < period }
-    ensures proper { result.phase < period }
-    ensures value { ArePairs (OneIn period result.phase) rule numbers.now (length numbers.now) result.pairs }
-    ensures range { result.pairs.opposed < 2 ^ 60 }
+    ensures proper { IsProper result.clock }
+    ensures told { IsWeight result.clock rule numbers.now result.explained }
 {
     let phase = leading(numbers, rule, period);
-    let pairs = pairs_by(numbers, rule, Clock::OneIn { period, phase });
-    Even { phase, pairs }
-}
-
-/// The clock of these two that explains more, if one does, else that of the rule.
-fn even_clock(rule: Rule, first: Even, second: Even) -> Clock
-    requires first { first.phase < 1000 }
-    requires second { second.phase < 1001 }
-    requires few { first.pairs.opposed < 2 ^ 60 }
-    requires fewer { second.pairs.opposed < 2 ^ 60 }
-    ensures { (numbers : List Number)
-        → ArePairs (OneIn 1000 first.phase) rule numbers (length numbers) first.pairs
-        → ArePairs (OneIn 1001 second.phase) rule numbers (length numbers) second.pairs
-        → (result ≡ rule.numbering.clock) ⊎ (IsProper result × IsClockTold result rule numbers) }
-{
-    let one = first.pairs.told();
-    let other = second.pairs.told();
-    if one > other {
-        return Clock::OneIn {
-            period: 1000,
-            phase: first.phase,
-        };
-    }
-    if other > one {
-        return Clock::OneIn {
-            period: 1001,
-            phase: second.phase,
-        };
-    }
-    rule.numbering.clock
+    tried(numbers, rule, Clock::OneIn { period, phase })
 }
 
 /// The clock that explains most of the places at which the numbers of an NTSC CLV disc don't go on, of those that
@@ -221,13 +190,17 @@ pub fn find_clock(numbers: &[Number], rule: Rule) -> Clock
     if !rule.numbering.has_clock() {
         return rule.numbering.clock;
     }
-    let drop = pairs_by(numbers, rule, Clock::DropFrame).told();
-    let first = even_by(numbers, rule, 1000);
-    let second = even_by(numbers, rule, 1001);
-    let one = first.pairs.told();
-    let two = second.pairs.told();
-    if drop > 0 && drop >= one && drop >= two {
+    let drop = tried(numbers, rule, Clock::DropFrame);
+    let one = tried_in(numbers, rule, 1000);
+    let two = tried_in(numbers, rule, 1001);
+    if drop.explained > 0 && drop.explained >= one.explained && drop.explained >= two.explained {
         return Clock::DropFrame;
     }
-    even_clock(rule, first, second)
+    if one.explained > two.explained {
+        one.clock
+    } else if two.explained > one.explained {
+        two.clock
+    } else {
+        rule.numbering.clock
+    }
 }

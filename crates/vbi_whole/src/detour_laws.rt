@@ -9,10 +9,10 @@ ghost use Rattle.std.specs.Prelude.{length, slice_get, map, false};
 ghost use Rattle.vbi_whole.specs.Types.{Clock, Plain, Gap, Numbering, Number, Pace, Video, Film, Sightings, Finding};
 ghost use Rattle.vbi_whole.specs.Detours.{detour_of, fields_by, turned, detoured, skips, repeats, IsToldAs, IsLeft};
 ghost use Rattle.vbi_whole.specs.Gaps.{lost, held, back, still, joined, open_gap, inserted, replaced, gap_made};
-ghost use Rattle.vbi_whole.specs.Gaps.{since_end, IsGap, Judged, rule_by, of_video};
+ghost use Rattle.vbi_whole.specs.Gaps.{since_end, IsGap, IsOfVideo, Judged, rule_by};
 ghost use Rattle.vbi_whole.specs.{Types.No, Types.Rule, Told.tally_of, Verdicts.too_few, Verdicts.padded_in};
 ghost use Rattle.vbi_whole.specs.{Verdicts.HasNone, Verdicts.IsFinding, WorkedSides.cav, WorkedSides.by_pictures};
-ghost use Rattle.vbi_whole.specs.{WorkedSides.by_film};
+ghost use Rattle.vbi_whole.specs.{WorkedSides.by_film, Detours.IsRightDetour};
 ghost use Rattle.vbi_side.specs.{Clocks.kept, Clocks.DiscCountsBy, Numbers.IsMarked, Side.Rises, Side.captured};
 ghost use Rattle.vbi_side.specs.{Side.IsOneRun, Paces.spot};
 
@@ -40,21 +40,14 @@ pub fn detours_told()
 /// numbers of the run, at both gaps, aren't those of the disc.
 pub fn replaced_is()
     ensures cancels { (disc : ℕ → Option ℕ) (place : ℕ → ℕ) (numbering : Numbering) (a b : Gap)
-        → DiscCountsBy numbering.clock Video disc → detour_of (rule_by Video 0 numbering) a b ≡ Some replaced
-        → a.after ≤ b.before
-        → captured disc place a.after ≡ Some a.from → captured disc place b.before ≡ Some b.to
+        → IsRightDetour disc place numbering a b replaced → a.after ≤ b.before
         → skips place a.after (b.before - a.after) ≡ repeats place a.after (b.before - a.after) }
     ensures in_order { (disc : ℕ → Option ℕ) (place : ℕ → ℕ) (numbering : Numbering) (a b : Gap)
-        → DiscCountsBy numbering.clock Video disc → detour_of (rule_by Video 0 numbering) a b ≡ Some replaced
-        → a.after ≤ b.before
-        → captured disc place a.after ≡ Some a.from → captured disc place b.before ≡ Some b.to
+        → IsRightDetour disc place numbering a b replaced → a.after ≤ b.before
         → Rises place → IsOneRun place a.after b.before }
-    ensures misread { (disc : ℕ → Option ℕ) (place : ℕ → ℕ) (numbering : Numbering) (seen : List Sightings)
-        (answers : List Number) (ends : List ℕ) (a b : Gap) → DiscCountsBy numbering.clock Video disc
-        → IsGap (of_video numbering seen answers ends) a
-        → IsGap (of_video numbering seen answers ends) b
-        → a.before ≤ b.after → detour_of (rule_by Video 0 numbering) a b ≡ Some replaced
-        → captured disc place a.after ≡ Some a.from → captured disc place b.before ≡ Some b.to → Rises place
+    ensures misread { (disc : ℕ → Option ℕ) (place : ℕ → ℕ) (judged : Judged) (a b : Gap) → IsOfVideo judged
+        → IsRightDetour disc place judged.rule.numbering a b replaced → IsGap judged a → IsGap judged b
+        → a.before ≤ b.after → Rises place
         → (captured disc place a.before ≢ Some a.to) × (captured disc place b.after ≢ Some b.from) }
 {}
 
@@ -63,15 +56,12 @@ pub fn replaced_is()
 /// the disc's order there. And if fields are inserted, the verdict is no.
 pub fn inserted_is()
     ensures left { (disc : ℕ → Option ℕ) (place : ℕ → ℕ) (numbering : Numbering) (a b : Gap)
-        → DiscCountsBy numbering.clock Video disc → detour_of (rule_by Video 0 numbering) a b ≡ Some inserted
+        → IsRightDetour disc place numbering a b inserted
         → a.after < a.before → a.before ≤ b.after → b.after < b.before
-        → captured disc place a.after ≡ Some a.from → captured disc place b.before ≡ Some b.to
         → IsLeft (rule_by Video 0 numbering) place a b }
     ensures out_of_order { (disc : ℕ → Option ℕ) (place : ℕ → ℕ) (numbering : Numbering) (a b : Gap)
-        → DiscCountsBy numbering.clock Video disc → detour_of (rule_by Video 0 numbering) a b ≡ Some inserted
-        → a.after < a.before → a.before ≤ b.after → b.after < b.before
-        → captured disc place a.after ≡ Some a.from → captured disc place b.before ≡ Some b.to
-        → (Rises place → ⊥) }
+        → IsRightDetour disc place numbering a b inserted
+        → a.after < a.before → a.before ≤ b.after → b.after < b.before → Rises place → ⊥ }
     ensures verdict { (judged : Judged) (may_end : Bool) (finding : Finding) (old new : List Gap)
         → IsFinding judged may_end finding old new → (HasNone judged.numbers → ⊥)
         → 0 < finding.tally.inserted → finding.verdict ≡ No }

@@ -48,30 +48,6 @@ fn leads_by(rule: Rule, here: Place, there: Place) -> bool
     leads(rule.pace, by_clock(clock, here), by_clock(clock, there))
 }
 
-/// The one of two that stands earlier.
-fn earlier(rule: Rule, here: Place, there: Place) -> Place
-    ensures { ((result ≡ here) × (leads_by rule here there ≡ true))
-        ⊎ ((result ≡ there) × (leads_by rule there here ≡ true)) }
-{
-    if leads_by(rule, here, there) {
-        here
-    } else {
-        there
-    }
-}
-
-/// The one of two that stands later.
-fn later(rule: Rule, here: Place, there: Place) -> Place
-    ensures { ((result ≡ here) × (leads_by rule there here ≡ true))
-        ⊎ ((result ≡ there) × (leads_by rule here there ≡ true)) }
-{
-    if leads_by(rule, there, here) {
-        here
-    } else {
-        there
-    }
-}
-
 /// The span that begins with a number.
 fn begun(numbers: &[Number], rule: Rule, before: Option<Place>, first: Place) -> Span
     requires before { IsLast numbers.now first.field before }
@@ -95,14 +71,13 @@ fn extended(numbers: &[Number], rule: Rule, span: Span, there: Place) -> Span
     requires on { goes_on rule span.last there ≡ true }
     ensures { IsSpan rule numbers.now (there.field + 1) result }
 {
-    let low = earlier(rule, span.low, there);
-    let high = later(rule, span.high, there);
+    let low_leads = leads_by(rule, span.low, there);
+    let high_trails = leads_by(rule, there, span.high);
     Span {
-        before: span.before,
-        first: span.first,
         last: there,
-        low,
-        high,
+        low: if low_leads { span.low } else { there },
+        high: if high_trails { span.high } else { there },
+        ..span
     }
 }
 
@@ -138,13 +113,7 @@ fn drifts_at(numbers: &[Number], rule: Rule, field: usize, span: Option<Span>) -
     let Some(on) = span else {
         return false;
     };
-    if !rule.goes_on(on.last, there) {
-        return false;
-    }
-    if !rule.goes_on(on.low, there) {
-        return true;
-    }
-    !rule.goes_on(on.high, there)
+    rule.goes_on(on.last, there) && !(rule.goes_on(on.low, there) && rule.goes_on(on.high, there))
 }
 
 /// Whether the numbers of some span don't count to each other.

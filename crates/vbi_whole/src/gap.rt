@@ -174,22 +174,18 @@ fn off_by(pace: Pace, here: Place, there: Place) -> u128
 fn is_open(pace: Pace, numbering: Numbering, here: Place, there: Place) -> bool
     ensures { result ≡ is_open pace numbering here there }
 {
+    let (from, to) = (
+        by_clock(numbering.clock, here),
+        by_clock(numbering.clock, there),
+    );
     match pace {
         Pace::Video => {
-            let few = lacking(
-                pace,
-                by_clock(numbering.clock, here),
-                by_clock(numbering.clock, there),
-            );
+            let few = lacking(pace, from, to);
             // The clock leaves out one number in 1,000, or two at the start of a minute, of two fields each.
             numbering.has_clock() && (few == 2 || few == 4)
         }
         Pace::Film => {
-            let off = off_by(
-                pace,
-                by_clock(numbering.clock, here),
-                by_clock(numbering.clock, there),
-            );
+            let off = off_by(pace, from, to);
             // Where film is cut the turns of two and three fields begin anew, which moves a number by one field.
             let cut = u64::from(here.number) + 1 < u64::from(there.number) && off == 1;
             // A disc of film may have a stretch of video.
@@ -265,12 +261,8 @@ pub(crate) fn between(rule: Rule, amid: Amid, pair: Neighbours) -> Option<Gap>
 pub(crate) fn skipped(clock: Clock, from: u32, to: u32) -> u64
     ensures { result ≡ skipped clock from to }
 {
-    u64::from(
-        clock
-            .kept(to)
-            .saturating_sub(clock.kept(from))
-            .saturating_sub(1),
-    )
+    let numbers = clock.kept(to).saturating_sub(clock.kept(from));
+    u64::from(numbers.saturating_sub(1))
 }
 
 impl Gap {

@@ -15,14 +15,15 @@ ghost use Rattle.std.specs.Prelude.{None, slice_get, map, true, false};
 ghost use Rattle.vbi_whole.specs.Types.{Number, Sightings, Gap, Finding, Pace, Video, Film, Clock, Plain, DropFrame};
 ghost use Rattle.vbi_whole.specs.Gaps.{lost, held, back, still, joined, open_gap, gap_of, gap_made, since_end};
 ghost use Rattle.vbi_whole.specs.Gaps.{ended_between, shown_between, IsGap, AreGaps, CountTo, HasRightEnds};
-ghost use Rattle.vbi_whole.specs.Gaps.{LostAtLeast, HeldAtLeast, to_judge, Judged, rule_by, amid, of_video};
+ghost use Rattle.vbi_whole.specs.Gaps.{LostAtLeast, HeldAtLeast, to_judge, Judged, rule_by, amid, IsOfVideo};
 ghost use Rattle.vbi_whole.specs.Verdicts.{is_end_unseen, too_few, HasNone, IsFinding, found_whole};
 ghost use Rattle.vbi_whole.specs.WorkedSides.{cav, cav_pal, clv, clv_pal, by_pictures, by_times, by_film, unseen};
 ghost use Rattle.vbi_whole.specs.WorkedSides.{after_5, gap_after_5, two_stills, two_pictures, two_answers, worked_side};
 ghost use Rattle.vbi_whole.specs.{Types.OneIn, Types.Numbering, Types.Yes, Types.CannotTell, Detours.detoured};
 ghost use Rattle.vbi_whole.specs.{Told.lost_of, Told.undecided_of, Told.stills_of, Told.last_still, Swaps.stands_off};
 ghost use Rattle.vbi_whole.specs.{Swaps.is_stray, NumbersOnBoth.is_on_both, SaidWhole.IsSaidWhole};
-ghost use Rattle.vbi_whole.specs.{SaidWhole.AreClearEnds, SaidWhole.AreFewLost, Drifts.leads, Drifts.IsDriftTold};
+ghost use Rattle.vbi_whole.specs.SaidWhole.{AreClearEnds, AreFewLost, IsReadGap};
+ghost use Rattle.vbi_whole.specs.{Drifts.leads, Drifts.IsDriftTold};
 ghost use Rattle.vbi_whole.specs.{WorkedSides.worked_answers, WorkedSides.worked_ends};
 ghost use Rattle.vbi_side.specs.Numbers.{IsMarked, AreAnswers, believed, doubtful, nothing};
 ghost use Rattle.vbi_side.specs.Side.{DiscRuns, DiscCounts, Rises, captured, AreLost, NoneLost, IsOneRun};
@@ -45,24 +46,20 @@ pub fn all_told()
 
 /// If each number of video goes on from the one before it, any two count to each other.
 pub fn all_count()
-    ensures { (numbering : Numbering) (seen : List Sightings) (answers : List Number) (ends : List ℕ)
-        (k unread : ℕ) → AreGaps (of_video numbering seen answers ends) k [] unread
-        → (i m j n : ℕ) → IsMarked answers i m → IsMarked answers j n → i ≤ j → j < k
-        → CountTo numbering.clock i m j n }
+    ensures { (judged : Judged) (k unread i m j n : ℕ) → IsOfVideo judged → AreGaps judged k [] unread
+        → IsMarked judged.numbers i m → IsMarked judged.numbers j n → i ≤ j → j < k
+        → CountTo judged.rule.numbering.clock i m j n }
 {}
 
 /// In a gap whose numbers are right as many fields are lost as it says, or too many, if the disc counts on by the
 /// clock: of video just as many are lost, at either pace as many at least. And a gap of video of any kind is one: its
 /// fields aren't one run of the disc.
 pub fn gap_is_so()
-    ensures exact { (disc : ℕ → Option ℕ) (place : ℕ → ℕ) (numbering : Numbering) (seen : List Sightings)
-        (answers : List Number) (ends : List ℕ) (gap : Gap)
-        → DiscCountsBy numbering.clock Video disc → IsGap (of_video numbering seen answers ends) gap
-        → gap.kind ≡ lost
+    ensures exact { (judged : Judged) (disc : ℕ → Option ℕ) (place : ℕ → ℕ) (gap : Gap) → IsOfVideo judged
+        → DiscCountsBy judged.rule.numbering.clock Video disc → IsGap judged gap → gap.kind ≡ lost
         → HasRightEnds (captured disc place) gap → AreLost place gap.after gap.before gap.fields }
-    ensures cut { (disc : ℕ → Option ℕ) (place : ℕ → ℕ) (numbering : Numbering) (seen : List Sightings)
-        (answers : List Number) (ends : List ℕ) (gap : Gap)
-        → DiscCountsBy numbering.clock Video disc → IsGap (of_video numbering seen answers ends) gap
+    ensures cut { (judged : Judged) (disc : ℕ → Option ℕ) (place : ℕ → ℕ) (gap : Gap) → IsOfVideo judged
+        → DiscCountsBy judged.rule.numbering.clock Video disc → IsGap judged gap
         → HasRightEnds (captured disc place) gap
         → place gap.before ≢ place gap.after + (gap.before - gap.after) }
     ensures least { (judged : Judged) (disc : ℕ → Option ℕ) (place : ℕ → ℕ) (gap : Gap)
@@ -76,20 +73,13 @@ pub fn gap_is_so()
 /// Around a gap of video the capture isn't one run of the disc: if less than enough was misread around the numbers at
 /// both of its ends, not every field from 24 before the one to 24 after the other is followed by the disc's next one.
 pub fn cut_found()
-    ensures plain { (disc : ℕ → Option ℕ) (place : ℕ → ℕ) (fields : List Sightings) (numbering : Numbering)
-        (seen : List Sightings) (answers : List Number) (ends : List ℕ) (gap : Gap) → numbering.clock ≡ Plain
-        → DiscRuns Video disc → AreAnswers Video fields answers
-        → IsGap (of_video numbering seen answers ends) gap
-        → wrong_weight (captured disc place) fields gap.after < enough
-        → wrong_weight (captured disc place) fields gap.before < enough
-        → IsOneRun place (gap.after - reach) (gap.before + reach) → ⊥ }
-    ensures by_clock { (disc : ℕ → Option ℕ) (place : ℕ → ℕ) (fields : List Sightings) (numbering : Numbering)
-        (seen : List Sightings) (answers : List Number) (ends : List ℕ) (gap : Gap)
-        → DiscCountsBy numbering.clock Video disc → Rises place → AreAnswers Video fields answers
-        → IsGap (of_video numbering seen answers ends) gap
-        → wrong_weight (captured disc place) fields gap.after < enough
-        → wrong_weight (captured disc place) fields gap.before < enough
-        → IsClear numbering.clock gap.from → IsClear numbering.clock gap.to
+    ensures plain { (disc : ℕ → Option ℕ) (place : ℕ → ℕ) (judged : Judged) (fields : List Sightings) (gap : Gap)
+        → IsOfVideo judged → IsReadGap disc place judged fields gap → judged.rule.numbering.clock ≡ Plain
+        → DiscRuns Video disc → IsOneRun place (gap.after - reach) (gap.before + reach) → ⊥ }
+    ensures by_clock { (disc : ℕ → Option ℕ) (place : ℕ → ℕ) (judged : Judged) (fields : List Sightings) (gap : Gap)
+        → IsOfVideo judged → IsReadGap disc place judged fields gap
+        → DiscCountsBy judged.rule.numbering.clock Video disc → Rises place
+        → IsClear judged.rule.numbering.clock gap.from → IsClear judged.rule.numbering.clock gap.to
         → IsOneRun place (gap.after - reach) (gap.before + reach) → ⊥ }
 {}
 
@@ -98,15 +88,13 @@ pub fn cut_found()
 /// no field of the disc is lost from 24 fields after the first to 24 before the last. Of what was read between the two
 /// nothing is assumed. A disc that leaves out no numbers is the case `plain`.
 pub fn whole_yes()
-    ensures by_clock { (disc : ℕ → Option ℕ) (place : ℕ → ℕ) (numbering : Numbering) (seen fields : List Sightings)
-        (answers : List Number) (ends : List ℕ) (finding : Finding)
-        → IsSaidWhole disc place (of_video numbering seen answers ends) fields finding
-        → DiscCountsBy numbering.clock Video disc → AreClearEnds numbering.clock answers finding
+    ensures by_clock { (disc : ℕ → Option ℕ) (place : ℕ → ℕ) (judged : Judged) (fields : List Sightings)
+        (finding : Finding) → IsOfVideo judged → IsSaidWhole disc place judged fields finding
+        → DiscCountsBy judged.rule.numbering.clock Video disc → AreClearEnds judged finding
         → NoneLost place (finding.first + reach) (finding.last - reach) }
-    ensures plain { (disc : ℕ → Option ℕ) (place : ℕ → ℕ) (numbering : Numbering) (seen fields : List Sightings)
-        (answers : List Number) (ends : List ℕ) (finding : Finding)
-        → IsSaidWhole disc place (of_video numbering seen answers ends) fields finding
-        → numbering.clock ≡ Plain → DiscRuns Video disc
+    ensures plain { (disc : ℕ → Option ℕ) (place : ℕ → ℕ) (judged : Judged) (fields : List Sightings)
+        (finding : Finding) → IsOfVideo judged → IsSaidWhole disc place judged fields finding
+        → judged.rule.numbering.clock ≡ Plain → DiscRuns Video disc
         → NoneLost place (finding.first + reach) (finding.last - reach) }
 {}
 
@@ -114,30 +102,28 @@ pub fn whole_yes()
 /// fields are lost between two fields of which one is within 24 fields of each end, of film at most four. By a clock,
 /// wherever the ends are, at most twice as many as numbers are left out near them.
 pub fn nearly_whole()
-    ensures both { (disc : ℕ → Option ℕ) (place : ℕ → ℕ) (slack : ℕ) (numbering : Numbering)
-        (seen fields : List Sightings) (answers : List Number) (ends : List ℕ) (finding : Finding)
-        → IsSaidWhole disc place (to_judge (rule_by Video slack numbering) seen answers ends) fields finding
-        → slack ≤ 1 → DiscNearlyBy numbering.clock slack disc → AreClearEnds numbering.clock answers finding
-        → AreFewLost place finding (2 * slack) }
-    ensures film { (disc : ℕ → Option ℕ) (place : ℕ → ℕ) (slack : ℕ) (numbering : Numbering)
-        (seen fields : List Sightings) (answers : List Number) (ends : List ℕ) (finding : Finding)
-        → IsSaidWhole disc place (to_judge (rule_by Film slack numbering) seen answers ends) fields finding
-        → DiscCountsBy numbering.clock Film disc → AreClearEnds numbering.clock answers finding
+    ensures both { (disc : ℕ → Option ℕ) (place : ℕ → ℕ) (judged : Judged) (fields : List Sightings)
+        (finding : Finding) → judged.rule.pace ≡ Video → judged.rule.slack ≤ 1
+        → IsSaidWhole disc place judged fields finding
+        → DiscNearlyBy judged.rule.numbering.clock judged.rule.slack disc → AreClearEnds judged finding
+        → AreFewLost place finding (2 * judged.rule.slack) }
+    ensures film { (disc : ℕ → Option ℕ) (place : ℕ → ℕ) (judged : Judged) (fields : List Sightings)
+        (finding : Finding) → judged.rule.pace ≡ Film → IsSaidWhole disc place judged fields finding
+        → DiscCountsBy judged.rule.numbering.clock Film disc → AreClearEnds judged finding
         → AreFewLost place finding 4 }
-    ensures anywhere { (disc : ℕ → Option ℕ) (place : ℕ → ℕ) (numbering : Numbering) (seen fields : List Sightings)
-        (answers : List Number) (ends : List ℕ) (finding : Finding)
-        → IsSaidWhole disc place (of_video numbering seen answers ends) fields finding
-        → DiscCountsBy numbering.clock Video disc
-        → (m n : ℕ) × IsMarked answers finding.first m × IsMarked answers finding.last n
-        × AreFewLost place finding (2 * (out_near numbering.clock m + out_near numbering.clock n)) }
-    ensures both_plain { (disc : ℕ → Option ℕ) (place : ℕ → ℕ) (slack : ℕ) (numbering : Numbering)
-        (seen fields : List Sightings) (answers : List Number) (ends : List ℕ) (finding : Finding)
-        → IsSaidWhole disc place (to_judge (rule_by Video slack numbering) seen answers ends) fields finding
-        → slack ≤ 1 → numbering.clock ≡ Plain → DiscCounts slack disc → AreFewLost place finding (2 * slack) }
-    ensures film_plain { (disc : ℕ → Option ℕ) (place : ℕ → ℕ) (slack : ℕ) (numbering : Numbering)
-        (seen fields : List Sightings) (answers : List Number) (ends : List ℕ) (finding : Finding)
-        → IsSaidWhole disc place (to_judge (rule_by Film slack numbering) seen answers ends) fields finding
-        → numbering.clock ≡ Plain → DiscRuns Film disc → AreFewLost place finding 4 }
+    ensures anywhere { (disc : ℕ → Option ℕ) (place : ℕ → ℕ) (judged : Judged) (fields : List Sightings)
+        (finding : Finding) → IsOfVideo judged → IsSaidWhole disc place judged fields finding
+        → DiscCountsBy judged.rule.numbering.clock Video disc
+        → (m n : ℕ) × IsMarked judged.numbers finding.first m × IsMarked judged.numbers finding.last n
+        × AreFewLost place finding (2 * (out_near judged.rule.numbering.clock m
+        + out_near judged.rule.numbering.clock n)) }
+    ensures both_plain { (disc : ℕ → Option ℕ) (place : ℕ → ℕ) (judged : Judged) (fields : List Sightings)
+        (finding : Finding) → judged.rule.pace ≡ Video → judged.rule.slack ≤ 1
+        → IsSaidWhole disc place judged fields finding → judged.rule.numbering.clock ≡ Plain
+        → DiscCounts judged.rule.slack disc → AreFewLost place finding (2 * judged.rule.slack) }
+    ensures film_plain { (disc : ℕ → Option ℕ) (place : ℕ → ℕ) (judged : Judged) (fields : List Sightings)
+        (finding : Finding) → judged.rule.pace ≡ Film → IsSaidWhole disc place judged fields finding
+        → judged.rule.numbering.clock ≡ Plain → DiscRuns Film disc → AreFewLost place finding 4 }
 {}
 
 /// If fields are said to be lost, the numbers at the ends of the gaps that are told to be such are right, and the

@@ -53,7 +53,7 @@ impl Telling {
     {
         Telling {
             last: None,
-            tally: Tally::none(),
+            tally: Tally::default(),
         }
     }
 

@@ -2,6 +2,7 @@
 
 ghost use Rattle.std.specs.Prelude.{◌≡◌, suc, ◌+◌, ◌<◌, ◌≤◌, ◌^◌, ◌&&◌, if◌then◌else◌, length, Some, IfSome};
 ghost use Rattle.vbi_whole.specs.NumbersOnBoth.{place_or, last_known, is_turn, is_odd, turns, odd_turns, is_on_both};
+ghost use Rattle.vbi_whole.specs.{NumbersOnBoth.AreSteps};
 
 use vbi_side::{Number, Place};
 
@@ -75,18 +76,8 @@ struct Steps {
 /// The steps before the field after this one.
 fn steps_after(numbers: &[Number], field: usize, before: Steps) -> Steps
     requires inside { field < length numbers.now }
-    requires last { before.last ≡ last_known numbers.now field }
-    requires earlier { IfSome before.last (λ place. place.field < field) }
-    requires all { before.all ≡ turns numbers.now field }
-    requires odd { before.odd ≡ odd_turns numbers.now field }
-    requires few { before.all ≤ field }
-    requires fewer { before.odd ≤ field }
-    ensures last { result.last ≡ last_known numbers.now (field + 1) }
-    ensures earlier { IfSome result.last (λ place. place.field < field + 1) }
-    ensures all { result.all ≡ turns numbers.now (field + 1) }
-    ensures odd { result.odd ≡ odd_turns numbers.now (field + 1) }
-    ensures few { result.all ≤ field + 1 }
-    ensures fewer { result.odd ≤ field + 1 }
+    requires before { AreSteps numbers.now field before }
+    ensures { AreSteps numbers.now (field + 1) result }
 {
     let answer = numbers[field];
     Steps {

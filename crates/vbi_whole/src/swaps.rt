@@ -6,12 +6,11 @@
 //! off.
 
 ghost use Rattle.std.specs.Prelude.{◌≡◌, ℕ, ◌+◌, ◌*◌, ◌<◌, ◌≤◌, ◌^◌, true, length, IfSome, Some, None, slice_get};
-ghost use Rattle.vbi_whole.specs.Swaps.{stands_off, is_believed_as, is_beside, shows_off, is_stray, IsSwap};
-ghost use Rattle.vbi_whole.specs.{Gaps.IsLast, Swaps.IsFirstStray};
+ghost use Rattle.vbi_whole.specs.Swaps.{stands_off, is_believed_as, is_beside, shows_off, is_stray, IsSwapIn, IsSearch};
+ghost use Rattle.vbi_whole.specs.{Gaps.judged_in};
 
-use vbi_side::{
-    Clock, Number, Pace, Place, Sighting, Sightings, believed_at, by_clock, goes_on_by,
-};
+use crate::side::Side;
+use vbi_side::{Number, Pace, Place, Sighting, believed_at, by_clock, goes_on_by};
 
 /// Whether a number stands one field before or after the place that another one leaves for it.
 fn stands_off(here: Place, there: Place) -> bool
@@ -42,33 +41,26 @@ fn is_beside(numbers: &[Number], field: usize, number: u32) -> bool
 }
 
 /// Whether a line shows a number that stands a field off the one before, and isn't that of a field beside it.
-fn shows_off(
-    numbers: &[Number],
-    clock: Clock,
-    here: Place,
-    field: usize,
-    sighting: &Sighting,
-) -> bool
+fn shows_off(side: &Side, here: Place, field: usize, sighting: &Sighting) -> bool
     requires field { field < 2 ^ 60 }
-    ensures { result ≡ shows_off clock numbers.now here field sighting.now }
+    ensures { result ≡ shows_off side.now.rule.numbering.clock side.now.numbers.now here field sighting.now }
 {
+    let clock = side.rule.numbering.clock;
     let number = sighting.number;
+    let there = Place { field, number };
     sighting.weight > 0
-        && stands_off(
-            by_clock(clock, here),
-            by_clock(clock, Place { field, number }),
-        )
-        && !is_beside(numbers, field, number)
+        && stands_off(by_clock(clock, here), by_clock(clock, there))
+        && !is_beside(side.numbers, field, number)
 }
 
 /// Whether one of a field's lines shows a number that stands a field off.
-fn is_stray(seen: &[Sightings], numbers: &[Number], clock: Clock, here: Place, field: usize) -> bool
-    requires inside { field < length seen.now }
-    ensures { result ≡ is_stray clock numbers.now here field (slice_get seen.now field) }
+fn is_stray(side: &Side, here: Place, field: usize) -> bool
+    requires inside { field < length side.now.seen.now }
+    ensures { result ≡ is_stray side.now.rule.numbering.clock side.now.numbers.now here field
+        (slice_get side.now.seen.now field) }
 {
-    let shown = &seen[field];
-    shows_off(numbers, clock, here, field, &shown.line_17)
-        || shows_off(numbers, clock, here, field, &shown.line_18)
+    let shown = &side.seen[field];
+    shows_off(side, here, field, &shown.line_17) || shows_off(side, here, field, &shown.line_18)
 }
 
 /// What the search knows of the fields before the next one.
@@ -80,80 +72,41 @@ struct Search {
     stray: Option<usize>,
 }
 
-/// The first field that stands off, of those before the next one.
-fn stray_with(
-    seen: &[Sightings],
-    numbers: &[Number],
-    clock: Clock,
-    field: usize,
-    search: Search,
-) -> Option<usize>
-    requires inside { field < length seen.now }
-    requires near { IfSome search.last (λ place. place.field < field) }
-    requires strays { IsFirstStray clock seen.now numbers.now field search }
-    ensures { IsFirstStray clock seen.now numbers.now (field + 1) (record search { stray = result }) }
-{
-    let Some(here) = search.last else {
-        return None;
-    };
-    if search.stray.is_none() && is_stray(seen, numbers, clock, here, field) {
-        Some(field)
-    } else {
-        search.stray
-    }
-}
-
 /// What the search knows of the fields before the one after this.
-fn search_after(
-    seen: &[Sightings],
-    numbers: &[Number],
-    clock: Clock,
-    field: usize,
-    search: Search,
-) -> Search
-    requires same { length seen.now ≡ length numbers.now }
-    requires inside { field < length numbers.now }
-    requires last { IsLast numbers.now field search.last }
-    requires strays { IsFirstStray clock seen.now numbers.now field search }
-    ensures last { IsLast numbers.now (field + 1) result.last }
-    ensures strays { IsFirstStray clock seen.now numbers.now (field + 1) result }
+fn search_after(side: &Side, field: usize, search: Search) -> Search
+    requires inside { field < length side.now.numbers.now }
+    requires search { IsSearch (judged_in side.now) field search }
+    ensures { IsSearch (judged_in side.now) (field + 1) result }
 {
-    match believed_at(numbers, field) {
-        Some(there) => Search {
+    match (believed_at(side.numbers, field), search.last) {
+        (Some(there), _) => Search {
             last: Some(there),
             stray: None,
         },
-        None => Search {
-            last: search.last,
-            stray: stray_with(seen, numbers, clock, field, search),
+        (None, Some(here)) if search.stray.is_none() && is_stray(side, here, field) => Search {
+            stray: Some(field),
+            ..search
         },
+        _ => search,
     }
 }
 
 /// The first field that stands off between the last number and the one of this field, if these go on.
-fn swap_before(
-    seen: &[Sightings],
-    numbers: &[Number],
-    clock: Clock,
-    field: usize,
-    search: Search,
-) -> Option<usize>
-    requires same { length seen.now ≡ length numbers.now }
-    requires inside { field < length numbers.now }
-    requires last { IsLast numbers.now field search.last }
-    requires strays { IsFirstStray clock seen.now numbers.now field search }
-    ensures some { IfSome result (λ k. IsSwap clock seen.now numbers.now k) }
-    ensures first { IfSome result (λ k. (j : ℕ) → j < k → (swap : IsSwap clock seen.now numbers.now j)
+fn swap_before(side: &Side, field: usize, search: Search) -> Option<usize>
+    requires inside { field < length side.now.numbers.now }
+    requires search { IsSearch (judged_in side.now) field search }
+    ensures some { IfSome result (λ k. IsSwapIn (judged_in side.now) k) }
+    ensures first { IfSome result (λ k. (j : ℕ) → j < k → (swap : IsSwapIn (judged_in side.now) j)
         → field ≤ swap.j → ⊥) }
-    ensures none { result ≡ None → (k : ℕ) → (swap : IsSwap clock seen.now numbers.now k) → swap.j ≡ field → ⊥ }
+    ensures none { result ≡ None → (k : ℕ) → (swap : IsSwapIn (judged_in side.now) k) → swap.j ≡ field → ⊥ }
 {
     let Some(here) = search.last else {
         return None;
     };
-    let Some(there) = believed_at(numbers, field) else {
+    let Some(there) = believed_at(side.numbers, field) else {
         return None;
     };
-    if goes_on_by(clock, Pace::Video, 0, here, there) {
+    if goes_on_by(side.rule.numbering.clock, Pace::Video, 0, here, there) {
         search.stray
     } else {
         None
@@ -161,22 +114,21 @@ fn swap_before(
 }
 
 /// The first field that was swapped with one beside it, counted from 0, as the numbers around it show.
-pub(crate) fn first_swap(seen: &[Sightings], numbers: &[Number], clock: Clock) -> Option<usize>
-    requires { length seen.now ≡ length numbers.now }
-    ensures some { IfSome result (λ field. IsSwap clock seen.now numbers.now field) }
-    ensures first { IfSome result (λ field. (k : ℕ) → k < field → IsSwap clock seen.now numbers.now k → ⊥) }
-    ensures none { result ≡ None → (k : ℕ) → IsSwap clock seen.now numbers.now k → ⊥ }
+pub(crate) fn first_swap(side: &Side) -> Option<usize>
+    ensures some { IfSome result (λ field. IsSwapIn (judged_in side.now) field) }
+    ensures first { IfSome result (λ field. (k : ℕ) → k < field → IsSwapIn (judged_in side.now) k → ⊥) }
+    ensures none { result ≡ None → (k : ℕ) → IsSwapIn (judged_in side.now) k → ⊥ }
 {
     let mut search = Search {
         last: None,
         stray: None,
     };
-    for field in 0..numbers.len() {
-        let found = swap_before(seen, numbers, clock, field, search);
+    for field in 0..side.numbers.len() {
+        let found = swap_before(side, field, search);
         if found.is_some() {
             return found;
         }
-        search = search_after(seen, numbers, clock, field, search);
+        search = search_after(side, field, search);
     }
     None
 }

@@ -11,8 +11,8 @@ use crate::gap::{BACK, Gap, HELD, INSERTED, JOINED, LOST, OPEN, REPLACED, STILL}
 use std::mem::size_of;
 use vbi_side::Clock;
 
-/// What the gaps of a capture come to.
-#[derive(Clone, Copy)]
+/// What the gaps of a capture come to: by default, as of no gap, nothing.
+#[derive(Clone, Copy, Default)]
 #[repr(C)]
 pub struct Tally {
     /// How many gaps there are.
@@ -47,27 +47,6 @@ pub struct Tally {
 const _: () = prove!(size_of::<Tally>() == 104);
 
 impl Tally {
-    /// What no gap comes to.
-    pub(crate) fn none() -> Tally
-        ensures { (clock : Clock) → result ≡ tally_of clock [] 0 }
-    {
-        Tally {
-            gaps: 0,
-            lost: 0,
-            held: 0,
-            stood: 0,
-            stills: 0,
-            still_end: 0,
-            back: 0,
-            joined: 0,
-            open_gaps: 0,
-            lost_numbers: 0,
-            undecided: 0,
-            unread: 0,
-            inserted: 0,
-        }
-    }
-
     /// The field after the last still, with one gap more.
     fn still_end_of(&self, gap: Gap) -> usize
         requires { gap.before < 2 ^ 60 }

@@ -215,8 +215,8 @@ fn padded_in(ends: &[u32]) -> usize
     ends.iter().filter(|end| **end == PADDING).count()
 }
 
-/// A field that was swapped, or 0, and whether there is one.
-#[derive(Clone, Copy)]
+/// A field that was swapped, or 0, and whether there is one: by default there is none.
+#[derive(Clone, Copy, Default)]
 struct Swap {
     field: usize,
     is_seen: bool,
@@ -281,22 +281,14 @@ fn swap_by(side: &Side) -> Swap
 {
     match side.rule.pace {
         Pace::Video if side.rule.slack == 0 => {}
-        _ => {
-            return Swap {
-                field: 0,
-                is_seen: false,
-            };
-        }
+        _ => return Swap::default(),
     }
-    match first_swap(side.seen, side.numbers, side.rule.numbering.clock) {
+    match first_swap(side) {
         Some(field) => Swap {
             field,
             is_seen: true,
         },
-        None => Swap {
-            field: 0,
-            is_seen: false,
-        },
+        None => Swap::default(),
     }
 }
 

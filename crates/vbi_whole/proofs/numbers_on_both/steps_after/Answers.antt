@@ -1,4 +1,4 @@
-use Rattle.std.proofs.Common.{◌≡◌, ◌∙◌, ℕ, suc, Bool, List, ap, get_or}
+use Rattle.std.proofs.Common.{◌≡◌, ◌∙◌, ℕ, suc, Bool, List, ap, arith, get_or}
 use Rattle.std.specs.Prelude.{Option, Some, ◌&&◌, if◌then◌else◌}
 use Rattle.vbi_whole.specs.Types.{Number}
 use Rattle.vbi_side.specs.Numbers.{nothing}
@@ -14,20 +14,20 @@ counted b c m n same is = ap (λ x. if x then suc m else m) same ∙ ap (λ x. i
 abbrev answer : List Number → ℕ → Option Number
 answer answers k = Some (get_or answers k nothing)
 
-pub returns-clause-last : goal.returns-clause-last
-returns-clause-last c =
-    c.place_or.ensures.value
-    ∙ ap (λ o. place_or o c.args.field (answer c.args.numbers.now c.args.field)) c.requires.last
-    ∙ last_more c.args.numbers.now c.args.field c.requires.inside
-
-pub returns-clause-all : goal.returns-clause-all
-returns-clause-all c =
-    c.counted.ensures.value ∙ counted _ _ _ _ (c.is_turn.ensures
-    ∙ ap (λ o. is_turn o (answer c.args.numbers.now c.args.field)) c.requires.last) c.requires.all
-    ∙ turns_more c.args.numbers.now c.args.field c.requires.inside
-
-pub returns-clause-odd : goal.returns-clause-odd
-returns-clause-odd c =
-    c.counted-2.ensures.value ∙ counted _ _ _ _ (c.is_odd_turn.ensures
-    ∙ ap (λ o. is_turn o (answer c.args.numbers.now c.args.field) && is_odd o c.args.field) c.requires.last)
-    c.requires.odd ∙ odd_more c.args.numbers.now c.args.field c.requires.inside
+pub returns : goal.returns
+returns c =
+    let before = c.requires.before in
+    let answers = c.args.numbers.now in
+    let k = c.args.field in
+    record {
+      last = c.place_or.ensures.value ∙ ap (λ o. place_or o k (answer answers k)) before.last
+          ∙ last_more answers k c.requires.inside;
+      earlier = c.place_or.ensures.earlier;
+      all = c.counted.ensures.value ∙ counted _ _ _ _ (c.is_turn.ensures
+          ∙ ap (λ o. is_turn o (answer answers k)) before.last) before.all ∙ turns_more answers k c.requires.inside;
+      odd = c.counted-2.ensures.value ∙ counted _ _ _ _ (c.is_odd_turn.ensures
+          ∙ ap (λ o. is_turn o (answer answers k) && is_odd o k) before.last) before.odd
+          ∙ odd_more answers k c.requires.inside;
+      few = omega (arith, c.counted.ensures.few, before.few);
+      fewer = omega (arith, c.counted-2.ensures.few, before.fewer);
+    }

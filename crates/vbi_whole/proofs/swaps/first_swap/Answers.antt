@@ -25,8 +25,7 @@ none_before clock seen answers field (Some f) none first = λ k less swap. elim 
 
 pub loop-field-preserved : goal.loop-field-preserved
 loop-field-preserved c = record {
-  last = c.search_after-search.ensures.last;
-  strays = c.search_after-search.ensures.strays;
+  search = c.search_after-search.ensures;
   none = λ k swap less. elim (eqb_tells swap.j c.loop-field.field) [
     | inl (t, same) ↦ c.swap_before-found.ensures.none
         (is_none c.swap_before-found.result (sym c.is_some.ensures ∙ c.if-is_some.false)) k swap same
@@ -36,11 +35,12 @@ loop-field-preserved c = record {
 
 pub returns-then-is_some-clause-first : goal.returns-then-is_some-clause-first
 returns-then-is_some-clause-first c =
-    none_before c.args.clock c.args.seen.now c.args.numbers.now c.loop-field.field c.swap_before-found.result
+    none_before c.args.side.now.rule.numbering.clock c.args.side.now.seen.now c.args.side.now.numbers.now
+    c.loop-field.field c.swap_before-found.result
     c.loop-field.invariant.none c.swap_before-found.ensures.first
 
 pub returns-clause-none : goal.returns-clause-none
 returns-clause-none c = λ e k swap. c.loop-field.invariant.none k swap (omega (
   arith,
-  slice_get_within c.args.numbers.now swap.j (believed swap.n) swap.neighbours.there,
+  slice_get_within c.args.side.now.numbers.now swap.j (believed swap.n) swap.neighbours.there,
 ))
