@@ -15,7 +15,7 @@ use Rattle.vbi_near.specs.declared.word_rule.Stand.TheVariants.{Alone, Apart, To
 use Rattle.vbi_near.specs.WordRule.{said_if, unless_beyond, recovered_by, said_in}
 use Rattle.vbi_near.specs.Candidates.{Candidates, Line}
 use Rattle.vbi_near.specs.Recovery.{Seen, IsSeen, Stands, alone, own_of, is_open, is_confirmed, stands_of, said_by}
-use Rattle.vbi_near.specs.Recovery.{stays, recovered_as, shown_in, IsRecovered}
+use Rattle.vbi_near.specs.Recovery.{reading_stays, recovered_as, shown_in, IsRecovered}
 use Rattle.vbi_near.specs.{declared.recovery.Recovered.Recovered, declared.margins.Margins.Margins}
 use Rattle.vbi_near.specs.{declared.margins.MarginSet.MarginSet, declared.word_rule.Stand.Stand}
 
@@ -78,7 +78,7 @@ own-few line seen unit is =
     let few : seen.reading.pass ≤ 2 =
     subst (λ (r : Reading). r.pass ≤ 2) (sym is.reading)
     (read-few line.system levels _ _ (is_reading line.system levels)) in
-    either-few (stays seen.reading.outcome seen.reading.pass (is_confirmed unit seen.near seen.stretched))
+    either-few (reading_stays seen.reading.outcome seen.reading.pass (is_confirmed unit seen.near seen.stretched))
     (record { outcome = seen.reading.outcome; pass = seen.reading.pass })
     (record { outcome = seen.plain; pass = 0 }) few (omega arith)
 

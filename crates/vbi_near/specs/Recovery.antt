@@ -49,15 +49,15 @@ is_confirmed unit near stretched word =
     is_said word (said_alone unit near) || is_stretched unit stretched word near.given.word
 
 -- what a reading shows stays, but for a word of pass 2 that isn't confirmed
-abbrev pub stays : Outcome → ℕ → (ℕ → Bool) → Bool
-stays (Word word) pass confirms = not (pass == 2) || confirms word
-stays outcome pass confirms = true
+abbrev pub reading_stays : Outcome → ℕ → (ℕ → Bool) → Bool
+reading_stays (Word word) pass confirms = not (pass == 2) || confirms word
+reading_stays outcome pass confirms = true
 
 -- what the line is taken to show by its own levels: without its word of pass 2 it shows none, and the cause is that of
 -- its levels
 abbrev pub own_by : Outcome → Outcome → ℕ → (ℕ → Bool) → Recovered
 own_by plain outcome pass confirms =
-    if stays outcome pass confirms
+    if reading_stays outcome pass confirms
     then record { outcome = outcome; pass = pass }
     else record { outcome = plain; pass = 0 }
 

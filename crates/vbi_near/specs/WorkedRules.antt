@@ -203,15 +203,15 @@ abbrev pub SayUntil : Margins → ℕ → (ℕ → Nears) → ℕ → ℕ → �
 SayUntil margins lines near word last next =
     map (λ n. said_of 100 margins lines (near n)) (last ∷ next ∷ []) ≡ Some word ∷ None ∷ []
 
--- by these margins this many lines say a code, and a word that is none, ten columns ahead of any other, if they are this
--- far from the row of no word, and say none if they are farther
+-- by these margins this many lines say a code, and a word that is none, ten columns ahead of any other, if they are
+-- this far from the row of no word, and say none if they are farther
 abbrev pub SharesUntil : Margins → ℕ → ℕ → ℕ → Type 0
 SharesUntil margins lines code other =
     SayUntil margins lines code_ten_ahead 0xF12345 code (code + 1)
     × SayUntil margins lines other_ten_ahead 0xF1234A other (other + 1)
 
--- by these margins one line says a code that is so far ahead of any other, and a word that is none, however far the line
--- is from the row of no word
+-- by these margins one line says a code that is so far ahead of any other, and a word that is none, however far the
+-- line is from the row of no word
 abbrev pub HasNoShare : Margins → ℕ → ℕ → Type 0
 HasNoShare margins code other =
     (said_of 100 margins 1 (far_from_none (code_ahead code)) ≡ Some 0xF12345)

@@ -2,8 +2,8 @@
 //! isn't. A function here does nothing: its contract holds the numbers of margins.rt.
 
 ghost use Rattle.vbi_near.specs.Margins.{levelled_margins, given_margins};
-ghost use Rattle.vbi_near.specs.WorkedRules.{code_ahead, close_code_ahead, other_ahead, SayUntil, SharesUntil, EndsFrom};
-ghost use Rattle.vbi_near.specs.WorkedRules.{HasNoShare};
+ghost use Rattle.vbi_near.specs.WorkedRules.{code_ahead, close_code_ahead, other_ahead, SayUntil, SharesUntil};
+ghost use Rattle.vbi_near.specs.WorkedRules.{HasNoShare, EndsFrom};
 
 /// One levelled line.
 pub fn worked_lone()
