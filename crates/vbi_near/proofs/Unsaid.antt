@@ -211,8 +211,8 @@ pub lead_unsaid : (sums : Sums) (line limit : ℕ) (lead : Found) (code : Near) 
     → IsLeadWithin sums line limit (starts sums.system) lead → IsCodeChosen lead 0 0 code
     → may_say unit columns limit code ≡ false → IsUnsaid sums line unit columns limit
 lead_unsaid sums line limit lead code unit columns is chosen not slicing lines costs near row are =
-    unsaid unit columns limit near code (stands_for sums line limit lead is slicing lines costs near row are code chosen)
-    not
+    let stands = stands_for sums line limit lead is slicing lines costs near row are code chosen in
+    unsaid unit columns limit near code stands not
 
 module _ (lines : Lines) (margins : Margins) (count : ℕ) (word : Nearest)
     (has : HasWord lines.system lines.slicing lines.samples word) (near : Nears) (is : HasNear lines near) where
