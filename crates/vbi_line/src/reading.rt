@@ -62,19 +62,9 @@ pub fn read_bytes_twice(bytes: &[u8], system: System, slicing: Levels) -> Readin
 
 /// The reading of a line's levels. Columns in it are counted from 0. The smoothed levels are read only if the levels
 /// show no word and one of them is high.
-#[tactic(auto, using(crate::proofs::OneReading::only_reading))]
 pub fn read_packed_twice(packed: &Packed, system: System) -> Reading
     requires { length packed.now ≡ width_of system }
     ensures { result ≡ reading_of system packed.now }
-{
-    read_both(packed, system)
-}
-
-/// The reading, from the outcome of the levels and the word of the smoothed ones.
-#[tactic(auto, using(crate::proofs::OneReading::blank_is_read))]
-fn read_both(packed: &Packed, system: System) -> Reading
-    requires { length packed.now ≡ width_of system }
-    ensures { IsReading system packed.now result }
 {
     let plain = find_outcome(packed, system);
     let (outcome, pass) = match plain {
@@ -107,18 +97,10 @@ fn smoothed_word(packed: &Packed, system: System) -> Option<Word24>
         // The smoothed level of a column is that of the latest four equal ones. So a run of up to three has the level
         // of what was before, and so do the first three of a longer one.
         if count < 4 {
-            match decoder.read_run(system, settled, count) {
-                Ok(next) => decoder = next,
-                Err(_) => return None,
-            }
+            decoder = decoder.read_run(system, settled, count).ok()?;
         } else {
-            match decoder.read_run(system, settled, 3) {
-                Ok(begun) => match begun.read_run(system, level, count - 3) {
-                    Ok(next) => decoder = next,
-                    Err(_) => return None,
-                },
-                Err(_) => return None,
-            }
+            let begun = decoder.read_run(system, settled, 3).ok()?;
+            decoder = begun.read_run(system, level, count - 3).ok()?;
             settled = level;
         }
         column += count;

@@ -4,12 +4,13 @@ use Rattle.std.proofs.Common.{◌≡◌, ℕ, ◌+◌, ◌≤◌, ◌⊎◌, inl
 use Rattle.std.specs.Prelude.{Option, Some, None, is_some, ◌&&◌, ◌*◌, if◌then◌else◌}
 use Rattle.std.proofs.lemmas.Bool.{leb-true}
 use Rattle.std.proofs.Math.Nat.{mul-le-mul_right}
+use Rattle.std.specs.Option.{option_or}
 use Rattle.vbi_near.proofs.Common.{Word, Near, Nears, IsPlace, unit_of, codes_of, IsCodePlace, is_beyond_79999}
 use Rattle.vbi_near.proofs.Common.{IsNearestBy, far_from}
 use Rattle.vbi_near.proofs.{Chosen.code-place, Asked.both-hold, OneSeen.open_asked, NeverBeyond.own-few}
 use Rattle.vbi_words.specs.Outcomes.{word_of}
 use Rattle.vbi_near.specs.declared.word_rule.Stand.TheVariants.{Alone, Apart, Together}
-use Rattle.vbi_near.specs.WordRule.{said_of, unless_beyond, recovered_by, first_said, said_in, is_ahead, is_clear}
+use Rattle.vbi_near.specs.WordRule.{said_of, unless_beyond, recovered_by, said_in, is_ahead, is_clear}
 use Rattle.vbi_near.specs.WordRule.{word_in, code_in, is_close}
 use Rattle.vbi_near.specs.Candidates.{HasNear, HasNearIf, Candidates, Row, Line, Lines, AreOf, AreOfBoth, has_swing}
 use Rattle.vbi_near.specs.Candidates.{are_alike, given_line, levelled_line, given_pair, levelled_pair}
@@ -135,7 +136,7 @@ recovered-ahead lines can margins count (Some near) least word few less (can_be,
 -- ---- what a line says
 
 -- one of two says what the first that says a word does
-first-of : (a b : Option ℕ) (word : ℕ) → first_said a b ≡ Some word → (a ≡ Some word) ⊎ (b ≡ Some word)
+first-of : (a b : Option ℕ) (word : ℕ) → option_or a b ≡ Some word → (a ≡ Some word) ⊎ (b ≡ Some word)
 first-of None b word e = inr e
 first-of (Some w) b word e = inl e
 

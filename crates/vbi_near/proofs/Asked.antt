@@ -2,9 +2,10 @@
 -- The functions of line_rule, pair_rule and recovery stand on it.
 use Rattle.std.proofs.Common.{arith, ◌≡◌, ℕ, Bool, true, false, List, refl, sym, ap, ◌∙◌, subst}
 use Rattle.std.specs.Prelude.{Option, Some, None, is_some, IsTrue, ◌&&◌, if◌then◌else◌}
+use Rattle.std.specs.Option.{option_or}
 use Rattle.vbi_near.proofs.Common.{Slicing, samples_of, Nears, unit_of, known_but}
 use Rattle.vbi_near.proofs.OneSeen.{one_nears, open_asked}
-use Rattle.vbi_near.specs.WordRule.{said_of, said_if, said_in, stand_of, first_said}
+use Rattle.vbi_near.specs.WordRule.{said_of, said_if, said_in, stand_of}
 use Rattle.vbi_near.specs.LevelledLines.{levelled, is_swing}
 use Rattle.vbi_near.specs.Candidates.{Candidates, Line, Lines, HasNear, HasNearIf, AreOf, has_swing, filled_samples}
 use Rattle.vbi_near.specs.Candidates.{levelled_samples, are_alike_by}
@@ -17,12 +18,12 @@ use Rattle.vbi_near.specs.{declared.word_rule.PairNears.PairNears, declared.reco
 -- ---- what is found first
 
 -- the first says a word, and then it is that of both
-pub first-says : (a b : Option ℕ) → is_some a ≡ true → a ≡ first_said a b
+pub first-says : (a b : Option ℕ) → is_some a ≡ true → a ≡ option_or a b
 first-says None b some = cc
 first-says (Some w) b some = refl
 
 -- the first says none, and then that of both is the other's
-pub other-says : (a b : Option ℕ) → is_some a ≡ false → b ≡ first_said a b
+pub other-says : (a b : Option ℕ) → is_some a ≡ false → b ≡ option_or a b
 other-says None b none = refl
 other-says (Some w) b none = cc
 

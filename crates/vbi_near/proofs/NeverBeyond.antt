@@ -5,16 +5,17 @@ use Rattle.std.specs.Prelude.{if◌then◌else◌}
 use Rattle.std.proofs.Common.{subst, arith}
 use Rattle.std.specs.{Prelude.Option, Prelude.Some, Prelude.None, List.All}
 use Rattle.std.proofs.lemmas.Bool.{true≢false}
+use Rattle.std.specs.Option.{option_or}
 use Rattle.vbi_near.proofs.Common.{System, Outcome, Word, Blank, Unfinished, Change, Hold, Reading, IsBetween, Slicing}
 use Rattle.vbi_near.proofs.Common.{row_levels, Nears, is_beyond_79999, unit_of}
 use Rattle.vbi_near.proofs.Digits.{digits-beyond}
 use Rattle.vbi_words.specs.{Outcomes.word_of, Readings.Reads}
 use Rattle.vbi_line.proofs.OneReading.{is_reading}
 use Rattle.vbi_near.specs.declared.word_rule.Stand.TheVariants.{Alone, Apart, Together}
-use Rattle.vbi_near.specs.WordRule.{said_if, unless_beyond, recovered_by, first_said, said_in}
+use Rattle.vbi_near.specs.WordRule.{said_if, unless_beyond, recovered_by, said_in}
 use Rattle.vbi_near.specs.Candidates.{Candidates, Line}
 use Rattle.vbi_near.specs.Recovery.{Seen, IsSeen, Stands, alone, own_of, is_open, is_confirmed, stands_of, said_by}
-use Rattle.vbi_near.specs.Recovery.{stays, recovered_as, shown_in, IsRecovered}
+use Rattle.vbi_near.specs.Recovery.{reading_stays, recovered_as, shown_in, IsRecovered}
 use Rattle.vbi_near.specs.{declared.recovery.Recovered.Recovered, declared.margins.Margins.Margins}
 use Rattle.vbi_near.specs.{declared.margins.MarginSet.MarginSet, declared.word_rule.Stand.Stand}
 
@@ -40,7 +41,7 @@ recovered-within : (unit : ℕ) (margins : Margins) (lines : ℕ) (near : Option
 recovered-within unit margins lines near = unless-within (said_if unit margins lines near)
 
 -- what one of two says is none of them if both say none
-first-within : (a b : Option ℕ) → IsWithin a → IsWithin b → IsWithin (first_said a b)
+first-within : (a b : Option ℕ) → IsWithin a → IsWithin b → IsWithin (option_or a b)
 first-within None b is are = are
 first-within (Some w) b is are = is
 
@@ -77,7 +78,7 @@ own-few line seen unit is =
     let few : seen.reading.pass ≤ 2 =
     subst (λ (r : Reading). r.pass ≤ 2) (sym is.reading)
     (read-few line.system levels _ _ (is_reading line.system levels)) in
-    either-few (stays seen.reading.outcome seen.reading.pass (is_confirmed unit seen.near seen.stretched))
+    either-few (reading_stays seen.reading.outcome seen.reading.pass (is_confirmed unit seen.near seen.stretched))
     (record { outcome = seen.reading.outcome; pass = seen.reading.pass })
     (record { outcome = seen.plain; pass = 0 }) few (omega arith)
 
@@ -133,7 +134,7 @@ field-within system slicing rows erased recovered (first, second, third, both, s
 
 -- lines that are asked levelled, then as they are, say none of them
 pub two-within : (unit of : ℕ) (margins : Margins) (lines : ℕ) (levelled given : Option Nears) (word : ℕ)
-    → Some word ≡ first_said (recovered_by unit margins lines levelled) (recovered_by of margins lines given)
+    → Some word ≡ option_or (recovered_by unit margins lines levelled) (recovered_by of margins lines given)
     → IsBetween 0xF80000 0xFF9999 word → ⊥
 two-within unit of margins lines levelled given word e x =
     let within = first-within (recovered_by unit margins lines levelled) (recovered_by of margins lines given)

@@ -4,11 +4,12 @@ use Rattle.std.proofs.Common.{◌≡◌, ℕ, suc, zero, ◌+◌, ◌<◌, List,
 use Rattle.std.proofs.Common.{◌∙◌, refl, subst, arith, zero-add, ◌≤◌}
 use Rattle.std.specs.{Prelude.◌&&◌, Prelude.Option, Prelude.Some, List.list_all, List.range_with_len}
 use Rattle.std.proofs.lemmas.List.FromFn.{map-range_with_len_more, length-map-range_with_len, get_or-map-range_with_len}
+use Rattle.std.specs.Option.{option_or}
 use Rattle.vbi_near.proofs.Common.{line_bytes, System, Slicing, unit_of}
 use Rattle.vbi_near.specs.Candidates.{Row, Candidates, swing_in, has_swing, are_alike_by}
 use Rattle.vbi_near.specs.LevelledLines.{is_swing, levelled_unit}
 use Rattle.vbi_near.specs.PileRule.{row_in, rows_in, are_all_alike, pile_margins, said_together}
-use Rattle.vbi_near.specs.{declared.margins.Margins.Margins, WordRule.recovered_by, WordRule.first_said}
+use Rattle.vbi_near.specs.{declared.margins.Margins.Margins, WordRule.recovered_by}
 
 -- ---- the next line
 
@@ -86,7 +87,7 @@ bytes-few system = grind arith
 pub said-by : (unit u lines n : ℕ) (known : Bool) (margins : Margins) (near : Candidates)
     (first second said : Option ℕ) → u ≡ unit → margins ≡ pile_margins known → n ≡ lines
     → first ≡ recovered_by levelled_unit margins n near.levelled → second ≡ recovered_by u margins n (Some near.given)
-    → said ≡ first_said first second → said ≡ said_together unit known lines near
+    → said ≡ option_or first second → said ≡ said_together unit known lines near
 said-by unit u lines n known margins near first second said of_unit of_margins of_lines is_first is_second is =
     grind arith
 

@@ -1,4 +1,4 @@
--- Lines that say nothing, whatever the search of all codes would find. may_say_code, nearest_within, code_within and
+-- Lines that say nothing, whatever the search of all codes would find. may_say_code, nearest_within and
 -- nears_if stand on it.
 use Rattle.std.proofs.Common.{◌≡◌, ◌≢◌, ℕ, ◌≤◌, ◌<◌, ◌+◌, ◌^◌, ◌⊎◌, inl, inr, false, List, [], refl, sym, ap, subst}
 use Rattle.std.proofs.Common.{◌∙◌, arith}
@@ -202,9 +202,17 @@ module _ (sums : Sums) (line limit : ℕ) (lead : Found) (is : IsLeadWithin sums
 -- ---- what isn't said
 
 -- a code that isn't said, nor is the nearest one for which it stands
-pub unsaid : (unit columns limit : ℕ) (near code : Near) → StandsFor limit near code
+unsaid : (unit columns limit : ℕ) (near code : Near) → StandsFor limit near code
     → may_say unit columns limit code ≡ false → may_say unit columns limit near ≡ false
 unsaid unit columns limit near code stands not = grind (arith)
+
+-- what leads of the codes that may be within a limit isn't said, nor is the nearest code
+pub lead_unsaid : (sums : Sums) (line limit : ℕ) (lead : Found) (code : Near) (unit columns : ℕ)
+    → IsLeadWithin sums line limit (starts sums.system) lead → IsCodeChosen lead 0 0 code
+    → may_say unit columns limit code ≡ false → IsUnsaid sums line unit columns limit
+lead_unsaid sums line limit lead code unit columns is chosen not slicing lines costs near row are =
+    let stands = stands_for sums line limit lead is slicing lines costs near row are code chosen in
+    unsaid unit columns limit near code stands not
 
 module _ (lines : Lines) (margins : Margins) (count : ℕ) (word : Nearest)
     (has : HasWord lines.system lines.slicing lines.samples word) (near : Nears) (is : HasNear lines near) where

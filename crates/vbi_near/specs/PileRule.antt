@@ -2,11 +2,12 @@
 -- levelled together, and if these say none, by those of the lines as they are.
 use Rattle.std.specs.Prelude.{◌≡◌, ℕ, Bool, if◌then◌else◌, List, length, map, Option, Some}
 use Rattle.std.specs.List.{list_all, range_with_len}
+use Rattle.std.specs.Option.{option_or}
 use Rattle.vbi_near.specs.Common.{System, line_at, Slicing, unit_of}
 use Rattle.vbi_near.specs.Candidates.{Row, row_of, given_samples, levelled_samples, swing_in, are_alike_by, Candidates}
 use Rattle.vbi_near.specs.Candidates.{HasNear, HasNearIf, marks_at, some_lines}
 use Rattle.vbi_near.specs.LevelledLines.{levelled_unit, levelled_slicing}
-use Rattle.vbi_near.specs.{declared.margins.Margins.Margins, WordRule.recovered_by, WordRule.first_said}
+use Rattle.vbi_near.specs.{declared.margins.Margins.Margins, WordRule.recovered_by}
 
 -- ---- the rule
 
@@ -29,7 +30,7 @@ are_all_alike system slicing rows = swing_alike (unit_of slicing) (map (swing_in
 -- the word that this many lines say together
 abbrev pub said_together : ℕ → Bool → ℕ → Candidates → Option ℕ
 said_together unit known lines near =
-    first_said (recovered_by levelled_unit (pile_margins known) lines near.levelled)
+    option_or (recovered_by levelled_unit (pile_margins known) lines near.levelled)
     (recovered_by unit (pile_margins known) lines (Some near.given))
 
 -- ---- from lines

@@ -2,9 +2,10 @@
 -- say (WordRule.antt): first the levelled ones, and if these say none, those as they are.
 use Rattle.std.specs.Prelude.{◌≡◌, ℕ, ◌+◌, ◌*◌, ◌==◌, ◌&&◌, ◌||◌, Bool, true, false, not, List, [], ◌∷◌, replicate}
 use Rattle.std.specs.Prelude.{nat_le, IsTrue, Option, Some, None, if◌then◌else◌}
+use Rattle.std.specs.Option.{option_or}
 use Rattle.vbi_near.specs.Common.{System, Outcome, Word, Blank, Reading, width_of, line_at, Slicing, row_levels}
 use Rattle.vbi_near.specs.Common.{reading_of, outcome_of, unit_of}
-use Rattle.vbi_near.specs.WordRule.{said_if, recovered_by, first_said, is_said, stand_of, said_in}
+use Rattle.vbi_near.specs.WordRule.{said_if, recovered_by, is_said, stand_of, said_in}
 use Rattle.vbi_near.specs.Candidates.{Candidates, Row, Line, row_of, line_of, marks_at, given_samples, AreOf, AreOfBoth}
 use Rattle.vbi_near.specs.{declared.recovery.Recovered.Recovered, declared.near.Near.Near}
 use Rattle.vbi_near.specs.{declared.word_rule.PairNears.PairNears, declared.word_rule.Stand.Stand}
@@ -24,13 +25,13 @@ pub record Seen : Type 0 where
 -- the word that a line says by itself
 abbrev pub said_alone : ℕ → Candidates → Option ℕ
 said_alone unit near =
-    first_said (said_if levelled_unit levelled_margins.lone 1 near.levelled)
+    option_or (said_if levelled_unit levelled_margins.lone 1 near.levelled)
     (said_if unit given_margins.lone 1 (Some near.given))
 
 -- the word that is recovered of what the line says by itself
 abbrev pub recovered_alone : ℕ → Candidates → Option ℕ
 recovered_alone unit near =
-    first_said (recovered_by levelled_unit levelled_margins.lone 1 near.levelled)
+    option_or (recovered_by levelled_unit levelled_margins.lone 1 near.levelled)
     (recovered_by unit given_margins.lone 1 (Some near.given))
 
 -- how far the line is from the nearest row of any other word than this, or of none
@@ -48,15 +49,15 @@ is_confirmed unit near stretched word =
     is_said word (said_alone unit near) || is_stretched unit stretched word near.given.word
 
 -- what a reading shows stays, but for a word of pass 2 that isn't confirmed
-abbrev pub stays : Outcome → ℕ → (ℕ → Bool) → Bool
-stays (Word word) pass confirms = not (pass == 2) || confirms word
-stays outcome pass confirms = true
+abbrev pub reading_stays : Outcome → ℕ → (ℕ → Bool) → Bool
+reading_stays (Word word) pass confirms = not (pass == 2) || confirms word
+reading_stays outcome pass confirms = true
 
 -- what the line is taken to show by its own levels: without its word of pass 2 it shows none, and the cause is that of
 -- its levels
 abbrev pub own_by : Outcome → Outcome → ℕ → (ℕ → Bool) → Recovered
 own_by plain outcome pass confirms =
-    if stays outcome pass confirms
+    if reading_stays outcome pass confirms
     then record { outcome = outcome; pass = pass }
     else record { outcome = plain; pass = 0 }
 
@@ -109,7 +110,7 @@ stands_of unit second third both =
 -- the word that an open line says
 abbrev pub said_by : Stands → ℕ → Candidates → Candidates → Option ℕ
 said_by stands unit near both =
-    first_said (said_in levelled_margins stands.levelled levelled_unit near.levelled both.levelled)
+    option_or (said_in levelled_margins stands.levelled levelled_unit near.levelled both.levelled)
     (said_in given_margins stands.given unit (Some near.given) (Some both.given))
 
 -- a recovered word is of pass 3

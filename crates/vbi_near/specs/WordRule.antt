@@ -84,11 +84,6 @@ unless_beyond (Some word) = if is_beyond_79999 word then None else Some word
 abbrev pub recovered_by : ℕ → Margins → ℕ → Option Nears → Option ℕ
 recovered_by unit margins lines near = unless_beyond (said_if unit margins lines near)
 
--- the word of the first that says one
-abbrev pub first_said : Option ℕ → Option ℕ → Option ℕ
-first_said None other = other
-first_said (Some word) other = Some word
-
 -- this word is said
 abbrev pub is_said : ℕ → Option ℕ → Bool
 is_said word None = false

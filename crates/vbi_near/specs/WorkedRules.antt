@@ -1,6 +1,6 @@
 -- Nearest words written down, with the numbers of the rule at their limits. White is 100 above black, and what is
 -- written down of levelled lines is in hundredths of theirs, too.
-use Rattle.std.specs.Prelude.{ℕ, ◌≡◌, ◌+◌, ◌*◌, ◌/◌, Bool, [], ◌∷◌, map, Option, Some, None}
+use Rattle.std.specs.Prelude.{ℕ, ◌≡◌, ◌+◌, ◌-◌, ◌*◌, ◌/◌, Bool, [], ◌∷◌, map, Option, Some, None}
 use Rattle.vbi_near.specs.Common.{Outcome, Word, Blank, Unfinished, Change}
 use Rattle.vbi_near.specs.Recovery.{Seen, recovered_of}
 use Rattle.vbi_near.specs.{declared.near.Near.Near, declared.near.Nears.Nears, declared.margins.Margins.Margins}
@@ -202,6 +202,27 @@ close_code_ahead ahead = from_none 12000 (beside 10300 (10300 + ahead))
 abbrev pub SayUntil : Margins → ℕ → (ℕ → Nears) → ℕ → ℕ → ℕ → Type 0
 SayUntil margins lines near word last next =
     map (λ n. said_of 100 margins lines (near n)) (last ∷ next ∷ []) ≡ Some word ∷ None ∷ []
+
+-- by these margins this many lines say a code, and a word that is none, ten columns ahead of any other, if they are
+-- this far from the row of no word, and say none if they are farther
+abbrev pub SharesUntil : Margins → ℕ → ℕ → ℕ → Type 0
+SharesUntil margins lines code other =
+    SayUntil margins lines code_ten_ahead 0xF12345 code (code + 1)
+    × SayUntil margins lines other_ten_ahead 0xF1234A other (other + 1)
+
+-- by these margins one line says a code that is so far ahead of any other, and a word that is none, however far the
+-- line is from the row of no word
+abbrev pub HasNoShare : Margins → ℕ → ℕ → Type 0
+HasNoShare margins code other =
+    (said_of 100 margins 1 (far_from_none (code_ahead code)) ≡ Some 0xF12345)
+    × (said_of 100 margins 1 (far_from_none (other_ahead other)) ≡ Some 0xF1234A)
+
+-- by these margins this many lines say a code at 10,000 if the row that goes on beyond it is this far, or the row that
+-- is cut short, and no word if either is nearer
+abbrev pub EndsFrom : Margins → ℕ → ℕ → Type 0
+EndsFrom margins lines least =
+    SayUntil margins lines code_longer 0xF12345 least (least - 1)
+    × SayUntil margins lines code_cut 0xF12345 least (least - 1)
 
 -- two lines of which it is known, or isn't, which columns are erased say the word together with the first number, and
 -- no word with the next one

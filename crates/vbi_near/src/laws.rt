@@ -6,9 +6,8 @@ ghost use Rattle.std.specs.List.{All};
 ghost use Rattle.vbi_near.specs.Common.{System, Ntsc, Pal, Word, width_of, start_of, Slicing, IsWord, IsWordOrNone};
 ghost use Rattle.vbi_near.specs.Common.{IsBetween, differences, drawn_row_of, IsPlace, starts, picture_of, drawn_as};
 ghost use Rattle.vbi_near.specs.Common.{Samples, unit_of, most_of, known, known_but, row_distance, distance_of};
-ghost use Rattle.vbi_near.specs.Nearest.{IsNearest, IsFirst, IsNearestCode, IsFirstCode};
 ghost use Rattle.vbi_near.specs.{declared.near.Near.Near, LongerSignal.begun_earlier, LongerSignal.ended_later};
-ghost use Rattle.vbi_near.specs.{LongerSignal.IsLonger, ShorterSignal.IsShorter, Apart.picture_distance};
+ghost use Rattle.vbi_near.specs.{Nearest.IsNearest, Rows.IsNearWord, Rows.IsNearCode, Apart.picture_distance};
 ghost use Rattle.vbi_near.specs.{LineCodes.IsOneOf, LineCodes.codes_of, LineCodes.is_beyond_79999};
 ghost use Rattle.vbi_near.specs.{declared.recovery.Recovered.Recovered, declared.margins.Margins.Margins};
 ghost use Rattle.vbi_near.specs.{declared.near.Nears.Nears, WordRule.said_of, Candidates.Row, Candidates.Lines};
@@ -44,25 +43,17 @@ pub fn one_nearest()
 /// fixed by the lines.
 pub fn one_near()
     ensures word { (system : System) (slicing : Slicing) (lines : List Samples) (near other : Near)
-        → IsNearest system slicing lines near → IsFirst system slicing lines near → IsLonger system slicing lines near
-        → IsShorter system slicing lines near → IsNearest system slicing lines other
-        → IsFirst system slicing lines other → IsLonger system slicing lines other
-        → IsShorter system slicing lines other → near ≡ other }
+        → IsNearWord system slicing lines near → IsNearWord system slicing lines other → near ≡ other }
     ensures code { (system : System) (line : ℕ) (slicing : Slicing) (lines : List Samples) (near other : Near)
-        → IsNearestCode system line slicing lines near → IsFirstCode system line slicing lines near
-        → IsLonger system slicing lines near → IsShorter system slicing lines near
-        → IsNearestCode system line slicing lines other → IsFirstCode system line slicing lines other
-        → IsLonger system slicing lines other → IsShorter system slicing lines other → near ≡ other }
+        → IsNearCode system line slicing lines near → IsNearCode system line slicing lines other → near ≡ other }
 {}
 
 /// Any lines have such a nearest word, and such a nearest code.
 pub fn some_near()
     ensures word { (system : System) (slicing : Slicing) (lines : List Samples)
-        → (near : Near) × IsNearest system slicing lines near × IsFirst system slicing lines near
-        × IsLonger system slicing lines near × IsShorter system slicing lines near }
+        → (near : Near) × IsNearWord system slicing lines near }
     ensures code { (system : System) (line : ℕ) (slicing : Slicing) (lines : List Samples)
-        → (near : Near) × IsNearestCode system line slicing lines near × IsFirstCode system line slicing lines near
-        × IsLonger system slicing lines near × IsShorter system slicing lines near }
+        → (near : Near) × IsNearCode system line slicing lines near }
 {}
 
 /// The table that is searched for codes has the words whose code may stand on the line, by the table of classes, but no

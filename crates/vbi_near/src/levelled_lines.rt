@@ -27,6 +27,7 @@ ghost use Rattle.vbi_near.specs.LevelledLines.{swing_of, is_swing, middle_of, le
 ghost use Rattle.vbi_near.specs.LevelledLines.{smoothed_sample, smoothed, levelled, levelled_unit, levelled_slicing};
 ghost use Rattle.vbi_near.specs.LevelledLines.{filled, AreSampleSums, AreWindows};
 
+use crate::lines::sample;
 use crate::near::WIDEST;
 use vbi_words::{Levels, System};
 
@@ -91,17 +92,6 @@ fn window_start(system: System, column: usize) -> usize
         .saturating_sub(width / 2)
         .max(first(system))
         .min(end(system) - width)
-}
-
-/// A line's sample in a column.
-// Of two bytes of a slice a compiler makes one read.
-#[inline(always)]
-fn sample(line: &[u8], column: usize) -> u16
-    requires { 2 * column + 1 < length line.now }
-    ensures { result ≡ sample_at line.now column }
-{
-    let pair = &line[2 * column..2 * column + 2];
-    u16::from(pair[0]) + 256 * u16::from(pair[1])
 }
 
 /// Writes a line's sample in a column.

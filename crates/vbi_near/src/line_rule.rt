@@ -6,7 +6,7 @@
 
 ghost use Rattle.std.specs.Prelude.{◌≡◌, ℕ, ◌∷◌, [], ◌||◌, Option, Some};
 ghost use Rattle.vbi_near.specs.Margins.{levelled_margins, given_margins};
-ghost use Rattle.vbi_near.specs.WordRule.{said_of, said_if, first_said, is_said};
+ghost use Rattle.vbi_near.specs.WordRule.{said_of, said_if, is_said};
 ghost use Rattle.vbi_near.specs.Candidates.{Candidates, given_samples, given_line, levelled_line, has_swing, AreOf};
 ghost use Rattle.vbi_near.specs.Candidates.{HasNear, HasNearIf};
 ghost use Rattle.vbi_near.specs.Recovery.{recovered_alone, other_than, is_stretched, is_confirmed};
@@ -20,7 +20,7 @@ use crate::levelled_lines::is_swing;
 use crate::lines::Line;
 use crate::margins::{GIVEN, LEVELLED, Margins, unit_of};
 use crate::near::{Near, Nears, WIDEST};
-use crate::word_rule::{first_said, is_said, said_if, unless_beyond};
+use crate::word_rule::{is_said, said_if, said_of, unless_beyond};
 use vbi_words::Word24;
 
 /// The word that a line says by these margins.
@@ -79,22 +79,6 @@ fn is_stretched(unit: u32, stretched: u32, word: Word24, near: &Near) -> bool
     u64::from(stretched) + 8 * u64::from(unit) <= u64::from(other_than(word, near))
 }
 
-/// Whether a word of pass 2 is confirmed by the word that its line says levelled, or by the nearest ones of the line
-/// as it is.
-fn is_confirmed_by(
-    unit: u32,
-    levelled: &Option<Word24>,
-    near: &Nears,
-    stretched: u32,
-    word: Word24,
-) -> bool
-    ensures { result ≡ (is_said word (first_said levelled.now (said_if unit given_margins.lone 1 (Some near.now)))
-        || is_stretched unit stretched word near.now.word) }
-{
-    let said = first_said(*levelled, said_if(unit, &GIVEN.lone, 1, Some(*near)));
-    is_said(word, said) || is_stretched(unit, stretched, word, &near.word)
-}
-
 /// Whether a word of pass 2 is confirmed: the line says it by itself, or it is ahead on somewhat longer or shorter
 /// cells.
 pub(crate) fn is_confirmed(line: &Line, word: Word24) -> bool
@@ -108,6 +92,7 @@ pub(crate) fn is_confirmed(line: &Line, word: Word24) -> bool
         return true;
     }
     let near = near_of_one(line);
+    let is_given = levelled.is_none() && is_said(word, said_of(unit, &GIVEN.lone, 1, &near));
     let stretched = stretched_of_one(line, word);
-    is_confirmed_by(unit, &levelled, &near, stretched, word)
+    is_given || is_stretched(unit, stretched, word, &near.word)
 }

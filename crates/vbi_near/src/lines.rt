@@ -1,7 +1,8 @@
 //! Lines whose words are sought.
 
 ghost use Rattle.std.specs.Prelude.{◌≡◌, ◌+◌, ◌*◌, ◌≤◌, ◌<◌, length};
-ghost use Rattle.vbi_near.specs.{Common.line_bytes, Common.line_at, Common.width_of, Candidates.marks_at};
+ghost use Rattle.vbi_near.specs.Common.{line_bytes, line_at, width_of, sample_at};
+ghost use Rattle.vbi_near.specs.{Candidates.marks_at};
 
 use vbi_words::{Levels, System};
 
@@ -56,6 +57,17 @@ impl<'a> Rows<'a> {
             erased: marks_of_line(self.system, self.erased, line),
         }
     }
+}
+
+/// A line's sample in a column.
+// Of two bytes of a slice a compiler makes one read.
+#[inline(always)]
+pub(crate) fn sample(line: &[u8], column: usize) -> u16
+    requires { 2 * column + 1 < length line.now }
+    ensures { result ≡ sample_at line.now column }
+{
+    let pair = &line[2 * column..2 * column + 2];
+    u16::from(pair[0]) + 256 * u16::from(pair[1])
 }
 
 /// The bytes of a line, counted from 0.

@@ -27,8 +27,7 @@ ghost use Rattle.std.specs.Prelude.{◌≡◌, ◌^◌, ◌≤◌, ◌<◌, ◌�
 ghost use Rattle.vbi_near.specs.Common.{width_of, IsWord, starts, IsPlace, Slicing, Samples, Shades, IsPile, AreFew};
 ghost use Rattle.vbi_near.specs.Rows.{word_cost_by, IsRowOf, IsNearWord, IsNearCode};
 ghost use Rattle.vbi_near.specs.Best.{IsFound, AreBounds, no_word, word_found, IsChosen};
-ghost use Rattle.vbi_near.specs.{Common.shades, Leads.IsCodeChosen, Nearest.IsNearest, Nearest.IsFirst};
-ghost use Rattle.vbi_near.specs.{LongerSignal.IsLonger, ShorterSignal.IsShorter};
+ghost use Rattle.vbi_near.specs.{Common.shades, Leads.IsCodeChosen};
 
 use crate::bits::MOST_STARTS;
 use crate::codes::nearest_code;
@@ -167,14 +166,8 @@ pub fn nearest(system: System, darks: &[u32], lights: &[u32]) -> Near
     requires dark { length darks.now ≡ width_of system }
     requires light { length lights.now ≡ width_of system }
     requires few { AreFew 28 darks.now × AreFew 28 lights.now }
-    ensures nearest { (slicing : Slicing) (lines : List Samples)
-        → IsPile system slicing lines (shades darks.now lights.now) → IsNearest system slicing lines result }
-    ensures first { (slicing : Slicing) (lines : List Samples)
-        → IsPile system slicing lines (shades darks.now lights.now) → IsFirst system slicing lines result }
-    ensures longer { (slicing : Slicing) (lines : List Samples)
-        → IsPile system slicing lines (shades darks.now lights.now) → IsLonger system slicing lines result }
-    ensures shorter { (slicing : Slicing) (lines : List Samples)
-        → IsPile system slicing lines (shades darks.now lights.now) → IsShorter system slicing lines result }
+    ensures near { (slicing : Slicing) (lines : List Samples)
+        → IsPile system slicing lines (shades darks.now lights.now) → IsNearWord system slicing lines result }
     ensures start { result.start < 285 }
 {
     let mut dark = [0; ROOM];

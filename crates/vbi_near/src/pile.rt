@@ -2,13 +2,13 @@
 //! more than a sample counts at most.
 
 ghost use Rattle.std.specs.Prelude.{◌≡◌, ℕ, ◌+◌, ◌*◌, ◌≤◌, ◌<◌, ◌∷◌, ◌++◌, [], length, take, List};
-ghost use Rattle.vbi_near.specs.Common.{System, line_bytes, width_of, Slicing, samples_of, sample_at, Samples};
+ghost use Rattle.vbi_near.specs.Common.{System, line_bytes, width_of, Slicing, samples_of, Samples};
 ghost use Rattle.vbi_near.specs.Common.{lines_of, known_but, most_of, IsPile, AreFew, shades};
-ghost use Rattle.vbi_near.specs.{Nearest.IsNearest, Nearest.IsFirst, LongerSignal.IsLonger, ShorterSignal.IsShorter};
+ghost use Rattle.vbi_near.specs.{Rows.IsNearWord};
 
 use crate::bits::MOST_STARTS;
 use crate::line_search::{Sought, nears_of};
-use crate::lines::line_of;
+use crate::lines::{line_of, sample};
 use crate::margins::{Margins, unit_of};
 use crate::near::{Near, Nears, WIDEST, nearest};
 use crate::silence::{Terms, nears_if};
@@ -16,14 +16,6 @@ use crate::stretched_cells::stretched_distance;
 use crate::sums::{ROOM, Sums};
 use crate::word_search::start_count;
 use vbi_words::{Levels, System, Word24};
-
-/// A line's sample in a column.
-fn sample(line: &[u8], column: usize) -> u16
-    requires { 2 * column + 1 < length line.now }
-    ensures { result ≡ sample_at line.now column }
-{
-    u16::from(line[2 * column]) + 256 * u16::from(line[2 * column + 1])
-}
 
 /// As far as a sample counts at most: seven tenths of how far white is from black.
 #[tactic(auto, unfolding(crate::specs::Distances::most_of))]
@@ -85,7 +77,7 @@ pub(crate) struct Pile<'a> {
 impl<'a> Pile<'a> {
     ghost use Rattle.std.specs.Prelude.{replicate};
     ghost use Rattle.vbi_near.specs.{Candidates.HasNear, Candidates.some_lines, StretchedCells.IsStretched};
-    ghost use Rattle.vbi_near.specs.{Rows.IsNearWord, Pile.IsPileOf, Silence.HasNearUnlessSilent};
+    ghost use Rattle.vbi_near.specs.{Pile.IsPileOf, Silence.HasNearUnlessSilent};
 
     /// The pile of no lines, with room for the costs of the longest ones.
     pub(crate) fn new(
@@ -158,7 +150,7 @@ impl<'a> Pile<'a> {
 
     /// The word that is nearest to the lines.
     fn nearest(&self) -> Near
-        ensures nearest { (system : System) (slicing : Slicing) (lines : List Samples)
+        ensures near { (system : System) (slicing : Slicing) (lines : List Samples)
             → IsPileOf system slicing lines self.now → IsNearWord system slicing lines result }
         ensures start { result.start < 285 }
     {
@@ -170,10 +162,7 @@ impl<'a> Pile<'a> {
 pub fn nearest_of_lines(system: System, levels: Levels, lines: &[u8], count: usize) -> Near
     requires few { count ≤ 28 }
     requires whole { length lines.now ≡ count * line_bytes system }
-    ensures nearest { IsNearest system levels (lines_of system lines.now count) result }
-    ensures first { IsFirst system levels (lines_of system lines.now count) result }
-    ensures longer { IsLonger system levels (lines_of system lines.now count) result }
-    ensures shorter { IsShorter system levels (lines_of system lines.now count) result }
+    ensures near { IsNearWord system levels (lines_of system lines.now count) result }
     ensures start { result.start < 285 }
 {
     let none_erased = [false; WIDEST];

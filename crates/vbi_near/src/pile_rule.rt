@@ -13,7 +13,7 @@ use crate::lines::Rows;
 use crate::margins::{Margin, Margins, unit_of};
 use crate::near::{Nears, WIDEST};
 use crate::pile::Pile;
-use crate::word_rule::{first_said, recovered_by};
+use crate::word_rule::recovered_by;
 use vbi_words::{Levels, System, Word24};
 
 /// This many lines at most: the sums of more could pass 32 bits.
@@ -125,5 +125,5 @@ pub fn recover_pile(
     let margins = pile_margins(known);
     let first = recovered_by(LEVELLED_UNIT, &margins, count as u32, levelled);
     let second = recovered_by(unit, &margins, count as u32, Some(given));
-    first_said(first, second)
+    first.or(second)
 }

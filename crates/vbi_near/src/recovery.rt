@@ -26,7 +26,6 @@ use crate::line_rule::{is_confirmed, recovered_alone};
 use crate::lines::{Line, Pair, Rows};
 use crate::margins::GIVEN;
 use crate::pair_rule::{Asked, levelled_said, pair_said};
-use crate::word_rule::first_said;
 use vbi_line::{read_bytes_twice, read_packed, slice_bytes};
 use vbi_words::{Levels, Outcome, Reading, System, Word24};
 
@@ -39,11 +38,11 @@ pub struct Recovered {
     pub pass: u8,
 }
 
-/// What a line that is read so is taken to show by its own levels.
-fn own_as_read(line: &Line, reading: &Reading) -> Recovered
-    requires { reading.now ≡ reading_of line.now.system (row_levels line.now.levels line.now.bytes.now) }
+/// What a line is taken to show by its own levels.
+fn own(line: &Line) -> Recovered
     ensures { IsOwn (line_in line.now) result }
 {
+    let reading = &read_bytes_twice(line.bytes, line.system, line.levels);
     let read = Recovered {
         outcome: reading.outcome,
         pass: reading.pass,
@@ -62,14 +61,6 @@ fn own_as_read(line: &Line, reading: &Reading) -> Recovered
         ),
         pass: 0,
     }
-}
-
-/// What a line is taken to show by its own levels.
-fn own(line: &Line) -> Recovered
-    ensures { IsOwn (line_in line.now) result }
-{
-    let reading = read_bytes_twice(line.bytes, line.system, line.levels);
-    own_as_read(line, &reading)
 }
 
 /// Whether a line has no word and isn't blank.
@@ -128,14 +119,7 @@ fn said_by_both(pair: &Pair) -> (Option<Word24>, Option<Word24>)
         both: true,
     };
     let given = pair_said(&GIVEN, asked, pair);
-    (first_said(said.0, given.0), first_said(said.1, given.1))
-}
-
-/// Whether both of two lines are open.
-fn are_both_open(outcome: Outcome, other: Outcome) -> bool
-    ensures { result ≡ is_open outcome && is_open other }
-{
-    is_open(outcome) && is_open(other)
+    (said.0.or(given.0), said.1.or(given.1))
 }
 
 /// What lines 17 and 18 show.
@@ -150,7 +134,7 @@ fn shown_pair(pair: &Pair) -> (Recovered, Recovered)
 {
     let own_second = own(&pair.second);
     let own_third = own(&pair.third);
-    if are_both_open(own_second.outcome, own_third.outcome) {
+    if is_open(own_second.outcome) && is_open(own_third.outcome) {
         let said = said_by_both(pair);
         return (
             recovered_as(own_second, said.0),

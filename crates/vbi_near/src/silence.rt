@@ -46,15 +46,6 @@ fn nearest_within(sought: &Sought, line: u32, limit: u64) -> Found
     best
 }
 
-/// The nearest code of the lines, if it is within a limit; else another one, or none.
-fn code_within(sought: &Sought, line: u32, limit: u64) -> Near
-    ensures { (slicing : Slicing) (lines : List Samples) (costs : Shades) (near : Near)
-        → IsRowOf sought.now.sums slicing lines costs
-        → IsNearCode sought.now.sums.system line slicing lines near → StandsFor limit near result }
-{
-    code_or_none(nearest_within(sought, line, limit), 0, 0)
-}
-
 /// Whether the nearest word of some lines is said if no code is.
 fn says_word(sought: &Sought, terms: &Terms) -> bool
     ensures { result ≡ says_word terms.now.unit terms.now.margins.now terms.now.lines sought.now.word }
@@ -71,13 +62,13 @@ fn says_word(sought: &Sought, terms: &Terms) -> bool
 }
 
 /// Whether the nearest code of lines of this number may be said: whether it is close enough, and ahead of the others.
-#[tactic(auto, using(crate::proofs::Unsaid::unsaid))]
 fn may_say_code(sought: &Sought, number: u32, terms: &Terms) -> bool
     ensures { result ≡ false → IsUnsaid sought.now.sums number terms.now.unit terms.now.margins.now.code.columns
         (close_limit terms.now.unit sought.now.word.near) }
 {
     let limit = close_limit(terms.unit, &sought.word.near);
-    let code = code_within(sought, number, limit);
+    let found = nearest_within(sought, number, limit);
+    let code = code_or_none(found, 0, 0);
     code.word.is_some()
         && u64::from(code.distance) <= limit
         && is_ahead(terms.unit, terms.margins.code.columns, &code)

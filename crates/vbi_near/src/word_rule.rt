@@ -12,7 +12,7 @@
 
 ghost use Rattle.std.specs.Prelude.{◌≡◌, ◌*◌, ◌^◌, ◌≤◌, ◌<◌};
 ghost use Rattle.vbi_near.specs.WordRule.{is_ahead, is_ahead_by, goes_on, is_cut, is_whole, is_clear, close_limit};
-ghost use Rattle.vbi_near.specs.WordRule.{is_close, said_of, said_if, first_said, is_said, is_same, is_one, is_borne};
+ghost use Rattle.vbi_near.specs.WordRule.{is_close, said_of, said_if, is_said, is_same, is_one, is_borne};
 ghost use Rattle.vbi_near.specs.WordRule.{have_word, have_code, have_one, do_agree, may_agree, stand_of, said_in};
 ghost use Rattle.vbi_near.specs.WordRule.{unless_beyond, recovered_by};
 ghost use Rattle.vbi_near.specs.{LineCodes.is_beyond_79999, PairRule.SayInPair};
@@ -131,7 +131,7 @@ fn is_close(unit: u32, near: &Nears) -> bool
 }
 
 /// The word that this many lines say, if these are their nearest word and their nearest code.
-fn said_of(unit: u32, margins: &Margins, lines: u32, near: &Nears) -> Option<Word24>
+pub(crate) fn said_of(unit: u32, margins: &Margins, lines: u32, near: &Nears) -> Option<Word24>
     requires { lines ≤ 28 }
     ensures { result ≡ said_of unit margins.now lines near.now }
 {
@@ -209,34 +209,18 @@ pub(crate) fn recovered_by(
     unless_beyond(said_if(unit, margins, lines, near))
 }
 
-/// The word of the first that says one.
-pub(crate) fn first_said(first: Option<Word24>, other: Option<Word24>) -> Option<Word24>
-    ensures { result ≡ first_said first other }
-{
-    match first {
-        Some(word) => Some(word),
-        None => other,
-    }
-}
-
 /// Whether this word is said.
 pub(crate) fn is_said(word: Word24, said: Option<Word24>) -> bool
     ensures { result ≡ is_said word said }
 {
-    match said {
-        Some(other) => word.value() == other.value(),
-        None => false,
-    }
+    said == Some(word)
 }
 
 /// Whether both are the same word.
 fn is_same(word: Option<Word24>, other: Option<Word24>) -> bool
     ensures { result ≡ is_same word other }
 {
-    match word {
-        Some(word) => is_said(word, other),
-        None => false,
-    }
+    word.is_some() && word == other
 }
 
 /// Whether two lines have one word, by that of each and that of both: it is the same, or the common one is little

@@ -22,7 +22,7 @@ use crate::halving::{LEFT, halve, sweep};
 use crate::narrowing::{Between, may_read};
 use crate::search::{Kind, Looked, Search};
 use crate::side_bytes::{FoundField, Setup, SideBytes};
-use crate::spots::{NOTHING_SEEN, SPOT, see_from};
+use crate::spots::{NO_NUMBER, NOTHING_SEEN, SPOT, see_from};
 use vbi_side::{BELIEVED, Number, REACH, judge_chapters};
 
 /// None of this many fields before a field has the chapter that begins in it.
@@ -36,12 +36,6 @@ const PARTS: usize = 16;
 
 /// A million fields are halved so often until 32 are left. A silent middle may take another step.
 const STEPS: u32 = 32;
-
-/// What is answered of a field without a chapter.
-const NO_CHAPTER: Number = Number {
-    number: 0,
-    state: 0,
-};
 
 /// A place that is near the field in which the chapter begins, if chapters rise along the side, and how many fields
 /// were read until it was found.
@@ -183,7 +177,7 @@ fn look_around(side: &SideBytes, chapter: u32, place: &Between, mut looked: Look
         → IsPlaced spot_most t place.now → result.field ≡ t }
 {
     let window = window_of(side.count, place);
-    let mut all_chapters = [NO_CHAPTER; AROUND];
+    let mut all_chapters = [NO_NUMBER; AROUND];
     let chapters = &mut all_chapters[..window.many];
     judge_window(side, &window, chapters, &mut looked);
     match first_begin(chapters, &window, chapter) {

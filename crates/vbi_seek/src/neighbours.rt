@@ -7,8 +7,9 @@
 ghost use Rattle.std.specs.Prelude.{◌≡◌, ◌<◌, ◌≤◌, ◌+◌, length, slice_get, Some, None, IfSome};
 ghost use Rattle.vbi_seek.specs.Neighbours.{down, up, IsNearest, IsNone};
 
+use crate::spots::NO_NUMBER;
 use std::mem::size_of;
-use vbi_side::{BELIEVED, NOTHING, Number};
+use vbi_side::{BELIEVED, Number};
 
 /// A number beside the one that is sought, and its field.
 #[derive(Clone, Copy)]
@@ -74,10 +75,7 @@ pub(crate) fn neighbour_at(
         },
         None => Neighbour {
             field: count,
-            number: Number {
-                number: 0,
-                state: NOTHING,
-            },
+            number: NO_NUMBER,
         },
     }
 }

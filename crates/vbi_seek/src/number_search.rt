@@ -33,8 +33,8 @@ use crate::narrowing::Between;
 use crate::neighbours::{Neighbour, first_higher, last_lower, neighbour_at};
 use crate::search::{Kind, Looked, Search, Seek};
 use crate::side_bytes::SideBytes;
-use crate::spots::{NOTHING_SEEN, PROBE, see_from};
-use vbi_side::{NOTHING, Number, PART, Pace, REACH, first_of, judge};
+use crate::spots::{NO_NUMBER, NOTHING_SEEN, PROBE, see_from};
+use vbi_side::{Number, PART, Pace, REACH, first_of, judge};
 
 /// Where a number was found.
 #[derive(Clone, Copy)]
@@ -67,12 +67,6 @@ const SPOTS: u32 = 31;
 
 /// A million fields are halved so often at most: each step leaves three quarters of them, and 32 are left.
 const STEPS: u32 = 36;
-
-/// What is answered of a field without a number.
-const NO_NUMBER: Number = Number {
-    number: 0,
-    state: NOTHING,
-};
 
 /// A number, how it is judged, and the side in whose bytes it is sought.
 #[derive(Clone, Copy)]

@@ -22,7 +22,7 @@ ghost use Rattle.vbi_side.specs.{Beliefs.sighting_weight, Sightings.IsSeen};
 use crate::field_lines::{chapters_at, numbers_at};
 use crate::search::{Kind, Looked, Search};
 use crate::side_bytes::SideBytes;
-use vbi_side::{Pace, Sighting, Sightings, support};
+use vbi_side::{NOTHING, Number, Pace, Sighting, Sightings, support};
 
 /// This many fields are read at one spot for a number: six pictures of video.
 pub(crate) const PROBE: usize = 12;
@@ -47,6 +47,12 @@ pub(crate) const NOTHING_SEEN: Sightings = Sightings {
 const NO_SIGHTING: Sighting = Sighting {
     number: 0,
     weight: 0,
+};
+
+/// What is answered of a field without a number, or without a chapter.
+pub(crate) const NO_NUMBER: Number = Number {
+    number: 0,
+    state: NOTHING,
 };
 
 /// This many fields are read at a spot if none is worn.

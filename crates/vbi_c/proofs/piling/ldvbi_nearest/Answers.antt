@@ -19,9 +19,9 @@ returns c =
           near,
           c.near_for_c.ensures,
           subst (λ (n : ℕ). IsNearest setup.system setup.levels (lines_of setup.system c.args.bytes.now n) near) count
-              c.nearest_of_lines.ensures.nearest,
+              c.nearest_of_lines.ensures.near.nearest,
           subst (λ (n : ℕ). IsLonger setup.system setup.levels (lines_of setup.system c.args.bytes.now n) near) count
-              c.nearest_of_lines.ensures.longer,
+              c.nearest_of_lines.ensures.near.longer,
         );
         refused = search rules;
       };

@@ -20,9 +20,10 @@ returns c =
     let lines = given_samples row ∷ [] in
     let pile = c.add_line.ensures.pile c.args.system [] (zeros-long c.args.system c.width.result c.width.ensures)
     (pile-empty c.args.system c.args.levels c.width.result c.width-2.result 1135) in
+    let near = c.nearest.ensures.near c.args.levels lines pile in
     only_near c.args.system c.args.levels row c.nearest.result (record {
-      nearest = c.nearest.ensures.nearest c.args.levels lines pile;
-      first = c.nearest.ensures.first c.args.levels lines pile;
-      longer = c.nearest.ensures.longer c.args.levels lines pile;
-      shorter = c.nearest.ensures.shorter c.args.levels lines pile;
+      nearest = near.nearest;
+      first = near.first;
+      longer = near.longer;
+      shorter = near.shorter;
     })

@@ -8,6 +8,7 @@ with_cell-more-requires-clause-word c =
     let inside : start < length c.args.words.now = omega (arith, c.loop-start-test.true) in
     omega (
       arith,
+      ap (λ (best : Bits). best.word) c.bits_of-best.ensures,
       ap (λ (best : Bits). best.word) (c.loop-start.invariant.after start (omega arith)),
       (c.requires.few start inside).0,
     )
@@ -18,6 +19,7 @@ with_cell-more-requires-clause-distance c =
     let inside : start < length c.args.words.now = omega (arith, c.loop-start-test.true) in
     omega (
       arith,
+      ap (λ (best : Bits). best.distance) c.bits_of-best.ensures,
       ap (λ (best : Bits). best.distance) (c.loop-start.invariant.after start (omega arith)),
       (c.requires.few start inside).1,
     )

@@ -1,7 +1,7 @@
 use Rattle.std.proofs.Common.{◌≡◌, ℕ, ◌+◌, ◌∷◌, [], ◌++◌, List, Bool, false, take, subst, ap, sym, ◌∙◌, arith, zero-add}
 use Rattle.std.proofs.Math.ListN.{replicate}
 use Rattle.std.proofs.lemmas.List.FromFn.{map-range_with_len_more}
-use Rattle.vbi_near.proofs.Common.{width_of, line_at, samples_of, Samples, known, known_but, lines_of, IsNearWord}
+use Rattle.vbi_near.proofs.Common.{width_of, line_at, samples_of, Samples, known, known_but, lines_of}
 use Rattle.vbi_near.proofs.Counting.{nothing-erased, line-samples, known_but-none}
 use Rattle.vbi_near.specs.Pile.{IsPileOf}
 use Rattle.vbi_near.proofs.pile.nearest_of_lines.Goals as goal
@@ -31,15 +31,10 @@ loop-line-preserved c =
 pub returns : goal.returns
 returns c =
     let e : c.loop-line.line ≡ c.args.count = omega (arith, c.loop-line-test.false, c.loop-line.auto.line-end) in
-    let near : IsNearWord c.args.system c.args.levels (lines_of c.args.system c.args.lines.now c.args.count)
-    c.nearest.result
-    = c.nearest.ensures.nearest c.args.system c.args.levels (lines_of c.args.system c.args.lines.now c.args.count)
-    (subst (λ (n : ℕ). IsPileOf c.args.system c.args.levels (lines_of c.args.system c.args.lines.now n)
-    c.loop-line.pile) e c.loop-line.invariant.pile) in
     record {
-      nearest = near.nearest;
-      first = near.first;
-      longer = near.longer;
-      shorter = near.shorter;
+      near = c.nearest.ensures.near c.args.system c.args.levels
+          (lines_of c.args.system c.args.lines.now c.args.count)
+          (subst (λ (n : ℕ). IsPileOf c.args.system c.args.levels (lines_of c.args.system c.args.lines.now n)
+          c.loop-line.pile) e c.loop-line.invariant.pile);
       start = c.nearest.ensures.start;
     }

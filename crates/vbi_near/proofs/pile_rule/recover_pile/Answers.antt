@@ -12,8 +12,8 @@ returns c =
       record { levelled = c.levelled_near_of_all-levelled.ensures; given = c.near_of_all-given.ensures },
       said-by (unit_of c.args.levels) c.unit_of-unit.result (length rows) c.args.count c.args.known
           c.pile_margins-margins.result near c.recovered_by-first.result c.recovered_by-second.result
-          c.first_said.result
+          c.or.result
           c.unit_of-unit.ensures.value c.pile_margins-margins.ensures
           (sym (rows-many c.args.system c.args.lines.now c.args.erased.now c.args.count)) c.recovered_by-first.ensures
-          c.recovered_by-second.ensures c.first_said.ensures,
+          c.recovered_by-second.ensures c.or.ensures,
     )

@@ -4,8 +4,8 @@ use Rattle.vbi_near.proofs.{Common.unit_of, Asked.pair-open, Asked.pair-shows, A
 use Rattle.vbi_near.specs.{Lines.line_in, Recovery.is_open, Recovery.shown_in}
 use Rattle.vbi_near.proofs.recovery.shown_pair.Goals as goal
 
-pub returns-then-are_both_open : goal.returns-then-are_both_open
-returns-then-are_both_open c second third both is are pair =
+pub returns-then-is_open-2 : goal.returns-then-is_open-2
+returns-then-is_open-2 c second third both is are pair =
     let lines = c.args.pair.now in
     let line = line_in lines.second in
     let other = line_in lines.third in
@@ -17,7 +17,7 @@ returns-then-are_both_open c second third both is are pair =
     let shows = pair-shows line other lines.levels own.result beside.result own.ensures beside.ensures second third is
     are both c.said_by_both-said.result.0 c.said_by_both-said.result.1 opened
     (λ near again p q. c.said_by_both-said.ensures near again both p q common) in
-    (c.recovered_as.ensures ∙ shows.0, c.recovered_as-then-are_both_open.ensures ∙ shows.1)
+    (c.recovered_as.ensures ∙ shows.0, c.recovered_as-then-is_open-2.ensures ∙ shows.1)
 
 pub returns : goal.returns
 returns c second third both is are pair =
