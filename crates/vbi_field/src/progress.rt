@@ -71,7 +71,7 @@ pub(crate) struct Progress {
 }
 
 impl Progress {
-    ghost use Rattle.vbi_field.specs.Progress.{HoldsField, IsProgress, IsLineOf, MovesOneRow, Advances, AddsRow};
+    ghost use Rattle.vbi_field.specs.Progress.{HoldsField, IsProgress, IsLineOf, IsWithin, MovesOneRow, Advances, AddsRow};
 
     /// Before the first row.
     pub(crate) fn new() -> Self
@@ -105,8 +105,7 @@ impl Progress {
     /// Takes the reading of the next row, if it is selected, and reports the readings of a field that is whole now.
     #[tactic(auto, using(crate::proofs::Growing::within_field, crate::proofs::Growing::past_field))]
     fn advance(&mut self, config: &Config, reading: Option<Reading>) -> Option<FieldReadings>
-        requires inside { self.old.row < height_of config.now.system }
-        requires few { self.old.fields ≤ most_fields }
+        requires { IsWithin config.now self.old }
         ensures inside { self.new.row < height_of config.now.system }
         ensures next { MovesOneRow config.now self.old self.new }
         ensures field { IfSome result (λ _. (self.new.fields ≡ self.old.fields + 1) × (self.new.row ≡ 0)) }

@@ -13,7 +13,7 @@ use Rattle.vbi_field.proofs.run.run.Goals as goal
 pub loop-row-init : goal.loop-row-init
 loop-row-init g c = record {
   pulled = start _ g.R.Read.remaining _ c.args.config.now c.args.intake.now c.args.outlet.now c.put.new.outlet
-      c.new-progress.result c.as_str.result.now c.requires.intake c.requires.outlet
+      c.new-progress.result c.as_str.result.now c.requires.fresh.intake c.requires.fresh.outlet
       (c.as_str.ensures.value ∙ c.head.ensures) c.as_str.ensures.fits c.in_ok-put.ensures.puts
       c.in_ok-put.ensures.ok c.in_ok-put.ensures.serves.no_error c.in_ok-put.ensures.serves.same
       c.new-progress.ensures.fields c.new-progress.ensures.row c.new-progress.ensures.readings;
@@ -23,8 +23,8 @@ loop-row-init g c = record {
 
 pub returns-in_err-put-clause-run : goal.returns-in_err-put-clause-run
 returns-in_err-put-clause-run g c =
-    head_fault _ g.R.Read.remaining _ c.args.config.now c.args.intake.now _ _ c.as_str.result.now c.requires.intake
-    c.requires.outlet (c.as_str.ensures.value ∙ c.head.ensures) c.in_err-put.ensures.puts
+    head_fault _ g.R.Read.remaining _ c.args.config.now c.args.intake.now _ _ c.as_str.result.now c.requires.fresh.intake
+    c.requires.fresh.outlet (c.as_str.ensures.value ∙ c.head.ensures) c.in_err-put.ensures.puts
     c.in_err-put.ensures.serves.failed c.in_err-put.ensures.short c.from_residual.result (search rules)
 
 pub loop-row-preserved : goal.loop-row-preserved
