@@ -110,7 +110,7 @@ fn run<K: Kind, R: Read, W: Write>(
         (over W.contents outlet.old outlet.new) result }
 {
     put(outlet, K::head(config).as_str())?;
-    let mut progress = Progress::new();
+    let mut progress = Progress::default();
     // Rows of the whole stream; `progress` counts those of a field.
     for row in 0..config.row_limit() {
         match fill_line(config, &progress, intake)? {
