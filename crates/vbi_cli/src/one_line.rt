@@ -1,7 +1,9 @@
 //! The command `line`.
 
 ghost use Rattle.std.specs.Prelude.{◌≡◌};
-ghost use Rattle.vbi_field.specs.{Extracts.AreFresh, Extracts.AreSameDevices, Ran.over};
+ghost use Rattle.vbi_line.specs.Intake as intakes;
+ghost use Rattle.vbi_field.specs.{Extracts.AreSameDevices, Ran.over};
+ghost use Rattle.vbi_field.specs.Outlet as outlets;
 ghost use Rattle.vbi_cli.specs.OneLine.{RunsLine, line_text};
 
 use arrayvec::ArrayString;
@@ -38,7 +40,8 @@ pub fn run_line<R: Read, W: Write>(
     intake: &mut Intake<R>,
     outlet: &mut Outlet<W>,
 ) -> Result<Outcome, LineFault>
-    requires fresh { AreFresh config.now.system intake.old outlet.old }
+    requires intake { intakes.IsFresh intake.old config.now.system }
+    requires outlet { outlets.IsFresh outlet.old }
     ensures same { AreSameDevices intake.old intake.new outlet.old outlet.new }
     ensures run { RunsLine config.now (over R.remaining intake.old intake.new)
         (over W.contents outlet.old outlet.new) result }

@@ -10,7 +10,7 @@ use Rattle.vbi_line.specs.declared.intake.Intake.{Intake}
 use Rattle.vbi_field.specs.Outlet as outlets
 use Rattle.vbi_field.specs.Stream.{fields_of, rest_of, cut_of, looks_of}
 use Rattle.vbi_field.specs.Texts.{text_before_tail, whole_text, Kind}
-use Rattle.vbi_line.specs.Intake.{counted_of, fetched_of, held_of, line_of, FetchesBytes, IsFresh}
+use Rattle.vbi_line.specs.Intake.{counted_of, fetched_of, held_of, line_of, FetchesBytes}
 use Rattle.vbi_line.specs.declared.intake.Filled.{Filled}
 use Rattle.vbi_line.specs.declared.intake.Filled.TheVariants.{Full, Ended}
 
@@ -75,11 +75,6 @@ pub record Extracts (t : Kind) (c : ConfigView) (input : Option (List ℕ)) (n :
   pub came : EndsBy t c input z text result
 
 module _ {R W : Type 0} where
-  -- an intake that has called no reader, for lines of this system, and an outlet that has called no writer
-  pub record AreFresh (system : System) (i : Intake R) (o : Outlet W) : Type 0 where
-    pub intake : IsFresh i system
-    pub outlet : outlets.IsFresh o
-
   -- the intake has the reader that it had, and the outlet the writer
   pub record AreSameDevices (i i' : Intake R) (o o' : Outlet W) : Type 0 where
     pub reader : IsSameDevice (counted_of i) (counted_of i')

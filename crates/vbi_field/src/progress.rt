@@ -61,7 +61,8 @@ pub(crate) struct Progress {
 }
 
 impl Progress {
-    ghost use Rattle.vbi_field.specs.Progress.{HoldsField, IsProgress, IsLineOf, IsWithin, MovesOneRow, Advances, AddsRow};
+    ghost use Rattle.vbi_field.specs.Progress.{HoldsField, IsProgress, IsLineOf, IsWithin, MovesOneRow};
+    ghost use Rattle.vbi_field.specs.Progress.{Advances, AddsRow};
 
     /// Whether the next row is line 16, 17 or 18.
     pub(crate) fn is_selected(&self) -> bool

@@ -5,10 +5,12 @@
 //! other two have no such room.
 ghost use Rattle.std.specs.Prelude.{◌≡◌, ◌⊎◌, ◌+◌, ◌*◌, ◌^◌, ◌≤◌, ◌++◌, [], length, take, drop, IsTrue, IfErr};
 ghost use Rattle.vbi_line.specs.{Counted.IsSameDevice, Intake.counted_of, Intake.held_of, Intake.line_of};
+ghost use Rattle.vbi_line.specs.{Intake.IsFresh};
 ghost use Rattle.vbi_field.specs.Texts.{document, recovered_document, report, recovered_report};
-ghost use Rattle.vbi_field.specs.{Extracts.AreFresh, Extracts.AreSameDevices, Extracts.IsAtLineStart, Extracts.Runs};
+ghost use Rattle.vbi_field.specs.{Extracts.AreSameDevices, Extracts.IsAtLineStart, Extracts.Runs};
 ghost use Rattle.vbi_field.specs.{Extracts.TakesLine, Extracts.EndsAtLimit, Ran.over, ConfigView.line_bytes};
-ghost use Rattle.vbi_field.specs.{Progress.HoldsOn, Progress.IsWithin, Outlet.CountedUpTo};
+ghost use Rattle.vbi_field.specs.{Progress.HoldsOn, Progress.IsWithin};
+ghost use Rattle.vbi_field.specs.Outlet as outlets;
 
 use crate::config::Config;
 use crate::document::Document;
@@ -83,7 +85,7 @@ fn end_at_limit<K: Kind, R: Read, W: Write>(
     requires line { IsAtLineStart config.now.system intake.old }
     requires passes { (line_of intake.old).cursors ≡ [] }
     requires looked { (line_of intake.old).looked ≤ 2 ^ 61 }
-    requires counts { CountedUpTo (2 ^ 62) outlet.old }
+    requires counts { outlets.CountedUpTo (2 ^ 62) outlet.old }
     ensures same { AreSameDevices intake.old intake.new outlet.old outlet.new }
     ensures ends { EndsAtLimit K.kind R.remaining W.contents progress.now.fields
         (progress.now.row * line_bytes config.now.system) intake.old intake.new outlet.old outlet.new result }
@@ -104,7 +106,8 @@ fn run<K: Kind, R: Read, W: Write>(
 ) -> Result<Summary, RunFault>
     requires room { IsTrue K.KEEPS → length held.old ≡ 3 * line_bytes config.now.system }
     requires no_more { IsTrue K.KEEPS ⊎ (length held.old ≡ 0) }
-    requires fresh { AreFresh config.now.system intake.old outlet.old }
+    requires intake { IsFresh intake.old config.now.system }
+    requires outlet { outlets.IsFresh outlet.old }
     ensures same { AreSameDevices intake.old intake.new outlet.old outlet.new }
     ensures run { Runs K.kind config.now (over R.remaining intake.old intake.new)
         (over W.contents outlet.old outlet.new) result }
@@ -137,7 +140,8 @@ pub fn extract<R: Read, W: Write>(
     intake: &mut Intake<R>,
     outlet: &mut Outlet<W>,
 ) -> Result<Summary, RunFault>
-    requires fresh { AreFresh config.now.system intake.old outlet.old }
+    requires intake { IsFresh intake.old config.now.system }
+    requires outlet { outlets.IsFresh outlet.old }
     ensures same { AreSameDevices intake.old intake.new outlet.old outlet.new }
     ensures run { Runs document config.now (over R.remaining intake.old intake.new)
         (over W.contents outlet.old outlet.new) result }
@@ -153,7 +157,8 @@ pub fn extract_recovered<R: Read, W: Write>(
     intake: &mut Intake<R>,
     outlet: &mut Outlet<W>,
 ) -> Result<Summary, RunFault>
-    requires fresh { AreFresh config.now.system intake.old outlet.old }
+    requires intake { IsFresh intake.old config.now.system }
+    requires outlet { outlets.IsFresh outlet.old }
     ensures same { AreSameDevices intake.old intake.new outlet.old outlet.new }
     ensures run { Runs recovered_document config.now (over R.remaining intake.old intake.new)
         (over W.contents outlet.old outlet.new) result }
@@ -170,7 +175,8 @@ pub fn show<R: Read, W: Write>(
     intake: &mut Intake<R>,
     outlet: &mut Outlet<W>,
 ) -> Result<Summary, RunFault>
-    requires fresh { AreFresh config.now.system intake.old outlet.old }
+    requires intake { IsFresh intake.old config.now.system }
+    requires outlet { outlets.IsFresh outlet.old }
     ensures same { AreSameDevices intake.old intake.new outlet.old outlet.new }
     ensures run { Runs report config.now (over R.remaining intake.old intake.new)
         (over W.contents outlet.old outlet.new) result }
@@ -184,7 +190,8 @@ pub fn show_recovered<R: Read, W: Write>(
     intake: &mut Intake<R>,
     outlet: &mut Outlet<W>,
 ) -> Result<Summary, RunFault>
-    requires fresh { AreFresh config.now.system intake.old outlet.old }
+    requires intake { IsFresh intake.old config.now.system }
+    requires outlet { outlets.IsFresh outlet.old }
     ensures same { AreSameDevices intake.old intake.new outlet.old outlet.new }
     ensures run { Runs recovered_report config.now (over R.remaining intake.old intake.new)
         (over W.contents outlet.old outlet.new) result }

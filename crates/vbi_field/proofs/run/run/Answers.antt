@@ -15,7 +15,7 @@ loop-row-init g c =
     let none = c.default-progress.ensures in
     record {
       pulled = start _ g.R.Read.remaining _ c.args.config.now c.args.intake.now c.args.outlet.now c.put.new.outlet
-          c.default-progress.result c.as_str.result.now c.requires.fresh.intake c.requires.fresh.outlet
+          c.default-progress.result c.as_str.result.now c.requires.intake c.requires.outlet
           (c.as_str.ensures.value ∙ c.head.ensures) c.as_str.ensures.fits c.in_ok-put.ensures.puts
           c.in_ok-put.ensures.ok c.in_ok-put.ensures.serves.no_error c.in_ok-put.ensures.serves.same none.0 none.1.0
           (rw (none.1.1.0, none.1.1.1.0, none.1.1.1.1) refl);
@@ -25,8 +25,8 @@ loop-row-init g c =
 
 pub returns-in_err-put-clause-run : goal.returns-in_err-put-clause-run
 returns-in_err-put-clause-run g c =
-    head_fault _ g.R.Read.remaining _ c.args.config.now c.args.intake.now _ _ c.as_str.result.now c.requires.fresh.intake
-    c.requires.fresh.outlet (c.as_str.ensures.value ∙ c.head.ensures) c.in_err-put.ensures.puts
+    head_fault _ g.R.Read.remaining _ c.args.config.now c.args.intake.now _ _ c.as_str.result.now c.requires.intake
+    c.requires.outlet (c.as_str.ensures.value ∙ c.head.ensures) c.in_err-put.ensures.puts
     c.in_err-put.ensures.serves.failed c.in_err-put.ensures.short c.from_residual.result (search rules)
 
 pub loop-row-preserved : goal.loop-row-preserved
