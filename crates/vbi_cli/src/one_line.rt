@@ -1,10 +1,9 @@
 //! The command `line`.
 
 ghost use Rattle.std.specs.Prelude.{◌≡◌};
-ghost use Rattle.vbi_line.specs.Counted.{IsSameDevice};
 ghost use Rattle.vbi_line.specs.Intake as intakes;
+ghost use Rattle.vbi_field.specs.{Extracts.AreSameDevices, Ran.over};
 ghost use Rattle.vbi_field.specs.Outlet as outlets;
-ghost use Rattle.vbi_field.specs.Ran.{over};
 ghost use Rattle.vbi_cli.specs.OneLine.{RunsLine, line_text};
 
 use arrayvec::ArrayString;
@@ -43,8 +42,7 @@ pub fn run_line<R: Read, W: Write>(
 ) -> Result<Outcome, LineFault>
     requires intake { intakes.IsFresh intake.old config.now.system }
     requires outlet { outlets.IsFresh outlet.old }
-    ensures same_reader { IsSameDevice (intakes.counted_of intake.old) (intakes.counted_of intake.new) }
-    ensures same_writer { IsSameDevice (outlets.counted_of outlet.old) (outlets.counted_of outlet.new) }
+    ensures same { AreSameDevices intake.old intake.new outlet.old outlet.new }
     ensures run { RunsLine config.now (over R.remaining intake.old intake.new)
         (over W.contents outlet.old outlet.new) result }
 {

@@ -5,6 +5,11 @@ use Rattle.vbi_field.proofs.Common.{join_by, flat_map, range_with_len, flat_map-
 use Rattle.vbi_field.proofs.Common.{ConfigView, fields_of, rows_at, joined_entry_of, Kind, List, append-nil, Bool, true}
 use Rattle.vbi_field.proofs.Common.{false}
 use Rattle.std.proofs.Math.Dec.{eqb-suc-zero}
+use Rattle.vbi_field.proofs.Common.{FieldReadings, codes}
+use Rattle.std.specs.Fmt.{decimal}
+use Rattle.vbi_field.specs.CodeTexts.{cause_text_of}
+use Rattle.vbi_field.specs.Document.{lines_of, record_of, value_of}
+use Rattle.vbi_field.specs.RecoveredDocument.{record_with}
 use Rattle.vbi_field.specs.Texts.{text_before_tail}
 use Rattle.vbi_field.proofs.Growing.{rows_at-more}
 
@@ -85,3 +90,13 @@ text_before_tail-stood t c z n e = ap (λ k. t.head c ++ join_by (entry_of t c z
 pub no_joint : (first : Bool) (entry : List ℕ) → (if first then [] else []) ++ entry ≡ entry
 no_joint true entry = refl
 no_joint false entry = refl
+
+-- a record with nothing after its passes is one of version 2
+pub plain_record : (n : ℕ) (readings : FieldReadings) → record_with n readings readings [] ≡ record_of n readings
+unfolding record_with record_of
+plain_record n readings =
+    ap (λ l. codes "{\"seqNo\":" ++ (l ++ codes "}")) (append-nil (decimal n
+    ++ lines_of (codes ",\"vbi\":{\"vbiData\":[") (λ line. decimal (value_of line.outcome)) (codes "]}") readings
+    ++ lines_of (codes ",\"vbiCause\":[") (λ line. codes "\"" ++ cause_text_of line.outcome ++ codes "\"")
+    (codes "]") readings
+    ++ lines_of (codes ",\"vbiPass\":[") (λ line. decimal line.pass) (codes "]") readings))

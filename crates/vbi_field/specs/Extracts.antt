@@ -1,11 +1,11 @@
 -- What `extract` and `show` do, by their answer, for a kind t of text: z are the bytes fetched, text is what was
 -- written, and n what was counted.
-use Rattle.std.specs.Prelude.{◌≡◌, ℕ, ◌+◌, ◌<◌, ◌≤◌, ◌⊎◌, List, [], ◌++◌, length, take, Option, Result, Ok, Err}
-use Rattle.std.specs.Prelude.{OnOk, IfOk, OnErr, IfErr}
+use Rattle.std.specs.Prelude.{◌≡◌, ℕ, ◌+◌, ◌^◌, ◌<◌, ◌≤◌, ◌⊎◌, List, [], ◌++◌, length, take, Option, Result, Ok}
+use Rattle.std.specs.Prelude.{Err, OnOk, IfOk, OnErr, IfErr}
 use Rattle.vbi_field.specs.Ran.{IsAtEnd, Counts, HasFailed, IsCalm, Ran, EndsInside, Summary, RunFault, Read, Write}
 use Rattle.vbi_field.specs.Ran.{TooManyFields, Failed, Use}
-use Rattle.vbi_field.specs.ConfigView.{line_bytes, field_bytes, ConfigView, allowed_bytes}
-use Rattle.vbi_field.specs.Outlet.{device_of, failures_of, NoError, HasCause, Outlet}
+use Rattle.vbi_field.specs.ConfigView.{line_bytes, field_bytes, ConfigView, System, allowed_bytes}
+use Rattle.vbi_field.specs.Outlet.{device_of, failures_of, NoError, HasCause, IsSameDevice, Outlet}
 use Rattle.vbi_line.specs.declared.intake.Intake.{Intake}
 use Rattle.vbi_field.specs.Outlet as outlets
 use Rattle.vbi_field.specs.Stream.{fields_of, rest_of, cut_of, looks_of}
@@ -74,6 +74,12 @@ pub record Extracts (t : Kind) (c : ConfigView) (input : Option (List ℕ)) (n :
   pub devices : FailsBy result n
   pub came : EndsBy t c input z text result
 
+module _ {R W : Type 0} where
+  -- the intake has the reader that it had, and the outlet the writer
+  pub record AreSameDevices (i i' : Intake R) (o o' : Outlet W) : Type 0 where
+    pub reader : IsSameDevice (counted_of i) (counted_of i')
+    pub writer : IsSameDevice (outlets.counted_of o) (outlets.counted_of o')
+
 -- what a fresh intake and a fresh outlet counted since
 abbrev pub counts_of : {R W : Type 0} → Intake R → Outlet W → Counts
 counts_of i o = record {
@@ -95,6 +101,13 @@ module _ {R W : Type 0} where
       n (Extracts t c input n result)
 
 -- ---- what a run does with the next line of a reader
+
+-- the intake holds nothing of the next line, which is one of this system, and what it has counted leaves room for more
+pub record IsAtLineStart {R : Type 0} (system : System) (i : Intake R) : Type 0 where
+  pub of_system : (line_of i).system ≡ system
+  pub empty : held_of i ≡ []
+  pub fetched : fetched_of i ≤ 2 ^ 62
+  pub failures : (failures_of (counted_of i)).all ≤ 2 ^ 62
 
 module _ {R : Type 0} (remaining : R → Option (List ℕ)) (old new : Intake R) where
   -- the rest of the stream, less than a line

@@ -1,7 +1,7 @@
 -- How far a stream has come in whole rows, as the code keeps it.
 use Rattle.std.specs.Prelude.{◌≡◌, ◌≢◌, ℕ, ◌+◌, ◌*◌, ◌<◌, ◌≤◌, ◌⊎◌, List, ◌++◌, length, Option, Some, None}
 use Rattle.std.specs.Prelude.{Result, Ok, Err, Bool, IsTrue}
-use Rattle.vbi_field.specs.ConfigView.{height_of, line_bytes, ConfigView, System}
+use Rattle.vbi_field.specs.ConfigView.{most_fields, height_of, line_bytes, ConfigView, System}
 use Rattle.vbi_field.specs.Stream.{row_levels, Reading, FieldReadings, reading_among, readings_at, reading_of}
 use Rattle.vbi_field.specs.Stream.{rows_in, rows_at, line_at}
 pub use Rattle.vbi_field.specs.declared.progress.PartialReadings.{PartialReadings}
@@ -21,6 +21,11 @@ pub record IsProgress (c : ConfigView) (z : List ℕ) (p : Progress) : Type 0 wh
   pub first : p.readings.first ≡ reading_among c z p.fields p.row 15
   pub second : p.readings.second ≡ reading_among c z p.fields p.row 16
   pub third : p.readings.third ≡ reading_among c z p.fields p.row 17
+
+-- no more fields are whole than a run may have, and the unfinished one lacks a row
+pub record IsWithin (c : ConfigView) (p : Progress) : Type 0 where
+  pub fields : p.fields ≤ most_fields
+  pub inside : p.row < height_of c.system
 
 -- b is a whole row, with this reading if its number in the field is 15, 16 or 17
 pub record IsLineOf (c : ConfigView) (b : List ℕ) (row : ℕ) (reading : Option Reading) : Type 0 where

@@ -1,6 +1,6 @@
 -- The report of `show`, and that with recovered words: a head line, four lines a whole field, and a last line; lists of
 -- ASCII codes.
-use Rattle.std.specs.Prelude.{ℕ, ◌+◌, List, [], ◌∷◌, ◌++◌, ◌==◌, if◌then◌else◌, codes, decimal}
+use Rattle.std.specs.Prelude.{ℕ, ◌+◌, List, [], ◌∷◌, ◌++◌, ◌==◌, Bool, true, false, if◌then◌else◌, codes, decimal}
 use Rattle.vbi_field.specs.ConfigView.{System, name_of, width_of, height_of, Slicing}
 use Rattle.vbi_field.specs.CodeTexts.{Outcome, Word, hex_text_of, code_text_of, cause_text_of}
 use Rattle.vbi_words.specs.declared.outcome.Reading.{Reading}
@@ -38,19 +38,25 @@ field_lines_of number readings first second third =
     codes "field " ++ decimal number ++ codes " " ++ format_text_of (format_of_lines words)
     ++ codes "\n16 " ++ first ++ codes "\n17 " ++ second ++ codes "\n18 " ++ third ++ codes "\n"
 
--- the four lines of a field with these readings
-abbrev pub report_entry_of : ℕ → FieldReadings → List ℕ
-report_entry_of number readings = field_lines_of number readings (shown_of readings.first.outcome)
-    (shown_of readings.second.outcome) (shown_of readings.third.outcome)
-
 -- the text after the number of a line, with a mark after a word of pass 3
 unfoldable pub marked_of : Reading → List ℕ
 marked_of line = shown_of line.outcome ++ (if line.pass == 3 then codes " (recovered)" else [])
 
--- the four lines of a field whose lines show this, with recovered words
+-- that text, if words of pass 3 are marked, and if they aren't
+abbrev pub line_text_of : Bool → Reading → List ℕ
+line_text_of marks line = if marks then marked_of line else shown_of line.outcome
+
+-- the four lines of a field whose lines show this
+abbrev pub entry_text_of : Bool → ℕ → FieldReadings → List ℕ
+entry_text_of marks number lines = field_lines_of number lines (line_text_of marks lines.first)
+    (line_text_of marks lines.second) (line_text_of marks lines.third)
+
+-- the same of a field with these readings, and of one with recovered words
+abbrev pub report_entry_of : ℕ → FieldReadings → List ℕ
+report_entry_of = entry_text_of false
+
 abbrev pub recovered_entry_of : ℕ → FieldReadings → List ℕ
-recovered_entry_of number lines =
-    field_lines_of number lines (marked_of lines.first) (marked_of lines.second) (marked_of lines.third)
+recovered_entry_of = entry_text_of true
 
 -- the last line, from the number of whole fields and the bytes of a field that was cut; 0 if none was
 unfoldable pub report_tail_of : ℕ → ℕ → List ℕ

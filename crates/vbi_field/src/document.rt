@@ -16,10 +16,10 @@
 //! Who changes the document changes its definition, the proof of `document_words` in `vbi_meta` (a JSON reader finds
 //! the words in it), share/schema/ldvbi.schema.json, docs/FORMATS.md, and the two modules of the Python package that
 //! write and read it. `version` is raised if those who read the document so far can't any more.
-ghost use Rattle.std.specs.Prelude.{false, ◌≡◌, ◌-◌, ◌^◌, ◌<◌, ◌≤◌, ◌++◌, codes, decimal, length};
+ghost use Rattle.std.specs.Prelude.{false, ◌≡◌, ◌-◌, ◌^◌, ◌<◌, ◌≤◌, [], ◌++◌, codes, decimal, length, if◌then◌else◌};
 ghost use Rattle.vbi_field.specs.CodeTexts.{cause_text_of};
 ghost use Rattle.vbi_field.specs.Document.{value_of, lines_of, parameters_of, tail_of};
-ghost use Rattle.vbi_field.specs.Texts.{document, plain_document, joined_reading_of};
+ghost use Rattle.vbi_field.specs.{RecoveredDocument.record_with, Texts.document};
 
 use crate::cause_texts::cause_text;
 use crate::config::Config;
@@ -44,7 +44,12 @@ impl Kind for Document {
     }
 
     fn entry(_config: &Config, before: u32, readings: &FieldReadings, _held: &[u8]) -> Text {
-        record_text(before, readings)
+        let field = FieldTexts {
+            lines: *readings,
+            causes: *readings,
+            nears: ArrayString::new(),
+        };
+        record_with(before == 0, before + 1, &field)
     }
 
     fn tail(fields: u32, rest: u32) -> Text {
@@ -97,7 +102,7 @@ pub(crate) fn head_text(version: &str, config: &Config) -> Text
 
 /// The three words, each its number or 0.
 #[tactic(auto, unfolding(crate::specs::Document::lines_of))]
-pub(crate) fn data_text(readings: &FieldReadings) -> ArrayString<56>
+fn data_text(readings: &FieldReadings) -> ArrayString<56>
     ensures { result.bytes
         ≡ lines_of (codes ",\"vbi\":{\"vbiData\":[") (λ line. decimal (value_of line.outcome))
         (codes "]}") readings.now }
@@ -126,7 +131,7 @@ fn quoted_cause(outcome: Outcome) -> ArrayString<18>
 
 /// The three causes.
 #[tactic(auto, unfolding(crate::specs::Document::lines_of))]
-pub(crate) fn causes_text(readings: &FieldReadings) -> ArrayString<72>
+fn causes_text(readings: &FieldReadings) -> ArrayString<72>
     ensures { result.bytes
         ≡ lines_of (codes ",\"vbiCause\":[") (λ line. codes "\"" ++ cause_text_of line.outcome ++ codes "\"")
         (codes "]") readings.now }
@@ -144,7 +149,7 @@ pub(crate) fn causes_text(readings: &FieldReadings) -> ArrayString<72>
 
 /// The three passes.
 #[tactic(auto, unfolding(crate::specs::Document::lines_of))]
-pub(crate) fn passes_text(readings: &FieldReadings) -> ArrayString<24>
+fn passes_text(readings: &FieldReadings) -> ArrayString<24>
     ensures { result.bytes
         ≡ lines_of (codes ",\"vbiPass\":[") (λ line. decimal line.pass) (codes "]") readings.now }
 {
@@ -159,21 +164,31 @@ pub(crate) fn passes_text(readings: &FieldReadings) -> ArrayString<24>
     text
 }
 
-/// The record of the field after this many others, with the joint before it unless it is the first.
-#[tactic(auto, unfolding(crate::specs::Document::record_of))]
-fn record_text(before: u32, readings: &FieldReadings) -> Text
-    requires { before < 2 ^ 32 - 1 }
-    ensures { result.bytes ≡ joined_reading_of plain_document before readings.now }
+/// What the record of a field has beside its number: its lines as they are shown, those whose causes are written, and
+/// the text of their nearest words, which a document without recovered words hasn't got.
+#[derive(Drop)]
+pub(crate) struct FieldTexts {
+    pub(crate) lines: FieldReadings,
+    pub(crate) causes: FieldReadings,
+    pub(crate) nears: ArrayString<256>,
+}
+
+/// The record of a field of this number, with the joint before it unless it is the first.
+#[tactic(auto, unfolding(crate::specs::RecoveredDocument::record_with))]
+pub(crate) fn record_with(is_first: bool, number: u32, field: &FieldTexts) -> Text
+    ensures { result.bytes ≡ (if is_first then [] else codes ",\n")
+        ++ record_with number field.now.lines field.now.causes field.now.nears.bytes }
 {
     let mut text = ArrayString::new();
-    if before != 0 {
+    if !is_first {
         text.push_str(",\n");
     }
     text.push_str("{\"seqNo\":");
-    push_number(&mut text, before + 1);
-    text.push_str(data_text(readings).as_str());
-    text.push_str(causes_text(readings).as_str());
-    text.push_str(passes_text(readings).as_str());
+    push_number(&mut text, number);
+    text.push_str(data_text(&field.lines).as_str());
+    text.push_str(causes_text(&field.causes).as_str());
+    text.push_str(passes_text(&field.lines).as_str());
+    text.push_str(field.nears.as_str());
     text.push_str("}");
     text
 }

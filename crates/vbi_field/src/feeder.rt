@@ -133,7 +133,7 @@ impl Feeder {
         Ok(Feeder {
             config,
             line: LineBuf::new(config.system()),
-            progress: Progress::new(),
+            progress: Progress::default(),
             has_failed: false,
         })
     }

@@ -16,8 +16,8 @@ use crate::texts::{Kind, put};
 use std::io::Write;
 use vbi_words::Reading;
 
-/// The readings of rows 15, 16 and 17 of a field, each once its row is whole.
-#[derive(Clone, Copy)]
+/// The readings of rows 15, 16 and 17 of a field, each once its row is whole: none by default.
+#[derive(Clone, Copy, Default)]
 pub(crate) struct PartialReadings {
     pub(crate) first: Option<Reading>,
     pub(crate) second: Option<Reading>,
@@ -26,17 +26,6 @@ pub(crate) struct PartialReadings {
 
 impl PartialReadings {
     ghost use Rattle.vbi_field.specs.Progress.{TakesReading, all_of};
-
-    /// The readings of a field of which none of the three rows is whole.
-    fn none() -> Self
-        ensures { result ≡ record { first = None; second = None; third = None } }
-    {
-        PartialReadings {
-            first: None,
-            second: None,
-            third: None,
-        }
-    }
 
     /// Puts the reading of a row in its place, if it has one.
     fn keep(&mut self, row: usize, reading: Option<Reading>)
@@ -63,7 +52,8 @@ impl PartialReadings {
 }
 
 /// The number of whole fields, the row of the unfinished one, counted from 0, and its finished readings. No samples.
-#[derive(Clone, Copy)]
+/// The default is that before the first row.
+#[derive(Clone, Copy, Default)]
 pub(crate) struct Progress {
     pub(crate) fields: u32,
     pub(crate) row: usize,
@@ -71,20 +61,8 @@ pub(crate) struct Progress {
 }
 
 impl Progress {
-    ghost use Rattle.vbi_field.specs.Progress.{HoldsField, IsProgress, IsLineOf, MovesOneRow, Advances, AddsRow};
-
-    /// Before the first row.
-    pub(crate) fn new() -> Self
-        ensures fields { result.fields ≡ 0 }
-        ensures row { result.row ≡ 0 }
-        ensures readings { result.readings ≡ record { first = None; second = None; third = None } }
-    {
-        Progress {
-            fields: 0,
-            row: 0,
-            readings: PartialReadings::none(),
-        }
-    }
+    ghost use Rattle.vbi_field.specs.Progress.{HoldsField, IsProgress, IsLineOf, IsWithin, MovesOneRow};
+    ghost use Rattle.vbi_field.specs.Progress.{Advances, AddsRow};
 
     /// Whether the next row is line 16, 17 or 18.
     pub(crate) fn is_selected(&self) -> bool
@@ -105,8 +83,7 @@ impl Progress {
     /// Takes the reading of the next row, if it is selected, and reports the readings of a field that is whole now.
     #[tactic(auto, using(crate::proofs::Growing::within_field, crate::proofs::Growing::past_field))]
     fn advance(&mut self, config: &Config, reading: Option<Reading>) -> Option<FieldReadings>
-        requires inside { self.old.row < height_of config.now.system }
-        requires few { self.old.fields ≤ most_fields }
+        requires { IsWithin config.now self.old }
         ensures inside { self.new.row < height_of config.now.system }
         ensures next { MovesOneRow config.now self.old self.new }
         ensures field { IfSome result (λ _. (self.new.fields ≡ self.old.fields + 1) × (self.new.row ≡ 0)) }
@@ -120,7 +97,7 @@ impl Progress {
         let whole = self.readings.all();
         self.row = 0;
         self.fields += 1;
-        self.readings = PartialReadings::none();
+        self.readings = PartialReadings::default();
         whole
     }
 

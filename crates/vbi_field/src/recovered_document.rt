@@ -10,7 +10,7 @@ ghost use Rattle.vbi_field.specs.RecoveredDocument.{recovered_record_of, recover
 ghost use Rattle.vbi_field.specs.{RecoveredRows.near_of, Stream.readings_of, Stream.rows_in, Texts.recovered_document};
 
 use crate::config::Config;
-use crate::document::{causes_text, data_text, head_text, passes_text, tail_text};
+use crate::document::{FieldTexts, head_text, record_with, tail_text};
 use crate::numbers::push_number;
 use crate::readings::FieldReadings;
 use crate::recovered_rows::{nearest_of_row, none_erased, shown_lines};
@@ -136,15 +136,6 @@ fn nears_text(
     text
 }
 
-/// What the record of a field has beside its number: its lines as they are shown, those whose causes are written, and
-/// the text of their nearest words.
-#[derive(Drop)]
-struct FieldTexts {
-    lines: FieldReadings,
-    causes: FieldReadings,
-    nears: ArrayString<256>,
-}
-
 /// What a record tells of a field, by the readings of its rows, their bytes and the marks of their erased columns.
 fn field_texts(
     config: &Config,
@@ -167,26 +158,6 @@ fn field_texts(
         causes,
         nears,
     }
-}
-
-/// The record of a field of this number, with the joint before it unless it is the first.
-#[tactic(auto, unfolding(crate::specs::RecoveredDocument::record_with))]
-fn record_with(is_first: bool, number: u32, field: &FieldTexts) -> Text
-    ensures { result.bytes ≡ (if is_first then [] else codes ",\n")
-        ++ record_with number field.now.lines field.now.causes field.now.nears.bytes }
-{
-    let mut text = ArrayString::new();
-    if !is_first {
-        text.push_str(",\n");
-    }
-    text.push_str("{\"seqNo\":");
-    push_number(&mut text, number);
-    text.push_str(data_text(&field.lines).as_str());
-    text.push_str(causes_text(&field.causes).as_str());
-    text.push_str(passes_text(&field.lines).as_str());
-    text.push_str(field.nears.as_str());
-    text.push_str("}");
-    text
 }
 
 /// The readings of a field's rows.

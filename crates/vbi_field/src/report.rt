@@ -5,8 +5,7 @@ ghost use Rattle.vbi_words.specs.Geometry.{line_bytes};
 ghost use Rattle.arrayvec.specs.ArrayString.{array_string_len};
 ghost use Rattle.vbi_field.specs.Texts.{report, recovered_report, joined_entry_of};
 ghost use Rattle.vbi_field.specs.Stream.{rows_in, readings_of};
-ghost use Rattle.vbi_field.specs.Report.{report_head_of, report_entry_of, report_tail_of, shown_of, format_text_of};
-ghost use Rattle.vbi_field.specs.Report.{field_lines_of, marked_of, recovered_entry_of};
+ghost use Rattle.vbi_field.specs.Report.{report_head_of, report_tail_of, format_text_of, line_text_of, entry_text_of};
 
 use crate::cause_texts::cause_text;
 use crate::code_texts::{code_text, hex_text};
@@ -33,7 +32,7 @@ impl Kind for Report {
     }
 
     fn entry(_config: &Config, before: u32, readings: &FieldReadings, _held: &[u8]) -> Text {
-        report_entry(before + 1, readings)
+        entry_text(before + 1, readings, false)
     }
 
     fn tail(fields: u32, rest: u32) -> Text {
@@ -57,7 +56,7 @@ impl Kind for RecoveredReport {
 
     fn entry(config: &Config, before: u32, readings: &FieldReadings, held: &[u8]) -> Text {
         let lines = shown_lines(config, readings, held, none_erased(config));
-        recovered_entry(before + 1, &lines)
+        entry_text(before + 1, &lines, true)
     }
 
     fn tail(fields: u32, rest: u32) -> Text {
@@ -98,53 +97,34 @@ fn format_name(format: Format) -> &'static str
     }
 }
 
-/// The text after the number of a line.
-#[tactic(auto, unfolding(crate::specs::Report::shown_of))]
-fn shown_text(outcome: Outcome) -> ArrayString<31>
-    ensures { result.bytes ≡ shown_of outcome }
+/// The text after the number of a line, with a mark after a word of pass 3 if such words are to be marked.
+#[tactic(auto, unfolding(crate::specs::Report::shown_of, crate::specs::Report::marked_of))]
+fn line_text(line: &Reading, marks: bool) -> ArrayString<43>
+    ensures { result.bytes ≡ line_text_of marks line.now }
 {
     let mut text = ArrayString::new();
-    match outcome {
+    match line.outcome {
         Outcome::Word(word) => {
             text.push_str(hex_text(word).as_str());
             text.push_str(" ");
             text.push_str(code_text(classify(word)).as_str());
         }
-        _ => {
+        outcome => {
             text.push_str("none ");
             text.push_str(cause_text(outcome).as_str());
         }
     }
-    text
-}
-
-/// The text after the number of a line, with a mark after a word of pass 3.
-#[tactic(auto, unfolding(crate::specs::Report::marked_of))]
-fn marked_text(line: &Reading) -> ArrayString<43>
-    ensures { result.bytes ≡ marked_of line.now }
-{
-    let mut text = ArrayString::new();
-    text.push_str(shown_text(line.outcome).as_str());
-    if line.pass == 3 {
+    if marks && line.pass == 3 {
         text.push_str(" (recovered)");
     }
     text
 }
 
-/// The four lines of the whole field of this number, counted from 1, by its readings and the texts after the numbers
-/// of its lines.
+/// The four lines of the whole field of this number, counted from 1, whose lines show this. Words of pass 3 are marked
+/// in the report with recovered words.
 #[tactic(auto, unfolding(crate::specs::Report::field_lines_of))]
-fn field_lines(
-    number: u32,
-    readings: &FieldReadings,
-    first: &str,
-    second: &str,
-    third: &str,
-) -> Text
-    requires first { length first.now ≤ 43 }
-    requires second { length second.now ≤ 43 }
-    requires third { length third.now ≤ 43 }
-    ensures { result.bytes ≡ field_lines_of number readings.now first.now second.now third.now }
+fn entry_text(number: u32, readings: &FieldReadings, marks: bool) -> Text
+    ensures { result.bytes ≡ entry_text_of marks number readings.now }
 {
     let words = [
         readings.first.outcome.word(),
@@ -157,39 +137,13 @@ fn field_lines(
     text.push_str(" ");
     text.push_str(format_name(format_of(&words)));
     text.push_str("\n16 ");
-    text.push_str(first);
+    text.push_str(line_text(&readings.first, marks).as_str());
     text.push_str("\n17 ");
-    text.push_str(second);
+    text.push_str(line_text(&readings.second, marks).as_str());
     text.push_str("\n18 ");
-    text.push_str(third);
+    text.push_str(line_text(&readings.third, marks).as_str());
     text.push_str("\n");
     text
-}
-
-/// The four lines of a field that is read so.
-pub(crate) fn report_entry(number: u32, readings: &FieldReadings) -> Text
-    ensures { result.bytes ≡ report_entry_of number readings.now }
-{
-    field_lines(
-        number,
-        readings,
-        shown_text(readings.first.outcome).as_str(),
-        shown_text(readings.second.outcome).as_str(),
-        shown_text(readings.third.outcome).as_str(),
-    )
-}
-
-/// The four lines of a field whose lines show this, with recovered words.
-fn recovered_entry(number: u32, lines: &FieldReadings) -> Text
-    ensures { result.bytes ≡ recovered_entry_of number lines.now }
-{
-    field_lines(
-        number,
-        lines,
-        marked_text(&lines.first).as_str(),
-        marked_text(&lines.second).as_str(),
-        marked_text(&lines.third).as_str(),
-    )
 }
 
 /// The last line, from the number of whole fields and the bytes past them, which are those of a cut last field.

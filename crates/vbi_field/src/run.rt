@@ -3,13 +3,13 @@
 //! `run` is the one loop, over the kind of text (`Kind`, texts.rt). A line is read into the intake's one array. The
 //! kinds with recovered words keep the bytes of rows 15, 16 and 17 besides, in room that their caller here has; the
 //! other two have no such room.
-ghost use Rattle.std.specs.Prelude.{◌≡◌, ◌⊎◌, ◌+◌, ◌*◌, ◌^◌, ◌<◌, ◌≤◌, ◌++◌, [], length, take, drop, IsTrue, IfErr};
-ghost use Rattle.vbi_line.specs.{Counted.failures_of, Counted.IsSameDevice, Intake.fetched_of, Intake.held_of};
-ghost use Rattle.vbi_line.specs.{Intake.line_of, Intake.IsFresh};
-ghost use Rattle.vbi_line.specs.Intake as intakes;
+ghost use Rattle.std.specs.Prelude.{◌≡◌, ◌⊎◌, ◌+◌, ◌*◌, ◌^◌, ◌≤◌, ◌++◌, [], length, take, drop, IsTrue, IfErr};
+ghost use Rattle.vbi_line.specs.{Counted.IsSameDevice, Intake.counted_of, Intake.held_of, Intake.line_of};
+ghost use Rattle.vbi_line.specs.{Intake.IsFresh};
 ghost use Rattle.vbi_field.specs.Texts.{document, recovered_document, report, recovered_report};
-ghost use Rattle.vbi_field.specs.{Ran.over, Extracts.Runs, Extracts.TakesLine, Extracts.EndsAtLimit, Progress.HoldsOn};
-ghost use Rattle.vbi_field.specs.{ConfigView.most_fields, ConfigView.height_of, ConfigView.line_bytes};
+ghost use Rattle.vbi_field.specs.{Extracts.AreSameDevices, Extracts.IsAtLineStart, Extracts.Runs};
+ghost use Rattle.vbi_field.specs.{Extracts.TakesLine, Extracts.EndsAtLimit, Ran.over, ConfigView.line_bytes};
+ghost use Rattle.vbi_field.specs.{Progress.HoldsOn, Progress.IsWithin};
 ghost use Rattle.vbi_field.specs.Outlet as outlets;
 
 use crate::config::Config;
@@ -29,13 +29,9 @@ fn fill_line<R: Read>(
     progress: &Progress,
     intake: &mut Intake<R>,
 ) -> Result<Filled, RunFault>
-    requires fields { progress.now.fields ≤ most_fields }
-    requires inside { progress.now.row < height_of config.now.system }
-    requires system { (line_of intake.old).system ≡ config.now.system }
-    requires empty { held_of intake.old ≡ [] }
-    requires fetched { fetched_of intake.old ≤ 2 ^ 62 }
-    requires failures { (failures_of (intakes.counted_of intake.old)).all ≤ 2 ^ 62 }
-    ensures same { IsSameDevice (intakes.counted_of intake.old) (intakes.counted_of intake.new) }
+    requires within { IsWithin config.now progress.now }
+    requires line { IsAtLineStart config.now.system intake.old }
+    ensures same { IsSameDevice (counted_of intake.old) (counted_of intake.new) }
     ensures takes { TakesLine R.remaining intake.old intake.new result }
     ensures fault { IfErr result (λ e. e ≡ RunFault.Read (progress.now.fields + 1)
         (progress.now.row * line_bytes config.now.system + length (held_of intake.new))) }
@@ -85,17 +81,12 @@ fn end_at_limit<K: Kind, R: Read, W: Write>(
     intake: &mut Intake<R>,
     outlet: &mut Outlet<W>,
 ) -> Result<Summary, RunFault>
-    requires fields { progress.now.fields ≤ most_fields }
-    requires inside { progress.now.row < height_of config.now.system }
-    requires system { (line_of intake.old).system ≡ config.now.system }
-    requires empty { held_of intake.old ≡ [] }
+    requires within { IsWithin config.now progress.now }
+    requires line { IsAtLineStart config.now.system intake.old }
     requires passes { (line_of intake.old).cursors ≡ [] }
     requires looked { (line_of intake.old).looked ≤ 2 ^ 61 }
-    requires fetched { fetched_of intake.old ≤ 2 ^ 62 }
-    requires reads { (failures_of (intakes.counted_of intake.old)).all ≤ 2 ^ 62 }
     requires counts { outlets.CountedUpTo (2 ^ 62) outlet.old }
-    ensures same_reader { IsSameDevice (intakes.counted_of intake.old) (intakes.counted_of intake.new) }
-    ensures same_writer { IsSameDevice (outlets.counted_of outlet.old) (outlets.counted_of outlet.new) }
+    ensures same { AreSameDevices intake.old intake.new outlet.old outlet.new }
     ensures ends { EndsAtLimit K.kind R.remaining W.contents progress.now.fields
         (progress.now.row * line_bytes config.now.system) intake.old intake.new outlet.old outlet.new result }
 {
@@ -117,13 +108,12 @@ fn run<K: Kind, R: Read, W: Write>(
     requires no_more { IsTrue K.KEEPS ⊎ (length held.old ≡ 0) }
     requires intake { IsFresh intake.old config.now.system }
     requires outlet { outlets.IsFresh outlet.old }
-    ensures same_reader { IsSameDevice (intakes.counted_of intake.old) (intakes.counted_of intake.new) }
-    ensures same_writer { IsSameDevice (outlets.counted_of outlet.old) (outlets.counted_of outlet.new) }
+    ensures same { AreSameDevices intake.old intake.new outlet.old outlet.new }
     ensures run { Runs K.kind config.now (over R.remaining intake.old intake.new)
         (over W.contents outlet.old outlet.new) result }
 {
     put(outlet, K::head(config).as_str())?;
-    let mut progress = Progress::new();
+    let mut progress = Progress::default();
     // Rows of the whole stream; `progress` counts those of a field.
     for row in 0..config.row_limit() {
         match fill_line(config, &progress, intake)? {
@@ -152,8 +142,7 @@ pub fn extract<R: Read, W: Write>(
 ) -> Result<Summary, RunFault>
     requires intake { IsFresh intake.old config.now.system }
     requires outlet { outlets.IsFresh outlet.old }
-    ensures same_reader { IsSameDevice (intakes.counted_of intake.old) (intakes.counted_of intake.new) }
-    ensures same_writer { IsSameDevice (outlets.counted_of outlet.old) (outlets.counted_of outlet.new) }
+    ensures same { AreSameDevices intake.old intake.new outlet.old outlet.new }
     ensures run { Runs document config.now (over R.remaining intake.old intake.new)
         (over W.contents outlet.old outlet.new) result }
 {
@@ -170,8 +159,7 @@ pub fn extract_recovered<R: Read, W: Write>(
 ) -> Result<Summary, RunFault>
     requires intake { IsFresh intake.old config.now.system }
     requires outlet { outlets.IsFresh outlet.old }
-    ensures same_reader { IsSameDevice (intakes.counted_of intake.old) (intakes.counted_of intake.new) }
-    ensures same_writer { IsSameDevice (outlets.counted_of outlet.old) (outlets.counted_of outlet.new) }
+    ensures same { AreSameDevices intake.old intake.new outlet.old outlet.new }
     ensures run { Runs recovered_document config.now (over R.remaining intake.old intake.new)
         (over W.contents outlet.old outlet.new) result }
 {
@@ -189,8 +177,7 @@ pub fn show<R: Read, W: Write>(
 ) -> Result<Summary, RunFault>
     requires intake { IsFresh intake.old config.now.system }
     requires outlet { outlets.IsFresh outlet.old }
-    ensures same_reader { IsSameDevice (intakes.counted_of intake.old) (intakes.counted_of intake.new) }
-    ensures same_writer { IsSameDevice (outlets.counted_of outlet.old) (outlets.counted_of outlet.new) }
+    ensures same { AreSameDevices intake.old intake.new outlet.old outlet.new }
     ensures run { Runs report config.now (over R.remaining intake.old intake.new)
         (over W.contents outlet.old outlet.new) result }
 {
@@ -205,8 +192,7 @@ pub fn show_recovered<R: Read, W: Write>(
 ) -> Result<Summary, RunFault>
     requires intake { IsFresh intake.old config.now.system }
     requires outlet { outlets.IsFresh outlet.old }
-    ensures same_reader { IsSameDevice (intakes.counted_of intake.old) (intakes.counted_of intake.new) }
-    ensures same_writer { IsSameDevice (outlets.counted_of outlet.old) (outlets.counted_of outlet.new) }
+    ensures same { AreSameDevices intake.old intake.new outlet.old outlet.new }
     ensures run { Runs recovered_report config.now (over R.remaining intake.old intake.new)
         (over W.contents outlet.old outlet.new) result }
 {

@@ -26,10 +26,7 @@ fn hex_value(text: &[u8]) -> Option<u32>
 {
     let mut value = 0u32;
     for byte in text {
-        let Some(digit) = char::from(*byte).to_digit(16) else {
-            return None;
-        };
-        value = value * 16 + digit;
+        value = value * 16 + char::from(*byte).to_digit(16)?;
     }
     Some(value)
 }
@@ -73,26 +70,19 @@ fn join_items(
 ) -> Option<WordRow>
     ensures { result ≡ row_of_items first second third }
 {
-    match (first, second, third) {
-        (Some(first), Some(second), Some(third)) => Some(WordRow {
-            first,
-            second,
-            third,
-        }),
-        _ => None,
-    }
+    Some(WordRow {
+        first: first?,
+        second: second?,
+        third: third?,
+    })
 }
 
 /// The words that a row without its newline stands for, or `None` if it is malformed.
 pub(crate) fn read_word_row(row: &[u8]) -> Option<WordRow>
     ensures { result ≡ word_row_of row.now }
 {
-    let Some((first, rest)) = cut_at_space(row) else {
-        return None;
-    };
-    let Some((second, third)) = cut_at_space(rest) else {
-        return None;
-    };
+    let (first, rest) = cut_at_space(row)?;
+    let (second, third) = cut_at_space(rest)?;
     match cut_at_space(third) {
         // A third space: four items, or an empty one.
         Some(_) => None,

@@ -11,15 +11,17 @@ use Rattle.vbi_field.proofs.Pulled.{start}
 use Rattle.vbi_field.proofs.run.run.Goals as goal
 
 pub loop-row-init : goal.loop-row-init
-loop-row-init g c = record {
-  pulled = start _ g.R.Read.remaining _ c.args.config.now c.args.intake.now c.args.outlet.now c.put.new.outlet
-      c.new-progress.result c.as_str.result.now c.requires.intake c.requires.outlet
-      (c.as_str.ensures.value ∙ c.head.ensures) c.as_str.ensures.fits c.in_ok-put.ensures.puts
-      c.in_ok-put.ensures.ok c.in_ok-put.ensures.serves.no_error c.in_ok-put.ensures.serves.same
-      c.new-progress.ensures.fields c.new-progress.ensures.row c.new-progress.ensures.readings;
-  long = refl;
-  holds = λ keeps. holds_none c.args.config.now _ _ _ _ c.new-progress.ensures.row;
-}
+loop-row-init g c =
+    let none = c.default-progress.ensures in
+    record {
+      pulled = start _ g.R.Read.remaining _ c.args.config.now c.args.intake.now c.args.outlet.now c.put.new.outlet
+          c.default-progress.result c.as_str.result.now c.requires.intake c.requires.outlet
+          (c.as_str.ensures.value ∙ c.head.ensures) c.as_str.ensures.fits c.in_ok-put.ensures.puts
+          c.in_ok-put.ensures.ok c.in_ok-put.ensures.serves.no_error c.in_ok-put.ensures.serves.same none.0 none.1.0
+          (rw (none.1.1.0, none.1.1.1.0, none.1.1.1.1) refl);
+      long = refl;
+      holds = λ keeps. holds_none c.args.config.now _ _ _ _ none.1.0;
+    }
 
 pub returns-in_err-put-clause-run : goal.returns-in_err-put-clause-run
 returns-in_err-put-clause-run g c =

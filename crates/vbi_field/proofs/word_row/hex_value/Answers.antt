@@ -12,4 +12,4 @@ pub overflow_add-value : goal.overflow_add-value
 overflow_add-value c =
     let short : c.loop-byte.byte-index ≤ 5 = omega arith in
     let le : 16 ^ c.loop-byte.byte-index ≤ 16 ^ 5 = pow-le-pow_right (lit< tt) short in
-    omega (arith, c.loop-byte.invariant.2, c.in-Some.ensures.value.0, c.in-Some.ensures.value.1)
+    omega (arith, c.loop-byte.invariant.2, c.in_ok-value.ensures.value.0, c.in_ok-value.ensures.value.1)

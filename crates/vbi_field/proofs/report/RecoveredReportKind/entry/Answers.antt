@@ -14,6 +14,6 @@ returns c = λ rows reads kept.
     ∙ ap (λ (marks : List Bool). as_readings (recovery_of cfg.system cfg.levels c.args.held.now marks))
     c.none_erased.ensures
     ∙ ap (λ (l : List ℕ). as_readings (recovery_of cfg.system cfg.levels l (none_erased cfg.system))) same in
-    c.recovered_entry.ensures
+    c.entry_text.ensures
     ∙ ap (recovered_entry_of (c.args.before + 1)) lines
     ∙ sym (no_joint (c.args.before == 0) _)
