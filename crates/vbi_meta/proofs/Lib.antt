@@ -1,4 +1,5 @@
 mod Common
+pub mod BytesOf
 pub mod DocumentReadings
 pub mod DocumentReads
 pub mod DocumentTexts

@@ -14,7 +14,7 @@ use Rattle.vbi_meta.proofs.DocumentReads.{few_fields}
 use Rattle.vbi_meta.proofs.DocumentTexts.{tokens_of, head_with, plain_head, document_json, pieces, pieces_tokens}
 use Rattle.vbi_meta.proofs.DocumentTexts.{pieces_gaps, pieces_print}
 use Rattle.vbi_meta.proofs.LineFeeds.{tokens-line_feed}
-use Rattle.vbi_meta.proofs.PlainBytes.{Plain, then, known, count}
+use Rattle.vbi_meta.proofs.{BytesOf.then, PlainBytes.Plain, PlainBytes.known, PlainBytes.count}
 use Rattle.vbi_meta.proofs.PlainTokens.{ArePlainTokens, IsPlainReading, ArePlainReadings, printed, field_tree}
 use Rattle.vbi_meta.proofs.PlainTokens.{document_tokens}
 use Rattle.vbi_meta.proofs.ShownLines.{IsShown, short_row, short_levels, field_shown}

@@ -8,7 +8,8 @@ use Rattle.json.specs.Json as json
 use Rattle.json.specs.Print.{escape_byte, begins}
 use Rattle.json.specs.Spaced.{print_spaced}
 use Rattle.vbi_meta.proofs.DocumentTexts.{tokens_of, Records, parameters_json, cut_json, entries_json, document_json}
-use Rattle.vbi_meta.proofs.PlainBytes.{Plain, then, known, are_plain, count}
+use Rattle.vbi_meta.proofs.BytesOf.{then, are}
+use Rattle.vbi_meta.proofs.PlainBytes.{Plain, is_plain, known, count}
 use Rattle.vbi_meta.proofs.RecordTexts.{Pieces, count_json, lines_json, words_json, record_json}
 
 -- the token is printed in plain bytes, and is no number or a small one
@@ -76,7 +77,7 @@ array_tree h = record { all = ((known (codes "[") refl, tt), h.all) }
 no_member : Members json.no_members
 no_member = record { all = ((known (codes "}") refl, tt), tt) }
 
-with_member : (k : List ℕ) → are_plain (quoted k ++ 58 ∷ []) ≡ true → {j : json.Json} {ms : json.Members} → Tree j
+with_member : (k : List ℕ) → are is_plain (quoted k ++ 58 ∷ []) ≡ true → {j : json.Json} {ms : json.Members} → Tree j
     → Members ms → Members (json.member k j ms)
 with_member k plain {j} {ms} one rest = grind (arith, known, append)
 

@@ -7,7 +7,7 @@ use Rattle.std.specs.Prelude.{All}
 use Rattle.vbi_field.specs.Document.{lines_of}
 use Rattle.vbi_field.specs.RecoveredDocument.{near_text_of, nears_text_of, record_with}
 use Rattle.vbi_meta.proofs.FieldWrites.{rows_written}
-use Rattle.vbi_meta.proofs.PrintedBytes.{Printed, then, known, count}
+use Rattle.vbi_meta.proofs.{BytesOf.then, PrintedBytes.Printed, PrintedBytes.known, PrintedBytes.count}
 use Rattle.vbi_meta.proofs.RecordTexts.{LineList, list_of, word_list, cause_list, pass_list}
 use Rattle.vbi_meta.proofs.RecoveredLines.{either}
 use Rattle.vbi_meta.proofs.ShownLines.{IsShown, AreShown}

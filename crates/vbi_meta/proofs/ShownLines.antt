@@ -14,7 +14,7 @@ use Rattle.vbi_field.specs.ConfigView.{line_bytes}
 use Rattle.vbi_words.specs.Outcomes.{FirstHopeless, IsOutcome}
 use Rattle.vbi_words.specs.Readings.{Reads}
 use Rattle.vbi_line.specs.OneReading.{reading_of}
-use Rattle.vbi_meta.proofs.PrintedBytes.{Printed, then, known, count}
+use Rattle.vbi_meta.proofs.{BytesOf.then, PrintedBytes.Printed, PrintedBytes.known, PrintedBytes.count}
 
 -- a reading that a line of a stream can have
 pub record IsShown (reading : Reading) : Type 0 where
