@@ -7,7 +7,7 @@ use Rattle.std.proofs.lemmas.Bool.Decides.{leb_tells, eqb_tells}
 use Rattle.std.proofs.lemmas.List.FromFn.{length-map-range_with_len}
 use Rattle.vbi_c.specs.Types.{Clock, Video, Sightings}
 use Rattle.vbi_side.specs.Beliefs.{window_weight}
-use Rattle.vbi_whole.specs.CleanRuns.{IsReadTwice, IsOneOfThree}
+use Rattle.vbi_whole.specs.CleanRuns.{IsReadTwice, IsCleanRun}
 use Rattle.vbi_side.specs.Clocks.{kept}
 use Rattle.vbi_side.specs.Paces.{fits}
 use Rattle.vbi_side.specs.Sightings.{Shows}
@@ -34,23 +34,22 @@ same_field numbers field k i inside within =
     (omega arith))
 
 module _ (numbers : Numbers) (clock : Clock) (number : ℕ → ℕ) (begin last : ℕ)
-    (each : (p : ℕ) → p ≤ last → IsReadTwice (shown_of numbers) (begin + 2 * p) (number p))
-    (others : (i n : ℕ) → Shows (slice_get (shown_of numbers) i) n
-    → (p : ℕ) × (p ≤ last) × (i ≡ begin + 2 * p))
-    (three : (p : ℕ) → p ≤ last → IsOneOfThree number last p)
-    (steps : (p : ℕ) → p ≤ last → kept clock (number p) ≡ kept clock (number 0) + p) where
+    (run : IsCleanRun clock number (shown_of numbers) begin last) where
   -- ---- the run
 
   -- its last field is one of the side
   pub inside : begin + 2 * last < numbers.side.count
   inside = omega (
     arith,
-    shown_within (shown_of numbers) (begin + 2 * last) (number last) (each last (omega arith)).1,
+    shown_within (shown_of numbers) (begin + 2 * last) (number last) (run.read.each last (omega arith)).1,
     length-map-range_with_len (shown_at numbers) 0 numbers.side.count,
   )
 
   pub two_more : 2 ≤ last
-  two_more = let (q, from, to, within, one, two) = three 0 (omega arith) in omega (arith, within)
+  two_more = let (q, from, to, within, one, two) = run.three 0 (omega arith) in omega (arith, within)
+
+  steps : (p : ℕ) → p ≤ last → kept clock (number p) ≡ kept clock (number 0) + p
+  steps p low = (run.keeps p low).0
 
   -- a greater number is a later picture's
   in_order : (p r : ℕ) → p ≤ last → r ≤ last → number p < number r → p < r
@@ -87,7 +86,7 @@ module _ (numbers : Numbers) (clock : Clock) (number : ℕ → ℕ) (begin last 
         shown_within (part numbers field k) i n shown,
         length-map-range_with_len (shown_at numbers) field k,
       ) in
-      let (p, low, at, is) = shown_is number (shown_of numbers) begin last each others three (field + i) n
+      let (p, low, at, is) = shown_is number (shown_of numbers) begin last run.read.each run.read.others run.three (field + i) n
       (subst (λ o. Shows o n) (same_field numbers field k i less within) shown) in
       (p, low, at, is, less)
 
@@ -113,7 +112,7 @@ module _ (numbers : Numbers) (clock : Clock) (number : ℕ → ℕ) (begin last 
       → field + k ≤ numbers.side.count → p ≤ last
       → IsReadTwice (part numbers field k) (begin + 2 * p - field) (number p)
   part_twice field k p from to within low =
-      let ((seen, at, first, second, same), shown) = each p low in
+      let ((seen, at, first, second, same), shown) = run.read.each p low in
       let place : field + (begin + 2 * p - field) ≡ begin + 2 * p = omega (arith, from) in
       let here = same_field numbers field k (begin + 2 * p - field) (omega (arith, from, to)) within
       ∙ ap (λ (j : ℕ). slice_get (shown_of numbers) j) place in
@@ -141,13 +140,13 @@ module _ (numbers : Numbers) (clock : Clock) (number : ℕ → ℕ) (begin last 
   pair_from : (p : ℕ) → p + 1 ≤ last
       → (r : ℕ) × (p ≤ r) × (r ≤ p + 1) × (r + 1 ≤ last) × (number (r + 1) ≡ number r + 1) × (p ≡ 0 → r ≡ 0)
   pair_from p low =
-      let (q, from, to, within, one, two) = three p (omega (arith, low)) in
+      let (q, from, to, within, one, two) = run.three p (omega (arith, low)) in
       elim (eqb_tells q p) [
         | inl (t, same) ↦ itself (ap (λ (x : ℕ). number (x + 1)) (sym same) ∙ one ∙ ap (λ (x : ℕ). number x + 1) same)
         | inr (f, other) ↦ elim (eqb_tells (q + 1) p) [
           | inl (t, same) ↦ itself (middle q same one two)
           | inr (g, more) ↦
-              let (h, begins, ends, room, first, second) = three (p + 1) low in
+              let (h, begins, ends, room, first, second) = run.three (p + 1) low in
               elim (eqb_tells h p) [
                 | inl (t, same) ↦ itself
                     (ap (λ (x : ℕ). number (x + 1)) (sym same) ∙ first ∙ ap (λ (x : ℕ). number x + 1) same)

@@ -1,17 +1,16 @@
 -- A search on a clean run finds each of its numbers.
 use Rattle.std.proofs.Common.{◌≡◌, ◌≢◌, ℕ, ◌+◌, ◌*◌, ◌-◌, ◌/◌, ◌<◌, ◌≤◌, List, refl, arith, ap, sym}
 use Rattle.std.proofs.Common.{subst, inl, inr, min}
-use Rattle.std.specs.Prelude.{◌⊎◌, slice_get}
+use Rattle.std.specs.Prelude.{◌⊎◌}
 use Rattle.std.proofs.lemmas.Bool.Decides.{leb_tells, eqb_tells}
 use Rattle.vbi_c.specs.Types.{System, Ntsc, Pal, Clock, Plain, Counted, Times, Number, Pace, Video, Sightings, Given}
 use Rattle.vbi_c.specs.Types.{Found}
 use Rattle.vbi_side.specs.Beliefs.{reach, Believed}
-use Rattle.vbi_whole.specs.CleanRuns.{IsReadTwice, IsOneOfThree}
+use Rattle.vbi_whole.specs.CleanRuns.{IsReadTwice, IsCleanRun}
 use Rattle.vbi_side.specs.Clocks.{kept}
 use Rattle.vbi_side.specs.DueNumbers.{Due}
 use Rattle.vbi_side.specs.PaceSearch.{IsFound}
 use Rattle.vbi_side.specs.Numbers.{believed, doubtful_of, IsKnown}
-use Rattle.vbi_side.specs.Sightings.{Shows}
 use Rattle.vbi_whole.proofs.CleanRuns.{all_believed, finds_video}
 use Rattle.vbi_side.proofs.Counting.{plain}
 use Rattle.vbi_side.proofs.Filling.{unlike, not_due}
@@ -41,20 +40,16 @@ three_inside begin last q first many count much low inside (inr before) (inr aft
     omega (arith, much, low, inside, before, after)
 
 module _ (numbers : Numbers) (clock : Clock) (number : ℕ → ℕ) (begin last : ℕ)
-    (each : (p : ℕ) → p ≤ last → IsReadTwice (shown_of numbers) (begin + 2 * p) (number p))
-    (others : (i n : ℕ) → Shows (slice_get (shown_of numbers) i) n
-    → (p : ℕ) × (p ≤ last) × (i ≡ begin + 2 * p))
-    (three : (p : ℕ) → p ≤ last → IsOneOfThree number last p)
-    (steps : (p : ℕ) → p ≤ last → kept clock (number p) ≡ kept clock (number 0) + p) where
+    (run : IsCleanRun clock number (shown_of numbers) begin last) where
   in_count : begin + 2 * last < numbers.side.count
-  in_count = inside numbers clock number begin last each others three steps
+  in_count = inside numbers clock number begin last run
 
   much : 2 ≤ last
-  much = two_more numbers clock number begin last each others three steps
+  much = two_more numbers clock number begin last run
 
   believed_at : (p : ℕ) → p ≤ last → Believed Video (shown_of numbers) (begin + 2 * p) (number p)
-  believed_at p low = all_believed number (shown_of numbers) begin last each others three (begin + 2 * p)
-      (number p) (each p low).1
+  believed_at p low = all_believed number (shown_of numbers) begin last run.read.each run.read.others run.three (begin + 2 * p)
+      (number p) (run.read.each p low).1
 
   -- ---- the fields before the one with the number have others
 
@@ -82,7 +77,7 @@ module _ (numbers : Numbers) (clock : Clock) (number : ℕ → ℕ) (begin last 
       let b : Believed Video (shown_of numbers) earlier.field earlier.number = leaves.first in
       let on : i + 2 * earlier.number ≡ earlier.field + 2 * n = leaves.on in
       let before : earlier.field < i = leaves.before in
-      let (p, low, at) = others earlier.field earlier.number b.shown in
+      let (p, low, at) = run.read.others earlier.field earlier.number b.shown in
       blank ((i - begin) / 2) (omega (arith, on, before, at))
 
   other_at : (q i : ℕ) → q ≤ last → i < begin + 2 * q → HasOther Video (shown_of numbers) (number q) i
@@ -90,7 +85,7 @@ module _ (numbers : Numbers) (clock : Clock) (number : ℕ → ℕ) (begin last 
     | inl (p, at) ↦
         let less : p < q = omega (arith, at, before) in
         let apart : number p ≢ number q = λ e. absurd (omega
-        (arith, steps p (omega (arith, less, low)), steps q low, ap (kept clock) e, less)) in (
+        (arith, (run.keeps p (omega (arith, less, low))).0, (run.keeps q low).0, ap (kept clock) e, less)) in (
           believed (number p),
           inl (
             number p,
@@ -105,7 +100,7 @@ module _ (numbers : Numbers) (clock : Clock) (number : ℕ → ℕ) (begin last 
         (omega arith) in (
           doubtful_of (shown_at numbers i),
           inr (inr (
-            λ n b. let (p, inside_run, is) = others i n b.shown in blank p is,
+            λ n b. let (p, inside_run, is) = run.read.others i n b.shown in blank p is,
             λ n d. blank_due i n blank d,
             (shown_at numbers i, at, refl),
           )),
@@ -125,10 +120,10 @@ module _ (numbers : Numbers) (clock : Clock) (number : ℕ → ℕ) (begin last 
       (λ p less. let place : begin + 2 * (from + p) - first ≡ begin + 2 * from - first + 2 * p
       = omega (arith, starts) in
       subst (λ i. IsReadTwice (part numbers first many) i (number (from + p))) place
-      (part_twice numbers clock number begin last each others three steps first many (from + p)
+      (part_twice numbers clock number begin last run first many (from + p)
       (omega (arith, starts)) (omega (arith, less, far.0, far.1)) within (omega (arith, less, far.0, far.1))))
       (λ i n shown. let (p, high, at, same, inside_part)
-      = in_part numbers clock number begin last each others three steps first many i n within shown in
+      = in_part numbers clock number begin last run first many i n within shown in
       (p - from, omega (arith, at, high, inside_part), omega (arith, at)))
       (λ p less. elim (leb_tells p 2) [
         | inl (t, early) ↦ (0, omega arith, early, far.0, on 0 1 (omega (arith, far.0)), on 0 2 (omega (arith, far.0)))
@@ -157,7 +152,7 @@ module _ (numbers : Numbers) (clock : Clock) (number : ℕ → ℕ) (begin last 
 
       by_steps : (p : ℕ) → p ≤ last → number p ≡ number 0 + p
       by_steps p less =
-          omega (arith, steps p less, plain clock (number p) none, plain clock (number 0) none)
+          omega (arith, (run.keeps p less).0, plain clock (number p) none, plain clock (number 0) none)
 
       on : (p d : ℕ) → p + d ≤ to - from → number (from + (p + d)) ≡ number (from + p) + d
       on p d less = omega (
