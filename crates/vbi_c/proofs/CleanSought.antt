@@ -16,9 +16,10 @@ use Rattle.vbi_side.proofs.Counting.{plain}
 use Rattle.vbi_side.proofs.Filling.{unlike, not_due}
 use Rattle.vbi_c.specs.Judging.{IsGiven}
 use Rattle.vbi_seek.specs.NumberLeads.{IsFirstKnown}
-use Rattle.vbi_seek.specs.NumberSearch.{Numbers, shown_at, shown_of, around_most, HasOther, IsJudgedIn}
+use Rattle.vbi_seek.specs.NumberSearch.{Numbers, shown_at, shown_from, shown_of, around_most, HasOther, IsJudgedIn}
 use Rattle.vbi_seek.proofs.Shown.{at as field_at}
-use Rattle.vbi_c.proofs.CleanLeading.{part, inside, two_more, in_part, part_twice}
+use Rattle.vbi_c.proofs.CleanLeading.{two_more}
+use Rattle.vbi_c.proofs.ReadRuns.{inside, in_part, part_twice}
 
 -- of times the pace is that of video
 of_times : (system : System) (found : Pace) (fields : List Sightings) → IsFound system Times fields found
@@ -42,14 +43,14 @@ three_inside begin last q first many count much low inside (inr before) (inr aft
 module _ (numbers : Numbers) (clock : Clock) (number : ℕ → ℕ) (begin last : ℕ)
     (run : IsCleanRun clock number (shown_of numbers) begin last) where
   in_count : begin + 2 * last < numbers.side.count
-  in_count = inside numbers clock number begin last run
+  in_count = inside (shown_at numbers) numbers.side.count number begin last run.read
 
   much : 2 ≤ last
   much = two_more numbers clock number begin last run
 
   believed_at : (p : ℕ) → p ≤ last → Believed Video (shown_of numbers) (begin + 2 * p) (number p)
-  believed_at p low = all_believed number (shown_of numbers) begin last run.read.each run.read.others run.three (begin + 2 * p)
-      (number p) (run.read.each p low).1
+  believed_at p low = all_believed number (shown_of numbers) begin last run.read.each run.read.others run.three
+      (begin + 2 * p) (number p) (run.read.each p low).1
 
   -- ---- the fields before the one with the number have others
 
@@ -114,16 +115,17 @@ module _ (numbers : Numbers) (clock : Clock) (number : ℕ → ℕ) (begin last 
   part_paced : (q first many : ℕ) (system : System) (counted : Counted) (found : Pace) → clock ≡ Plain → q ≤ last
       → first + many ≤ numbers.side.count → (first ≡ 0) ⊎ (first + 2 * reach ≤ begin + 2 * q)
       → (first + many ≡ numbers.side.count) ⊎ (begin + 2 * q + 2 * reach < first + many)
-      → IsFound system counted (part numbers first many) found → found ≡ Video
+      → IsFound system counted (shown_from numbers first many) found → found ≡ Video
   part_paced q first many system counted found none low within before after is =
-      finds_video (λ p. number (from + p)) (part numbers first many) (begin + 2 * from - first) (to - from)
+      finds_video (λ p. number (from + p)) (shown_from numbers first many) (begin + 2 * from - first) (to - from)
       (λ p less. let place : begin + 2 * (from + p) - first ≡ begin + 2 * from - first + 2 * p
       = omega (arith, starts) in
-      subst (λ i. IsReadTwice (part numbers first many) i (number (from + p))) place
-      (part_twice numbers clock number begin last run first many (from + p)
+      subst (λ i. IsReadTwice (shown_from numbers first many) i (number (from + p))) place
+      (part_twice (shown_at numbers) numbers.side.count number begin last run.read first many (from + p)
       (omega (arith, starts)) (omega (arith, less, far.0, far.1)) within (omega (arith, less, far.0, far.1))))
       (λ i n shown. let (p, high, at, same, inside_part)
-      = in_part numbers clock number begin last run first many i n within shown in
+      = in_part (shown_at numbers) numbers.side.count number begin last run.read first many i n within
+      shown in
       (p - from, omega (arith, at, high, inside_part), omega (arith, at)))
       (λ p less. elim (leb_tells p 2) [
         | inl (t, early) ↦ (0, omega arith, early, far.0, on 0 1 (omega (arith, far.0)), on 0 2 (omega (arith, far.0)))
@@ -184,10 +186,10 @@ module _ (numbers : Numbers) (clock : Clock) (number : ℕ → ℕ) (begin last 
         | inl given ↦ subst (λ a. IsGiven a found) given is.asked.0
         | inr (sought, inl none) ↦ part_paced q first many numbers.judging.system numbers.judging.counted found none low
             is.inside is.before is.after (is.asked.1 sought)
-        | inr (sought, inr (inl times)) ↦ of_times numbers.judging.system found (part numbers first many)
-            (subst (λ (c : Counted). IsFound numbers.judging.system c (part numbers first many) found) times
+        | inr (sought, inr (inl times)) ↦ of_times numbers.judging.system found (shown_from numbers first many)
+            (subst (λ (c : Counted). IsFound numbers.judging.system c (shown_from numbers first many) found) times
             (is.asked.1 sought))
         | inr (sought, inr (inr pal)) ↦
-            subst (λ (s : System). IsFound s numbers.judging.counted (part numbers first many) found) pal
+            subst (λ (s : System). IsFound s numbers.judging.counted (shown_from numbers first many) found) pal
             (is.asked.1 sought)
       ]
