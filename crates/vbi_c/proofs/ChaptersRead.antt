@@ -1,7 +1,7 @@
 -- What the fields of a run of chapters tell leads to the field in which each begins.
-use Rattle.std.proofs.Common.{◌≡◌, ℕ, zero, suc, ◌+◌, ◌*◌, ◌-◌, ◌/◌, ◌<◌, ◌≤◌, List, length}
+use Rattle.std.proofs.Common.{◌≡◌, ℕ, zero, suc, ◌+◌, ◌*◌, ◌-◌, ◌<◌, ◌≤◌, List, length}
 use Rattle.std.proofs.Common.{refl, arith, ap, sym, ◌∙◌, inl, inr, eq-eqb}
-use Rattle.std.specs.Prelude.{◌⊎◌, ◌==◌, ◌&&◌, nat_le, nat_lt, slice_get}
+use Rattle.std.specs.Prelude.{◌==◌, ◌&&◌, nat_le, nat_lt, slice_get}
 use Rattle.std.proofs.lemmas.Bool.{leb-true, ltb-true, or_cases, and_parts}
 use Rattle.std.proofs.lemmas.Bool.Decides.{leb_tells, eqb_tells}
 use Rattle.std.proofs.lemmas.List.FromFn.{length-map-range_with_len}
@@ -17,7 +17,7 @@ use Rattle.vbi_c.specs.CleanSides.{AreChaptersRead, IsFirstPicture}
 use Rattle.vbi_seek.specs.ChapterSearch.{chapters_at, chapters_from, said_below, TellChapter}
 use Rattle.vbi_seek.specs.NumberSpots.{sum_below}
 use Rattle.vbi_seek.proofs.Running.{sum_below_more}
-use Rattle.vbi_c.proofs.ReadRuns.{one_read, shown_is, inside, two_in_part, part_twice}
+use Rattle.vbi_c.proofs.ReadRuns.{one_read, shown_is, inside, two_in_part, part_twice, told_by}
 use Rattle.vbi_seek.proofs.Tellers.{first_chapter, chapter_other}
 
 -- ---- weights
@@ -162,29 +162,12 @@ module _ (side : Side) (chapter : ℕ → ℕ) (begin last : ℕ)
             ]
       ]
 
-  -- so from each field before the last picture on some fields tell a chapter, few of them once the run has begun
-  told_by : (field : ℕ) → field + 2 ≤ begin + 2 * last
-      → (k n : ℕ) × TellChapter (chapters_from side field k) n × (field + k ≤ side.count)
-      × ((field + k ≤ begin + 3) ⊎ ((begin < field) × (k ≤ 6)))
-  told_by field early =
-      let p = (field - begin + 1) / 2 in
-      let (r, from, to, low, on, zero_first) = pair_from p (omega (arith, early, two_more)) in
-      let k = begin + 2 * (r + 1) + 1 - field in (
-        k,
-        chapter r,
-        pair_tells field k r (omega (arith, from)) (omega (arith, from)) (omega (arith, in_count, low, from)) low on,
-        omega (arith, in_count, low, from),
-        elim (leb_tells field begin) [
-          | inl (t, before) ↦
-              let none : p ≡ 0 = omega (arith, before) in inl (omega (arith, zero_first none, before))
-          | inr (f, after) ↦ inr (after, omega (arith, to, from, after))
-        ],
-      )
-
   told_first : (field : ℕ) → begin - 21 ≤ field → field + 2 ≤ begin + 2 * last
       → (k n : ℕ) × TellsChapter side field k n
   told_first field late early =
-      let (most, m, tells, within, near) = told_by field early in
+      let (most, m, tells, within, near) = told_by (chapters_at side) side.count chapter begin last run.read
+      (λ field k. TellChapter (chapters_from side field k))
+      (λ r. chapter (r + 1) ≡ chapter r) two_more pair_from pair_tells field early in
       let (k, n, few, told, none) = first_chapter (chapters_from side field) most m tells in (
         k,
         n,

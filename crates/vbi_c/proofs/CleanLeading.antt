@@ -1,5 +1,5 @@
 -- What the fields of a clean run tell leads to the field with a number.
-use Rattle.std.proofs.Common.{◌≡◌, ℕ, ◌+◌, ◌*◌, ◌-◌, ◌/◌, ◌<◌, ◌≤◌}
+use Rattle.std.proofs.Common.{◌≡◌, ℕ, ◌+◌, ◌*◌, ◌-◌, ◌<◌, ◌≤◌}
 use Rattle.std.proofs.Common.{refl, arith, ap, sym, ◌∙◌, inl, inr, eq-eqb}
 use Rattle.std.specs.Prelude.{◌⊎◌}
 use Rattle.std.proofs.lemmas.Bool.Decides.{leb_tells, eqb_tells}
@@ -14,7 +14,7 @@ use Rattle.vbi_seek.specs.NumberLeads.{Tells, number_spots}
 use Rattle.vbi_seek.specs.Spots.{Leads}
 use Rattle.vbi_seek.specs.NumberSearch.{Numbers, shown_at, shown_from, shown_of}
 use Rattle.vbi_seek.specs.NumberSpots.{TellsFrom}
-use Rattle.vbi_c.proofs.ReadRuns.{inside, two_in_part, part_twice}
+use Rattle.vbi_c.proofs.ReadRuns.{inside, two_in_part, part_twice, told_by}
 use Rattle.vbi_seek.proofs.Tellers.{told_other, first_told}
 
 module _ (numbers : Numbers) (clock : Clock) (number : ℕ → ℕ) (begin last : ℕ)
@@ -125,25 +125,6 @@ module _ (numbers : Numbers) (clock : Clock) (number : ℕ → ℕ) (begin last 
           let next : q + 2 ≡ p + 1 = omega (arith, same) in
           omega (arith, one, two, ap number same, ap number next)
 
-  -- so from each field before the last picture on some fields tell a number, few of them once the run has begun
-  told_by : (field : ℕ) → field + 2 ≤ begin + 2 * last
-      → (k n : ℕ) × TellsFrom numbers field k n × (field + k ≤ numbers.side.count)
-      × ((field + k ≤ begin + 3) ⊎ ((begin < field) × (k ≤ 6)))
-  told_by field early =
-      let p = (field - begin + 1) / 2 in
-      let (r, from, to, low, on, zero_first) = pair_from p (omega (arith, early, two_more)) in
-      let k = begin + 2 * (r + 1) + 1 - field in (
-        k,
-        number r,
-        pair_tells field k r (omega (arith, from)) (omega (arith, from)) (omega (arith, in_count, low, from)) low on,
-        omega (arith, in_count, low, from),
-        elim (leb_tells field begin) [
-          | inl (t, before) ↦
-              let none : p ≡ 0 = omega (arith, before) in inl (omega (arith, zero_first none, before))
-          | inr (f, after) ↦ inr (after, omega (arith, to, from, after))
-        ],
-      )
-
   -- ---- the first that tell
 
   first_tells : (field : ℕ) → field + 2 ≤ begin + 2 * last
@@ -151,7 +132,8 @@ module _ (numbers : Numbers) (clock : Clock) (number : ℕ → ℕ) (begin last 
       × ((j m : ℕ) → j < k → TellsFrom numbers field j m → ⊥) × (field + k ≤ numbers.side.count)
       × ((field + k ≤ begin + 3) ⊎ ((begin < field) × (k ≤ 6)))
   first_tells field early =
-      let (most, m, tells, within, near) = told_by field early in
+      let (most, m, tells, within, near) = told_by (shown_at numbers) numbers.side.count number begin last run.read
+      (TellsFrom numbers) (λ r. number (r + 1) ≡ number r + 1) two_more pair_from pair_tells field early in
       let (k, n, few, told, none) = first_told (shown_from numbers field) most m tells in (
         k,
         n,

@@ -1,8 +1,9 @@
 -- What a part of the fields shows, if one number after the other is read of every other field of all.
-use Rattle.std.proofs.Common.{◌≡◌, ◌≢◌, ℕ, ◌+◌, ◌*◌, ◌-◌, ◌<◌, ◌≤◌, List, map}
+use Rattle.std.proofs.Common.{◌≡◌, ◌≢◌, ℕ, ◌+◌, ◌*◌, ◌-◌, ◌/◌, ◌<◌, ◌≤◌, List, map}
 use Rattle.std.proofs.Common.{refl, arith, ap, sym, ◌∙◌, subst, inl, inr}
-use Rattle.std.specs.Prelude.{Some, slice_get}
+use Rattle.std.specs.Prelude.{◌⊎◌, Some, slice_get}
 use Rattle.std.specs.List.{range_with_len}
+use Rattle.std.proofs.lemmas.Bool.Decides.{leb_tells}
 use Rattle.std.proofs.lemmas.List.FromFn.{length-map-range_with_len}
 use Rattle.vbi_c.specs.Types.{Sightings}
 use Rattle.vbi_whole.specs.CleanRuns.{IsReadTwice, IsReadRun}
@@ -94,3 +95,27 @@ module _ (shows : ℕ → Sightings) (count : ℕ) (number : ℕ → ℕ) (begin
       let here = same_field field k (begin + 2 * p - field) (omega (arith, from, to)) within
       ∙ ap (λ (j : ℕ). slice_get (part shows 0 count) j) place in
       ((seen, here ∙ there, first, second, same), subst (λ o. Shows o (number p)) (sym here) shown)
+
+  -- if two pictures from each one on, that go on so, tell a number, fields from each field on tell one, few of them
+  -- once the run has begun
+  pub told_by : (Tell : ℕ → ℕ → ℕ → Type 0) (GoesOn : ℕ → Type 0) → 2 ≤ last
+      → ((p : ℕ) → p + 1 ≤ last
+      → (r : ℕ) × (p ≤ r) × (r ≤ p + 1) × (r + 1 ≤ last) × GoesOn r × (p ≡ 0 → r ≡ 0))
+      → ((field k p : ℕ) → field ≤ begin + 2 * p → begin + 2 * (p + 1) < field + k → field + k ≤ count
+      → p + 1 ≤ last → GoesOn p → Tell field k (number p))
+      → (field : ℕ) → field + 2 ≤ begin + 2 * last
+      → (k n : ℕ) × Tell field k n × (field + k ≤ count) × ((field + k ≤ begin + 3) ⊎ ((begin < field) × (k ≤ 6)))
+  told_by Tell GoesOn two_more pair_from pair_tells field early =
+      let p = (field - begin + 1) / 2 in
+      let (r, from, to, low, on, zero_first) = pair_from p (omega (arith, early, two_more)) in
+      let k = begin + 2 * (r + 1) + 1 - field in (
+        k,
+        number r,
+        pair_tells field k r (omega (arith, from)) (omega (arith, from)) (omega (arith, inside, low, from)) low on,
+        omega (arith, inside, low, from),
+        elim (leb_tells field begin) [
+          | inl (t, before) ↦
+              let none : p ≡ 0 = omega (arith, before) in inl (omega (arith, zero_first none, before))
+          | inr (f, after) ↦ inr (after, omega (arith, to, from, after))
+        ],
+      )
