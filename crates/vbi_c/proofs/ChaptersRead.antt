@@ -1,17 +1,14 @@
 -- What the fields of a run of chapters tell leads to the field in which each begins.
-use Rattle.std.proofs.Common.{◌≡◌, ◌≢◌, ℕ, zero, suc, ◌+◌, ◌*◌, ◌-◌, ◌/◌, ◌<◌, ◌≤◌, List, length}
-use Rattle.std.proofs.Common.{refl, arith, ap, sym, ◌∙◌, subst, inl, inr, eq-eqb}
-use Rattle.std.specs.Prelude.{◌⊎◌, ◌==◌, ◌&&◌, Some, nat_le, nat_lt, slice_get}
+use Rattle.std.proofs.Common.{◌≡◌, ℕ, zero, suc, ◌+◌, ◌*◌, ◌-◌, ◌<◌, ◌≤◌, List, length}
+use Rattle.std.proofs.Common.{refl, arith, ap, sym, ◌∙◌, inl, inr, eq-eqb}
+use Rattle.std.specs.Prelude.{◌==◌, ◌&&◌, nat_le, nat_lt, slice_get}
 use Rattle.std.proofs.lemmas.Bool.{leb-true, ltb-true, or_cases, and_parts}
 use Rattle.std.proofs.lemmas.Bool.Decides.{leb_tells, eqb_tells}
 use Rattle.std.proofs.lemmas.List.FromFn.{length-map-range_with_len}
 use Rattle.vbi_c.specs.Types.{Sightings}
 use Rattle.vbi_side.specs.Beliefs.{reach, enough, field_weight}
 use Rattle.vbi_side.specs.Chapters.{says, opposes, said_weight, opposed_weight}
-use Rattle.vbi_whole.specs.CleanRuns.{IsReadTwice}
-use Rattle.vbi_side.specs.Sightings.{Shows}
 use Rattle.vbi_whole.proofs.CleanRuns.{twice_weighs, three_weigh}
-use Rattle.vbi_side.proofs.Filling.{shown_within}
 use Rattle.vbi_side.proofs.Weights.{spread, weight_at-passes}
 use Rattle.vbi_seek.specs.FieldLines.{Side}
 use Rattle.vbi_seek.specs.ChapterLeads.{TellsChapter, chapter_spots, IsFirstOf}
@@ -20,7 +17,7 @@ use Rattle.vbi_c.specs.CleanSides.{AreChaptersRead, IsFirstPicture}
 use Rattle.vbi_seek.specs.ChapterSearch.{chapters_at, chapters_from, said_below, TellChapter}
 use Rattle.vbi_seek.specs.NumberSpots.{sum_below}
 use Rattle.vbi_seek.proofs.Running.{sum_below_more}
-use Rattle.vbi_seek.proofs.Shown.{at}
+use Rattle.vbi_c.proofs.ReadRuns.{one_read, shown_is, inside, two_in_part, part_twice, told_by}
 use Rattle.vbi_seek.proofs.Tellers.{first_chapter, chapter_other}
 
 -- ---- weights
@@ -51,39 +48,13 @@ two_say seen n i j k less inside one two =
       two,
     )
 
--- ---- one chapter on both lines
-
-on_17 : (field : Sightings) (n : ℕ) → field.line_17.number ≡ field.line_18.number → Shows (Some field) n
-    → field.line_17.number ≡ n
-on_17 field n same (inl h) = h.1
-on_17 field n same (inr h) = same ∙ h.1
-
-one_read : (fields : List Sightings) (i m n : ℕ) → IsReadTwice fields i m → Shows (slice_get fields i) n → m ≡ n
-one_read fields i m n ((field, at, first, second, same), shown) other =
-    sym (on_17 field m same (subst (λ o. Shows o m) at shown)) ∙ on_17 field n same (subst (λ o. Shows o n) at other)
-
 module _ (side : Side) (chapter : ℕ → ℕ) (begin last : ℕ)
     (run : AreChaptersRead chapter (chapters_from side 0 side.count) begin last) where
   -- ---- the run
 
-  shown_is : (i n : ℕ) → Shows (slice_get (chapters_from side 0 side.count) i) n
-      → (p : ℕ) × (p ≤ last) × (i ≡ begin + 2 * p) × (chapter p ≡ n)
-  shown_is i n shown =
-      let (p, low, at) = run.read.others i n shown in (
-        p,
-        low,
-        at,
-        one_read (chapters_from side 0 side.count) (begin + 2 * p) (chapter p) n (run.read.each p low)
-            (subst (λ j. Shows (slice_get (chapters_from side 0 side.count) j) n) at shown),
-      )
-
-  inside : begin + 2 * last < side.count
-  inside = omega (
-    arith,
-    shown_within (chapters_from side 0 side.count) (begin + 2 * last) (chapter last)
-        (run.read.each last (omega arith)).1,
-    length-map-range_with_len (chapters_at side) 0 side.count,
-  )
+  -- its last field is one of the side
+  in_count : begin + 2 * last < side.count
+  in_count = inside (chapters_at side) side.count chapter begin last run.read
 
   two_more : 2 ≤ last
   two_more = let (q, from, to, within, one, two) = run.three 0 (omega arith) in omega (arith, within)
@@ -106,53 +77,13 @@ module _ (side : Side) (chapter : ℕ → ℕ) (begin last : ℕ)
 
   -- ---- two pictures tell a chapter
 
-  -- a field of a part is one of the side
-  same_field : (field k i : ℕ) → i < k → field + k ≤ side.count
-      → slice_get (chapters_from side field k) i ≡ slice_get (chapters_from side 0 side.count) (field + i)
-  same_field field k i less within =
-      at (chapters_at side) field k i (field + i) less refl
-      ∙ sym (at (chapters_at side) 0 side.count (field + i) (field + i) (omega (arith, less, within))
-      (omega arith))
-
-  -- a chapter that a field of a part shows is its picture's
-  in_part : (field k i n : ℕ) → field + k ≤ side.count → Shows (slice_get (chapters_from side field k) i) n
-      → (p : ℕ) × (p ≤ last) × (field + i ≡ begin + 2 * p) × (chapter p ≡ n) × (i < k)
-  in_part field k i n within shown =
-      let less : i < k = omega (
-        arith,
-        shown_within (chapters_from side field k) i n shown,
-        length-map-range_with_len (chapters_at side) field k,
-      ) in
-      let (p, low, place, is) = shown_is (field + i) n
-      (subst (λ o. Shows o n) (same_field field k i less within) shown) in
-      (p, low, place, is, less)
-
   -- fields that tell a chapter show it, and another one shows one, too
   told_two : (field k n : ℕ) → field + k ≤ side.count → TellChapter (chapters_from side field k) n
       → (p : ℕ) × (p ≤ last) × (chapter p ≡ n) × (field ≤ begin + 2 * p) × (begin + 2 * p < field + k)
       × (begin + 3 ≤ field + k) × (field + 2 ≤ begin + 2 * last)
   told_two field k n within (i, shown, told) =
-      let (p, low, place, is, less) = in_part field k i n within shown in
-      let (j, m, apart, also) = chapter_other (chapters_from side field k) i n told in
-      let (r, high, there, same, more) = in_part field k j m within also in
-      let differ : p ≢ r = λ e. apart (omega (arith, place, there, e)) in (
-        p,
-        low,
-        is,
-        omega (arith, place),
-        omega (arith, place, less),
-        omega (arith, place, there, less, more, differ),
-        omega (arith, place, there, low, high, differ),
-      )
-
-  part_twice : (field k p : ℕ) → field ≤ begin + 2 * p → begin + 2 * p < field + k → field + k ≤ side.count → p ≤ last
-      → IsReadTwice (chapters_from side field k) (begin + 2 * p - field) (chapter p)
-  part_twice field k p from to within low =
-      let ((seen, there, first, second, same), shown) = run.read.each p low in
-      let place : field + (begin + 2 * p - field) ≡ begin + 2 * p = omega (arith, from) in
-      let here = same_field field k (begin + 2 * p - field) (omega (arith, from, to)) within
-      ∙ ap (λ (j : ℕ). slice_get (chapters_from side 0 side.count) j) place in
-      ((seen, here ∙ there, first, second, same), subst (λ o. Shows o (chapter p)) (sym here) shown)
+      two_in_part (chapters_at side) side.count chapter begin last run.read field k i n within shown
+      (chapter_other (chapters_from side field k) i n told)
 
   -- two of one chapter tell it
   pair_tells : (field k p : ℕ) → field ≤ begin + 2 * p → begin + 2 * (p + 1) < field + k → field + k ≤ side.count
@@ -160,8 +91,10 @@ module _ (side : Side) (chapter : ℕ → ℕ) (begin last : ℕ)
   pair_tells field k p from to within low on =
       let i = begin + 2 * p - field in
       let j = begin + 2 * (p + 1) - field in
-      let here = part_twice field k p from (omega (arith, to)) within (omega (arith, low)) in
-      let there = part_twice field k (p + 1) (omega (arith, from)) to within low in
+      let here = part_twice (chapters_at side) side.count chapter begin last run.read field k p
+      from (omega (arith, to)) within (omega (arith, low)) in
+      let there = part_twice (chapters_at side) side.count chapter begin last run.read field k (p + 1)
+      (omega (arith, from)) to within low in
       let long = length-map-range_with_len (chapters_at side) field k in
       let much : 8 ≤ said_below (chapters_from side field k) (chapter p)
       (length (chapters_from side field k))
@@ -229,29 +162,12 @@ module _ (side : Side) (chapter : ℕ → ℕ) (begin last : ℕ)
             ]
       ]
 
-  -- so from each field before the last picture on some fields tell a chapter, few of them once the run has begun
-  told_by : (field : ℕ) → field + 2 ≤ begin + 2 * last
-      → (k n : ℕ) × TellChapter (chapters_from side field k) n × (field + k ≤ side.count)
-      × ((field + k ≤ begin + 3) ⊎ ((begin < field) × (k ≤ 6)))
-  told_by field early =
-      let p = (field - begin + 1) / 2 in
-      let (r, from, to, low, on, zero_first) = pair_from p (omega (arith, early, two_more)) in
-      let k = begin + 2 * (r + 1) + 1 - field in (
-        k,
-        chapter r,
-        pair_tells field k r (omega (arith, from)) (omega (arith, from)) (omega (arith, inside, low, from)) low on,
-        omega (arith, inside, low, from),
-        elim (leb_tells field begin) [
-          | inl (t, before) ↦
-              let none : p ≡ 0 = omega (arith, before) in inl (omega (arith, zero_first none, before))
-          | inr (f, after) ↦ inr (after, omega (arith, to, from, after))
-        ],
-      )
-
   told_first : (field : ℕ) → begin - 21 ≤ field → field + 2 ≤ begin + 2 * last
       → (k n : ℕ) × TellsChapter side field k n
   told_first field late early =
-      let (most, m, tells, within, near) = told_by field early in
+      let (most, m, tells, within, near) = told_by (chapters_at side) side.count chapter begin last run.read
+      (λ field k. TellChapter (chapters_from side field k))
+      (λ r. chapter (r + 1) ≡ chapter r) two_more pair_from pair_tells field early in
       let (k, n, few, told, none) = first_chapter (chapters_from side field) most m tells in (
         k,
         n,
@@ -271,7 +187,7 @@ module _ (side : Side) (chapter : ℕ → ℕ) (begin last : ℕ)
   pub chapters_lead : (q : ℕ) → q ≤ last → IsFirstPicture chapter q → side.count + 16 ≤ 32 * last
       → Leads (chapter_spots side) (chapter q) (begin + 2 * q) (begin - 21) (begin + 2 * last - 2)
   chapters_lead q low first large = record {
-    inside = omega (arith, inside);
+    inside = omega (arith, in_count);
     part = omega (arith, large, two_more);
     between = (omega arith, omega (arith, low, two_more));
     told = λ field from to.
@@ -330,7 +246,8 @@ module _ (side : Side) (chapter : ℕ → ℕ) (begin last : ℕ)
         | inr (k, less, apart, weighs) ↦
             let (near, (m, shown, against)) = weight_at-passes (opposes (begin + 2 * q) (chapter q))
             (chapters_from side 0 side.count) (begin + 2 * q) k weighs in
-            let (r, high, place, is) = shown_is (begin + 2 * q + k - reach) m shown in
+            let (r, high, place, is) = shown_is (chapters_at side) side.count chapter begin last run.read
+            (begin + 2 * q + k - reach) m shown in
             absurd (elim (or_cases (nat_le (begin + 2 * q + k - reach) (begin + 2 * q) && nat_lt (chapter q) m)
             (nat_le (begin + 2 * q) (begin + 2 * q + k - reach) && nat_lt m (chapter q)) against) [
               | inl later ↦
@@ -360,5 +277,7 @@ module _ (side : Side) (chapter : ℕ → ℕ) (begin last : ℕ)
           (chapter q) m (run.read.each q low) shown)));
     };
     others = λ i less has.
-        let (r, high, place, is) = shown_is i (chapter q) has.shown in first r (omega (arith, place, less)) is;
+        let (r, high, place, is) = shown_is (chapters_at side) side.count chapter begin last run.read i
+        (chapter q) has.shown in
+        first r (omega (arith, place, less)) is;
   }

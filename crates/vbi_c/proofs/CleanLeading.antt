@@ -1,56 +1,35 @@
 -- What the fields of a clean run tell leads to the field with a number.
-use Rattle.std.proofs.Common.{◌≡◌, ◌≢◌, ℕ, ◌+◌, ◌*◌, ◌-◌, ◌/◌, ◌<◌, ◌≤◌, List, map}
-use Rattle.std.proofs.Common.{refl, arith, ap, sym, ◌∙◌, subst, inl, inr, eq-eqb}
-use Rattle.std.specs.Prelude.{◌⊎◌, slice_get}
-use Rattle.std.specs.List.{range_with_len}
+use Rattle.std.proofs.Common.{◌≡◌, ℕ, ◌+◌, ◌*◌, ◌-◌, ◌<◌, ◌≤◌}
+use Rattle.std.proofs.Common.{refl, arith, ap, sym, ◌∙◌, inl, inr, eq-eqb}
+use Rattle.std.specs.Prelude.{◌⊎◌}
 use Rattle.std.proofs.lemmas.Bool.Decides.{leb_tells, eqb_tells}
-use Rattle.std.proofs.lemmas.List.FromFn.{length-map-range_with_len}
-use Rattle.vbi_c.specs.Types.{Clock, Video, Sightings}
+use Rattle.vbi_c.specs.Types.{Clock, Video}
 use Rattle.vbi_side.specs.Beliefs.{window_weight}
-use Rattle.vbi_whole.specs.CleanRuns.{IsReadTwice, IsOneOfThree}
+use Rattle.vbi_whole.specs.CleanRuns.{IsCleanRun}
 use Rattle.vbi_side.specs.Clocks.{kept}
 use Rattle.vbi_side.specs.Paces.{fits}
-use Rattle.vbi_side.specs.Sightings.{Shows}
-use Rattle.vbi_whole.proofs.CleanRuns.{shown_is, twice_weighs, two_weigh}
-use Rattle.vbi_side.proofs.Filling.{shown_within}
+use Rattle.vbi_whole.proofs.CleanRuns.{twice_weighs, two_weigh}
 use Rattle.vbi_whole.proofs.ThreeInRow.{greater}
 use Rattle.vbi_seek.specs.NumberLeads.{Tells, number_spots}
 use Rattle.vbi_seek.specs.Spots.{Leads}
-use Rattle.vbi_seek.specs.NumberSearch.{Numbers, shown_at, shown_of}
+use Rattle.vbi_seek.specs.NumberSearch.{Numbers, shown_at, shown_from, shown_of}
 use Rattle.vbi_seek.specs.NumberSpots.{TellsFrom}
-use Rattle.vbi_seek.proofs.Shown.{at as field_at}
+use Rattle.vbi_c.proofs.ReadRuns.{inside, two_in_part, part_twice, told_by}
 use Rattle.vbi_seek.proofs.Tellers.{told_other, first_told}
 
--- what this many fields from this one on show
-abbrev pub part : Numbers → ℕ → ℕ → List Sightings
-part numbers field k = map (shown_at numbers) (range_with_len field k)
-
--- a field of a part is one of the side
-same_field : (numbers : Numbers) (field k i : ℕ) → i < k → field + k ≤ numbers.side.count
-    → slice_get (part numbers field k) i ≡ slice_get (shown_of numbers) (field + i)
-same_field numbers field k i inside within =
-    field_at (shown_at numbers) field k i (field + i) inside refl
-    ∙ sym (field_at (shown_at numbers) 0 numbers.side.count (field + i) (field + i) (omega (arith, inside, within))
-    (omega arith))
-
 module _ (numbers : Numbers) (clock : Clock) (number : ℕ → ℕ) (begin last : ℕ)
-    (each : (p : ℕ) → p ≤ last → IsReadTwice (shown_of numbers) (begin + 2 * p) (number p))
-    (others : (i n : ℕ) → Shows (slice_get (shown_of numbers) i) n
-    → (p : ℕ) × (p ≤ last) × (i ≡ begin + 2 * p))
-    (three : (p : ℕ) → p ≤ last → IsOneOfThree number last p)
-    (steps : (p : ℕ) → p ≤ last → kept clock (number p) ≡ kept clock (number 0) + p) where
+    (run : IsCleanRun clock number (shown_of numbers) begin last) where
   -- ---- the run
 
   -- its last field is one of the side
-  pub inside : begin + 2 * last < numbers.side.count
-  inside = omega (
-    arith,
-    shown_within (shown_of numbers) (begin + 2 * last) (number last) (each last (omega arith)).1,
-    length-map-range_with_len (shown_at numbers) 0 numbers.side.count,
-  )
+  in_count : begin + 2 * last < numbers.side.count
+  in_count = inside (shown_at numbers) numbers.side.count number begin last run.read
 
   pub two_more : 2 ≤ last
-  two_more = let (q, from, to, within, one, two) = three 0 (omega arith) in omega (arith, within)
+  two_more = let (q, from, to, within, one, two) = run.three 0 (omega arith) in omega (arith, within)
+
+  steps : (p : ℕ) → p ≤ last → kept clock (number p) ≡ kept clock (number 0) + p
+  steps p low = (run.keeps p low).0
 
   -- a greater number is a later picture's
   in_order : (p r : ℕ) → p ≤ last → r ≤ last → number p < number r → p < r
@@ -78,46 +57,13 @@ module _ (numbers : Numbers) (clock : Clock) (number : ℕ → ℕ) (begin last 
 
   -- ---- two pictures tell a number
 
-  -- a number that a field of a part shows is its picture's
-  pub in_part : (field k i n : ℕ) → field + k ≤ numbers.side.count → Shows (slice_get (part numbers field k) i) n
-      → (p : ℕ) × (p ≤ last) × (field + i ≡ begin + 2 * p) × (number p ≡ n) × (i < k)
-  in_part field k i n within shown =
-      let less : i < k = omega (
-        arith,
-        shown_within (part numbers field k) i n shown,
-        length-map-range_with_len (shown_at numbers) field k,
-      ) in
-      let (p, low, at, is) = shown_is number (shown_of numbers) begin last each others three (field + i) n
-      (subst (λ o. Shows o n) (same_field numbers field k i less within) shown) in
-      (p, low, at, is, less)
-
   -- fields that tell a number show it, and that of another picture
   told_two : (field k n : ℕ) → field + k ≤ numbers.side.count → TellsFrom numbers field k n
       → (p : ℕ) × (p ≤ last) × (number p ≡ n) × (field ≤ begin + 2 * p) × (begin + 2 * p < field + k)
       × (begin + 3 ≤ field + k) × (field + 2 ≤ begin + 2 * last)
   told_two field k n within (i, shown, told) =
-      let (p, low, at, is, less) = in_part field k i n within shown in
-      let (j, m, apart, also) = told_other (part numbers field k) i n told in
-      let (r, high, there, same, more) = in_part field k j m within also in
-      let differ : p ≢ r = λ e. apart (omega (arith, at, there, e)) in (
-        p,
-        low,
-        is,
-        omega (arith, at),
-        omega (arith, at, less),
-        omega (arith, at, there, less, more, differ),
-        omega (arith, at, there, low, high, differ),
-      )
-
-  pub part_twice : (field k p : ℕ) → field ≤ begin + 2 * p → begin + 2 * p < field + k
-      → field + k ≤ numbers.side.count → p ≤ last
-      → IsReadTwice (part numbers field k) (begin + 2 * p - field) (number p)
-  part_twice field k p from to within low =
-      let ((seen, at, first, second, same), shown) = each p low in
-      let place : field + (begin + 2 * p - field) ≡ begin + 2 * p = omega (arith, from) in
-      let here = same_field numbers field k (begin + 2 * p - field) (omega (arith, from, to)) within
-      ∙ ap (λ (j : ℕ). slice_get (shown_of numbers) j) place in
-      ((seen, here ∙ at, first, second, same), subst (λ o. Shows o (number p)) (sym here) shown)
+      two_in_part (shown_at numbers) numbers.side.count number begin last run.read field k i n within shown
+      (told_other (shown_from numbers field k) i n told)
 
   -- two that go on tell the first one's
   pair_tells : (field k p : ℕ) → field ≤ begin + 2 * p → begin + 2 * (p + 1) < field + k
@@ -126,14 +72,16 @@ module _ (numbers : Numbers) (clock : Clock) (number : ℕ → ℕ) (begin last 
   pair_tells field k p from to within low on =
       let a = begin + 2 * p - field in
       let b = begin + 2 * (p + 1) - field in
-      let here = part_twice field k p from (omega (arith, to)) within (omega (arith, low)) in
-      let there = part_twice field k (p + 1) (omega (arith, from)) to within low in
-      let much : 8 ≤ window_weight (fits Video a (number p)) (part numbers field k) a
-      = two_weigh (fits Video a (number p)) (part numbers field k) a a b (omega arith, omega arith)
+      let here = part_twice (shown_at numbers) numbers.side.count number begin last run.read field k p
+      from (omega (arith, to)) within (omega (arith, low)) in
+      let there = part_twice (shown_at numbers) numbers.side.count number begin last run.read field k (p + 1)
+      (omega (arith, from)) to within low in
+      let much : 8 ≤ window_weight (fits Video a (number p)) (shown_from numbers field k) a
+      = two_weigh (fits Video a (number p)) (shown_from numbers field k) a a b (omega arith, omega arith)
       (omega (arith, from), omega (arith, from)) (omega (arith, from))
-      (twice_weighs (fits Video a (number p) a) (part numbers field k) a (number p) here
+      (twice_weighs (fits Video a (number p) a) (shown_from numbers field k) a (number p) here
       (eq-eqb (a + 2 * number p) (a + 2 * number p) refl))
-      (twice_weighs (fits Video a (number p) b) (part numbers field k) b (number (p + 1)) there
+      (twice_weighs (fits Video a (number p) b) (shown_from numbers field k) b (number (p + 1)) there
       (eq-eqb (b + 2 * number p) (a + 2 * number (p + 1)) (omega (arith, on, from)))) in
       (a, here.1, inl (omega (arith, much)))
 
@@ -141,13 +89,13 @@ module _ (numbers : Numbers) (clock : Clock) (number : ℕ → ℕ) (begin last 
   pair_from : (p : ℕ) → p + 1 ≤ last
       → (r : ℕ) × (p ≤ r) × (r ≤ p + 1) × (r + 1 ≤ last) × (number (r + 1) ≡ number r + 1) × (p ≡ 0 → r ≡ 0)
   pair_from p low =
-      let (q, from, to, within, one, two) = three p (omega (arith, low)) in
+      let (q, from, to, within, one, two) = run.three p (omega (arith, low)) in
       elim (eqb_tells q p) [
         | inl (t, same) ↦ itself (ap (λ (x : ℕ). number (x + 1)) (sym same) ∙ one ∙ ap (λ (x : ℕ). number x + 1) same)
         | inr (f, other) ↦ elim (eqb_tells (q + 1) p) [
           | inl (t, same) ↦ itself (middle q same one two)
           | inr (g, more) ↦
-              let (h, begins, ends, room, first, second) = three (p + 1) low in
+              let (h, begins, ends, room, first, second) = run.three (p + 1) low in
               elim (eqb_tells h p) [
                 | inl (t, same) ↦ itself
                     (ap (λ (x : ℕ). number (x + 1)) (sym same) ∙ first ∙ ap (λ (x : ℕ). number x + 1) same)
@@ -177,25 +125,6 @@ module _ (numbers : Numbers) (clock : Clock) (number : ℕ → ℕ) (begin last 
           let next : q + 2 ≡ p + 1 = omega (arith, same) in
           omega (arith, one, two, ap number same, ap number next)
 
-  -- so from each field before the last picture on some fields tell a number, few of them once the run has begun
-  told_by : (field : ℕ) → field + 2 ≤ begin + 2 * last
-      → (k n : ℕ) × TellsFrom numbers field k n × (field + k ≤ numbers.side.count)
-      × ((field + k ≤ begin + 3) ⊎ ((begin < field) × (k ≤ 6)))
-  told_by field early =
-      let p = (field - begin + 1) / 2 in
-      let (r, from, to, low, on, zero_first) = pair_from p (omega (arith, early, two_more)) in
-      let k = begin + 2 * (r + 1) + 1 - field in (
-        k,
-        number r,
-        pair_tells field k r (omega (arith, from)) (omega (arith, from)) (omega (arith, inside, low, from)) low on,
-        omega (arith, inside, low, from),
-        elim (leb_tells field begin) [
-          | inl (t, before) ↦
-              let none : p ≡ 0 = omega (arith, before) in inl (omega (arith, zero_first none, before))
-          | inr (f, after) ↦ inr (after, omega (arith, to, from, after))
-        ],
-      )
-
   -- ---- the first that tell
 
   first_tells : (field : ℕ) → field + 2 ≤ begin + 2 * last
@@ -203,8 +132,9 @@ module _ (numbers : Numbers) (clock : Clock) (number : ℕ → ℕ) (begin last 
       × ((j m : ℕ) → j < k → TellsFrom numbers field j m → ⊥) × (field + k ≤ numbers.side.count)
       × ((field + k ≤ begin + 3) ⊎ ((begin < field) × (k ≤ 6)))
   first_tells field early =
-      let (most, m, tells, within, near) = told_by field early in
-      let (k, n, few, told, none) = first_told (part numbers field) most m tells in (
+      let (most, m, tells, within, near) = told_by (shown_at numbers) numbers.side.count number begin last run.read
+      (TellsFrom numbers) (λ r. number (r + 1) ≡ number r + 1) two_more pair_from pair_tells field early in
+      let (k, n, few, told, none) = first_told (shown_from numbers field) most m tells in (
         k,
         n,
         told,
@@ -233,7 +163,7 @@ module _ (numbers : Numbers) (clock : Clock) (number : ℕ → ℕ) (begin last 
   pub clean_leads : (q : ℕ) → q ≤ last → numbers.side.count + 16 ≤ 32 * last
       → Leads (number_spots numbers) (number q) (begin + 2 * q) (begin - 9) (begin + 2 * last - 2)
   clean_leads q low large = record {
-    inside = omega (arith, inside);
+    inside = omega (arith, in_count);
     part = omega (arith, large, two_more);
     between = (omega arith, omega (arith, low, two_more));
     told = λ field from to.

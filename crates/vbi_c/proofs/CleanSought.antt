@@ -1,25 +1,25 @@
 -- A search on a clean run finds each of its numbers.
 use Rattle.std.proofs.Common.{◌≡◌, ◌≢◌, ℕ, ◌+◌, ◌*◌, ◌-◌, ◌/◌, ◌<◌, ◌≤◌, List, refl, arith, ap, sym}
 use Rattle.std.proofs.Common.{subst, inl, inr, min}
-use Rattle.std.specs.Prelude.{◌⊎◌, slice_get}
+use Rattle.std.specs.Prelude.{◌⊎◌}
 use Rattle.std.proofs.lemmas.Bool.Decides.{leb_tells, eqb_tells}
 use Rattle.vbi_c.specs.Types.{System, Ntsc, Pal, Clock, Plain, Counted, Times, Number, Pace, Video, Sightings, Given}
 use Rattle.vbi_c.specs.Types.{Found}
 use Rattle.vbi_side.specs.Beliefs.{reach, Believed}
-use Rattle.vbi_whole.specs.CleanRuns.{IsReadTwice, IsOneOfThree}
+use Rattle.vbi_whole.specs.CleanRuns.{IsReadTwice, IsCleanRun}
 use Rattle.vbi_side.specs.Clocks.{kept}
 use Rattle.vbi_side.specs.DueNumbers.{Due}
 use Rattle.vbi_side.specs.PaceSearch.{IsFound}
 use Rattle.vbi_side.specs.Numbers.{believed, doubtful_of, IsKnown}
-use Rattle.vbi_side.specs.Sightings.{Shows}
 use Rattle.vbi_whole.proofs.CleanRuns.{all_believed, finds_video}
 use Rattle.vbi_side.proofs.Counting.{plain}
 use Rattle.vbi_side.proofs.Filling.{unlike, not_due}
 use Rattle.vbi_c.specs.Judging.{IsGiven}
 use Rattle.vbi_seek.specs.NumberLeads.{IsFirstKnown}
-use Rattle.vbi_seek.specs.NumberSearch.{Numbers, shown_at, shown_of, around_most, HasOther, IsJudgedIn}
+use Rattle.vbi_seek.specs.NumberSearch.{Numbers, shown_at, shown_from, shown_of, around_most, HasOther, IsJudgedIn}
 use Rattle.vbi_seek.proofs.Shown.{at as field_at}
-use Rattle.vbi_c.proofs.CleanLeading.{part, inside, two_more, in_part, part_twice}
+use Rattle.vbi_c.proofs.CleanLeading.{two_more}
+use Rattle.vbi_c.proofs.ReadRuns.{inside, in_part, part_twice}
 
 -- of times the pace is that of video
 of_times : (system : System) (found : Pace) (fields : List Sightings) → IsFound system Times fields found
@@ -41,20 +41,16 @@ three_inside begin last q first many count much low inside (inr before) (inr aft
     omega (arith, much, low, inside, before, after)
 
 module _ (numbers : Numbers) (clock : Clock) (number : ℕ → ℕ) (begin last : ℕ)
-    (each : (p : ℕ) → p ≤ last → IsReadTwice (shown_of numbers) (begin + 2 * p) (number p))
-    (others : (i n : ℕ) → Shows (slice_get (shown_of numbers) i) n
-    → (p : ℕ) × (p ≤ last) × (i ≡ begin + 2 * p))
-    (three : (p : ℕ) → p ≤ last → IsOneOfThree number last p)
-    (steps : (p : ℕ) → p ≤ last → kept clock (number p) ≡ kept clock (number 0) + p) where
+    (run : IsCleanRun clock number (shown_of numbers) begin last) where
   in_count : begin + 2 * last < numbers.side.count
-  in_count = inside numbers clock number begin last each others three steps
+  in_count = inside (shown_at numbers) numbers.side.count number begin last run.read
 
   much : 2 ≤ last
-  much = two_more numbers clock number begin last each others three steps
+  much = two_more numbers clock number begin last run
 
   believed_at : (p : ℕ) → p ≤ last → Believed Video (shown_of numbers) (begin + 2 * p) (number p)
-  believed_at p low = all_believed number (shown_of numbers) begin last each others three (begin + 2 * p)
-      (number p) (each p low).1
+  believed_at p low = all_believed number (shown_of numbers) begin last run.read.each run.read.others run.three
+      (begin + 2 * p) (number p) (run.read.each p low).1
 
   -- ---- the fields before the one with the number have others
 
@@ -82,7 +78,7 @@ module _ (numbers : Numbers) (clock : Clock) (number : ℕ → ℕ) (begin last 
       let b : Believed Video (shown_of numbers) earlier.field earlier.number = leaves.first in
       let on : i + 2 * earlier.number ≡ earlier.field + 2 * n = leaves.on in
       let before : earlier.field < i = leaves.before in
-      let (p, low, at) = others earlier.field earlier.number b.shown in
+      let (p, low, at) = run.read.others earlier.field earlier.number b.shown in
       blank ((i - begin) / 2) (omega (arith, on, before, at))
 
   other_at : (q i : ℕ) → q ≤ last → i < begin + 2 * q → HasOther Video (shown_of numbers) (number q) i
@@ -90,7 +86,7 @@ module _ (numbers : Numbers) (clock : Clock) (number : ℕ → ℕ) (begin last 
     | inl (p, at) ↦
         let less : p < q = omega (arith, at, before) in
         let apart : number p ≢ number q = λ e. absurd (omega
-        (arith, steps p (omega (arith, less, low)), steps q low, ap (kept clock) e, less)) in (
+        (arith, (run.keeps p (omega (arith, less, low))).0, (run.keeps q low).0, ap (kept clock) e, less)) in (
           believed (number p),
           inl (
             number p,
@@ -105,7 +101,7 @@ module _ (numbers : Numbers) (clock : Clock) (number : ℕ → ℕ) (begin last 
         (omega arith) in (
           doubtful_of (shown_at numbers i),
           inr (inr (
-            λ n b. let (p, inside_run, is) = others i n b.shown in blank p is,
+            λ n b. let (p, inside_run, is) = run.read.others i n b.shown in blank p is,
             λ n d. blank_due i n blank d,
             (shown_at numbers i, at, refl),
           )),
@@ -119,16 +115,17 @@ module _ (numbers : Numbers) (clock : Clock) (number : ℕ → ℕ) (begin last 
   part_paced : (q first many : ℕ) (system : System) (counted : Counted) (found : Pace) → clock ≡ Plain → q ≤ last
       → first + many ≤ numbers.side.count → (first ≡ 0) ⊎ (first + 2 * reach ≤ begin + 2 * q)
       → (first + many ≡ numbers.side.count) ⊎ (begin + 2 * q + 2 * reach < first + many)
-      → IsFound system counted (part numbers first many) found → found ≡ Video
+      → IsFound system counted (shown_from numbers first many) found → found ≡ Video
   part_paced q first many system counted found none low within before after is =
-      finds_video (λ p. number (from + p)) (part numbers first many) (begin + 2 * from - first) (to - from)
+      finds_video (λ p. number (from + p)) (shown_from numbers first many) (begin + 2 * from - first) (to - from)
       (λ p less. let place : begin + 2 * (from + p) - first ≡ begin + 2 * from - first + 2 * p
       = omega (arith, starts) in
-      subst (λ i. IsReadTwice (part numbers first many) i (number (from + p))) place
-      (part_twice numbers clock number begin last each others three steps first many (from + p)
+      subst (λ i. IsReadTwice (shown_from numbers first many) i (number (from + p))) place
+      (part_twice (shown_at numbers) numbers.side.count number begin last run.read first many (from + p)
       (omega (arith, starts)) (omega (arith, less, far.0, far.1)) within (omega (arith, less, far.0, far.1))))
       (λ i n shown. let (p, high, at, same, inside_part)
-      = in_part numbers clock number begin last each others three steps first many i n within shown in
+      = in_part (shown_at numbers) numbers.side.count number begin last run.read first many i n within
+      shown in
       (p - from, omega (arith, at, high, inside_part), omega (arith, at)))
       (λ p less. elim (leb_tells p 2) [
         | inl (t, early) ↦ (0, omega arith, early, far.0, on 0 1 (omega (arith, far.0)), on 0 2 (omega (arith, far.0)))
@@ -157,7 +154,7 @@ module _ (numbers : Numbers) (clock : Clock) (number : ℕ → ℕ) (begin last 
 
       by_steps : (p : ℕ) → p ≤ last → number p ≡ number 0 + p
       by_steps p less =
-          omega (arith, steps p less, plain clock (number p) none, plain clock (number 0) none)
+          omega (arith, (run.keeps p less).0, plain clock (number p) none, plain clock (number 0) none)
 
       on : (p d : ℕ) → p + d ≤ to - from → number (from + (p + d)) ≡ number (from + p) + d
       on p d less = omega (
@@ -189,10 +186,10 @@ module _ (numbers : Numbers) (clock : Clock) (number : ℕ → ℕ) (begin last 
         | inl given ↦ subst (λ a. IsGiven a found) given is.asked.0
         | inr (sought, inl none) ↦ part_paced q first many numbers.judging.system numbers.judging.counted found none low
             is.inside is.before is.after (is.asked.1 sought)
-        | inr (sought, inr (inl times)) ↦ of_times numbers.judging.system found (part numbers first many)
-            (subst (λ (c : Counted). IsFound numbers.judging.system c (part numbers first many) found) times
+        | inr (sought, inr (inl times)) ↦ of_times numbers.judging.system found (shown_from numbers first many)
+            (subst (λ (c : Counted). IsFound numbers.judging.system c (shown_from numbers first many) found) times
             (is.asked.1 sought))
         | inr (sought, inr (inr pal)) ↦
-            subst (λ (s : System). IsFound s numbers.judging.counted (part numbers first many) found) pal
+            subst (λ (s : System). IsFound s numbers.judging.counted (shown_from numbers first many) found) pal
             (is.asked.1 sought)
       ]

@@ -11,6 +11,7 @@ pub mod Placed
 mod NoneBeyond
 mod SidesCalled
 mod CleanJudged
+pub mod ReadRuns
 pub mod CleanLeading
 pub mod CleanSought
 pub mod DrawnSides

@@ -6,13 +6,10 @@ use Rattle.vbi_c.proofs.whole_laws.clean_leads.Goals as goal
 
 pub returns-clause-leads : goal.returns-clause-leads
 returns-clause-leads c numbers clock number begin last p run large low =
-    clean_leads numbers clock number begin last run.read.each run.read.others run.three
-    (λ r inside. (run.keeps r inside).0) p low large
+    clean_leads numbers clock number begin last run p low large
 
 pub returns-clause-found : goal.returns-clause-found
 returns-clause-found c numbers clock number begin last p sought run large low asks few complete =
     complete (begin + 2 * p) (begin - 9) (begin + 2 * last - 2) Video few
-    (first_known numbers clock number begin last run.read.each run.read.others run.three
-    (λ r inside. (run.keeps r inside).0) p low asks)
-    (clean_leads numbers clock number begin last run.read.each run.read.others run.three
-    (λ r inside. (run.keeps r inside).0) p low large)
+    (first_known numbers clock number begin last run p low asks)
+    (clean_leads numbers clock number begin last run p low large)

@@ -3,7 +3,7 @@ use Rattle.std.specs.Prelude.{Some, slice_get}
 use Rattle.vbi_words.specs.Codes.{code_of}
 use Rattle.vbi_c.specs.Types.{System, Plain, Sightings, Asked, WordRow, Pictures}
 use Rattle.vbi_words.specs.Levels.{Slicing}
-use Rattle.vbi_whole.specs.CleanRuns.{IsReadTwice}
+use Rattle.vbi_whole.specs.CleanRuns.{IsReadTwice, IsCleanRun}
 use Rattle.vbi_side.specs.Sightings.{Shows}
 use Rattle.vbi_side.specs.Worked.{field_of, blank}
 use Rattle.vbi_whole.proofs.ThreeInRow.{plain_steps, plain_in_row}
@@ -84,6 +84,9 @@ module _ (system : System) (levels : Slicing) (asked : Asked) (order : levels.bl
 
 pub returns : goal.returns
 returns c system levels asked order =
-    clean_leads (drawn_numbers system levels asked) Plain (λ p. 1 + p) 0 2
-    (each system levels asked order) (others system levels asked order) (plain_in_row 1 2 (omega arith))
-    (λ p low. plain_steps 1 p) 1 (omega arith) (omega arith)
+    let run : IsCleanRun Plain (λ p. 1 + p) (shown_of (drawn_numbers system levels asked)) 0 2 = record {
+      read = record { each = each system levels asked order; others = others system levels asked order };
+      keeps = λ p low. (plain_steps 1 p, refl);
+      three = plain_in_row 1 2 (omega arith);
+    } in
+    clean_leads (drawn_numbers system levels asked) Plain (λ p. 1 + p) 0 2 run 1 (omega arith) (omega arith)
