@@ -112,8 +112,3 @@ no_drift_on rule answers k n span is at low high drift = go (leb_tells span.firs
         let apart = subst (λ x. goes_on rule here (spot k x) ≡ false) number drift.apart in
         let h : true ≡ false = sym near ∙ apart in cc
     go (inr (f, lt)) = earlier span.before is.before is.apart lt
-
--- nor does one drift that doesn't go on from the last
-pub no_drift_apart : (rule : Rule) (answers : List Number) (k n : ℕ) (last : Place) → IsLast answers k (Some last)
-    → IsMarked answers k n → goes_on rule last (spot k n) ≡ false → IsDrift rule answers k → ⊥
-no_drift_apart rule answers k n last is at apart drift = grind (arith, last_before, neighbours_of)

@@ -15,20 +15,20 @@ pub returns-then-goes_on_by-clause-some : goal.returns-then-goes_on_by-clause-so
 returns-then-goes_on_by-clause-some c =
     let side = c.args.side.now in
     let at = search_at (judged_in side) c.args.field c.args.search c.in-Some.here c.requires.search c.in-Some.is in
-    swap_found side.rule.numbering.clock side.seen.now side.numbers.now c.args.field _ c.in-Some.here c.args.search.stray
-    at.0 c.in-Some-believed_at.ensures.some.1
+    swap_found side.rule.numbering.clock side.seen.now side.numbers.now c.args.field _ c.in-Some.here
+    c.args.search.stray at.0 c.in-Some-believed_at.ensures.some.1
     (sym (rw c.in-Some-believed_at.ensures.some.0 at c.goes_on_by.ensures) ∙ c.if-goes_on_by.true) at.1
 
 pub returns-then-goes_on_by-clause-none : goal.returns-then-goes_on_by-clause-none
 returns-then-goes_on_by-clause-none c =
     let side = c.args.side.now in
     let at = search_at (judged_in side) c.args.field c.args.search c.in-Some.here c.requires.search c.in-Some.is in
-    none_found side.rule.numbering.clock side.seen.now side.numbers.now c.args.field _ c.in-Some.here c.args.search.stray
-    at.0 c.in-Some-believed_at.ensures.some.1 at.1
+    none_found side.rule.numbering.clock side.seen.now side.numbers.now c.args.field _ c.in-Some.here
+    c.args.search.stray at.0 c.in-Some-believed_at.ensures.some.1 at.1
 
 pub returns-then-goes_on_by-clause-first : goal.returns-then-goes_on_by-clause-first
 returns-then-goes_on_by-clause-first c =
     let side = c.args.side.now in
     let at = search_at (judged_in side) c.args.field c.args.search c.in-Some.here c.requires.search c.in-Some.is in
-    first_found side.rule.numbering.clock side.seen.now side.numbers.now c.args.field _ c.in-Some.here c.args.search.stray
-    at.0 c.in-Some-believed_at.ensures.some.1 at.1
+    first_found side.rule.numbering.clock side.seen.now side.numbers.now c.args.field _ c.in-Some.here
+    c.args.search.stray at.0 c.in-Some-believed_at.ensures.some.1 at.1
