@@ -7,6 +7,7 @@ use Rattle.vbi_meta.proofs.Common.{Candidates, unit_of, Seen, alone, said_by, wo
 use Rattle.std.proofs.Common.{◌-◌}
 use Rattle.std.proofs.Math.Nat.{div-le_self}
 use Rattle.std.specs.Prelude.{Option, Some, None, is_some}
+use Rattle.std.specs.Option.{option_or}
 use Rattle.vbi_line.proofs.OneReading.{is_outcome}
 use Rattle.vbi_near.specs.declared.near.Nears.{Nears}
 use Rattle.vbi_near.specs.declared.margins.Margins.{Margins}
@@ -20,9 +21,10 @@ use Rattle.vbi_near.specs.LevelledLines.{levelled_unit}
 use Rattle.vbi_near.specs.LineCodes.{codes_of, is_beyond_79999}
 use Rattle.vbi_near.specs.Margins.{levelled_margins, given_margins}
 use Rattle.vbi_near.specs.Pictures.{IsPlace}
-use Rattle.vbi_near.specs.Recovery.{Stands, IsSeen, own_of, is_open, is_confirmed, stays, recovered_as, shown_in}
+use Rattle.vbi_near.specs.Recovery.{Stands, IsSeen, own_of, is_open, is_confirmed, reading_stays, recovered_as}
+use Rattle.vbi_near.specs.Recovery.{shown_in}
 use Rattle.vbi_near.specs.WordRule.{is_clear, is_close, word_in, code_in, said_of, unless_beyond, recovered_by}
-use Rattle.vbi_near.specs.WordRule.{first_said, said_in}
+use Rattle.vbi_near.specs.WordRule.{said_in}
 use Rattle.vbi_near.proofs.Chosen.{code-place}
 use Rattle.vbi_near.proofs.Most.{most_of-fits}
 use Rattle.vbi_near.proofs.OneSeen.{open_asked}
@@ -99,7 +101,7 @@ if-words : (b : Bool) (x y : Option ℕ) → AreWords x → AreWords y → AreWo
 if-words true x y is are = is
 if-words false x y is are = are
 
-first-words : (a b : Option ℕ) → AreWords a → AreWords b → AreWords (first_said a b)
+first-words : (a b : Option ℕ) → AreWords a → AreWords b → AreWords (option_or a b)
 first-words None b is are = are
 first-words (Some word) b is are = is
 
@@ -174,12 +176,12 @@ pub either : {A : Type 0} (P : A → Type 0) (b : Bool) (x y : A) → (b ≡ tru
 either P true x y is are = is refl
 either P false x y is are = are refl
 
-stays-pass : (o : Outcome) (pass : ℕ) (confirms : ℕ → Bool) → stays o pass confirms ≡ false → pass ≡ 2
-stays-pass (Word word) pass confirms e = grind arith
-stays-pass Blank pass confirms e = cc
-stays-pass Unfinished pass confirms e = cc
-stays-pass (Change c) pass confirms e = cc
-stays-pass (Hold c) pass confirms e = cc
+reading_stays-pass : (o : Outcome) (pass : ℕ) (confirms : ℕ → Bool) → reading_stays o pass confirms ≡ false → pass ≡ 2
+reading_stays-pass (Word word) pass confirms e = grind arith
+reading_stays-pass Blank pass confirms e = cc
+reading_stays-pass Unfinished pass confirms e = cc
+reading_stays-pass (Change c) pass confirms e = cc
+reading_stays-pass (Hold c) pass confirms e = cc
 
 abbrev IsLineShown : Recovered → Type 0
 IsLineShown line = IsShown (reading_as line)
@@ -190,11 +192,11 @@ own-shown line seen unit short is =
     let levels = row_levels line.slicing line.row.bytes in
     let o = seen.reading.outcome in
     let confirms : ℕ → Bool = is_confirmed unit seen.near seen.stretched in
-    either IsLineShown (stays o seen.reading.pass confirms)
+    either IsLineShown (reading_stays o seen.reading.pass confirms)
     (record { outcome = o; pass = seen.reading.pass }) (record { outcome = seen.plain; pass = 0 })
     (λ same. subst IsShown (sym is.reading) (reading_shown line.system levels short))
     (λ falls. subst (λ (plain : Outcome). IsShown (record { outcome = plain; pass = 0 }))
-    (sym (is.plain (stays-pass o seen.reading.pass confirms falls)))
+    (sym (is.plain (reading_stays-pass o seen.reading.pass confirms falls)))
     (outcome_shown line.system levels short _ 0 (is_outcome line.system levels) (lit< tt)))
 
 as-shown : (own : Recovered) (said : Option ℕ) → IsLineShown own → AreWords said
