@@ -12,8 +12,8 @@ use Rattle.vbi_line.proofs.OneReading.{is_outcome}
 use Rattle.vbi_near.specs.declared.near.Nears.{Nears}
 use Rattle.vbi_near.specs.declared.margins.Margins.{Margins}
 use Rattle.vbi_near.specs.declared.margins.MarginSet.{MarginSet}
-use Rattle.vbi_near.specs.declared.word_rule.Stand.{Stand}
-use Rattle.vbi_near.specs.declared.word_rule.Stand.TheVariants.{Alone, Apart, Together}
+use Rattle.vbi_near.specs.declared.word_rule.Agreement.{Stand}
+use Rattle.vbi_near.specs.declared.word_rule.Agreement.TheVariants.{Alone, Apart, Together}
 use Rattle.vbi_near.specs.Candidates.{Row, Lines, HasNear, HasNearIf, AreOf, AreOfBoth, given_samples, given_line}
 use Rattle.vbi_near.specs.Candidates.{given_pair}
 use Rattle.vbi_near.specs.Distances.{Samples, most_of, off_by, row_distance, distance_of, known_but}

@@ -7,9 +7,9 @@ use Rattle.std.proofs.Math.Nat.{mul-le-mul_right}
 use Rattle.std.specs.Option.{option_or}
 use Rattle.vbi_near.proofs.Common.{Word, Near, Nears, IsPlace, unit_of, codes_of, IsCodePlace, is_beyond_79999}
 use Rattle.vbi_near.proofs.Common.{IsNearestBy, far_from}
-use Rattle.vbi_near.proofs.{Chosen.code-place, Asked.both-hold, OneSeen.open_asked, NeverBeyond.own-few}
+use Rattle.vbi_near.proofs.{Chosen.code-place, AskedLines.both-hold, OneSeen.open_asked, NeverBeyond.own-few}
 use Rattle.vbi_words.specs.Outcomes.{word_of}
-use Rattle.vbi_near.specs.declared.word_rule.Stand.TheVariants.{Alone, Apart, Together}
+use Rattle.vbi_near.specs.declared.word_rule.Agreement.TheVariants.{Alone, Apart, Together}
 use Rattle.vbi_near.specs.WordRule.{said_of, unless_beyond, recovered_by, said_in, is_ahead, is_clear}
 use Rattle.vbi_near.specs.WordRule.{word_in, code_in, is_close}
 use Rattle.vbi_near.specs.Candidates.{HasNear, HasNearIf, Candidates, Row, Line, Lines, AreOf, AreOfBoth, has_swing}
@@ -17,7 +17,7 @@ use Rattle.vbi_near.specs.Candidates.{are_alike, given_line, levelled_line, give
 use Rattle.vbi_near.specs.Recovery.{Seen, IsSeen, Stands, alone, own_of, is_open, said_by, recovered_as, shown_in}
 use Rattle.vbi_near.specs.Ahead.{IsAhead, IsAheadBy, IsAheadOn, IsAheadOnBoth}
 use Rattle.vbi_near.specs.{declared.margins.Margins.Margins, declared.margins.MarginSet.MarginSet}
-use Rattle.vbi_near.specs.{declared.word_rule.Stand.Stand, declared.recovery.Recovered.Recovered}
+use Rattle.vbi_near.specs.{declared.word_rule.Agreement.Agreement, declared.recovery.Recovered.Recovered}
 use Rattle.vbi_near.specs.{LevelledLines.levelled_unit, Margins.levelled_margins, Margins.given_margins}
 
 -- ---- nearest words
@@ -156,7 +156,7 @@ alone-ahead line near both word are says = go (first-of _ _ word says)
         (omega arith) (refl, are.given) e)
 
 -- what one of two lines says, levelled or as they are: by its own nearest words, or by those of both together
-in-ahead : (lines pair : Lines) (margins : MarginSet) (stand : Stand) (can could : Bool) (near both : Option Nears)
+in-ahead : (lines pair : Lines) (margins : MarginSet) (stand : Agreement) (can could : Bool) (near both : Option Nears)
     (word : ℕ) → unit_of pair.slicing ≡ unit_of lines.slicing → 4 ≤ margins.lone.code.columns
     → 4 ≤ margins.lone.other.columns → 4 ≤ margins.apart.code.columns → 4 ≤ margins.apart.other.columns
     → 5 ≤ margins.both.code.columns → 5 ≤ margins.both.other.columns

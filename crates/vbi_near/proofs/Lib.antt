@@ -32,7 +32,7 @@ pub mod HalvedRows
 pub mod Stretches
 pub mod LeastAt
 pub mod OneSeen
-pub mod Asked
+pub mod AskedLines
 pub mod Ahead
 pub mod Kept
 pub mod SomeSeen

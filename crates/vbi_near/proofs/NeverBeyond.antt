@@ -11,13 +11,13 @@ use Rattle.vbi_near.proofs.Common.{row_levels, Nears, is_beyond_79999, unit_of}
 use Rattle.vbi_near.proofs.Digits.{digits-beyond}
 use Rattle.vbi_words.specs.{Outcomes.word_of, Readings.Reads}
 use Rattle.vbi_line.proofs.OneReading.{is_reading}
-use Rattle.vbi_near.specs.declared.word_rule.Stand.TheVariants.{Alone, Apart, Together}
+use Rattle.vbi_near.specs.declared.word_rule.Agreement.TheVariants.{Alone, Apart, Together}
 use Rattle.vbi_near.specs.WordRule.{said_if, unless_beyond, recovered_by, said_in}
 use Rattle.vbi_near.specs.Candidates.{Candidates, Line}
 use Rattle.vbi_near.specs.Recovery.{Seen, IsSeen, Stands, alone, own_of, is_open, is_confirmed, stands_of, said_by}
 use Rattle.vbi_near.specs.Recovery.{reading_stays, recovered_as, shown_in, IsRecovered}
 use Rattle.vbi_near.specs.{declared.recovery.Recovered.Recovered, declared.margins.Margins.Margins}
-use Rattle.vbi_near.specs.{declared.margins.MarginSet.MarginSet, declared.word_rule.Stand.Stand}
+use Rattle.vbi_near.specs.{declared.margins.MarginSet.MarginSet, declared.word_rule.Agreement.Agreement}
 
 -- ---- what is said
 
@@ -46,7 +46,7 @@ first-within None b is are = are
 first-within (Some w) b is are = is
 
 -- what an open line says
-in-within : (margins : MarginSet) (stand : Stand) (unit : ℕ) (near both : Option Nears)
+in-within : (margins : MarginSet) (stand : Agreement) (unit : ℕ) (near both : Option Nears)
     → IsWithin (said_in margins stand unit near both)
 in-within margins Alone unit near both = recovered-within unit margins.lone 1 near
 in-within margins Apart unit near both = recovered-within unit margins.apart 1 near

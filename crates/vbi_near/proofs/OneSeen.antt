@@ -1,5 +1,5 @@
 -- Lines have one pair of nearest words and one distance of a stretched word, and their bytes fix what they show by
--- their own levels. is_confirmed stands on it, and Asked, Kept and OneRecovered.
+-- their own levels. is_confirmed stands on it, and AskedLines, Kept and OneRecovered.
 use Rattle.std.proofs.Common.{◌≡◌, ◌≢◌, ℕ, Bool, true, false, List, [], ◌∷◌, refl, sym, ap, ◌∙◌, subst, arith, ne_eqb}
 use Rattle.std.specs.Prelude.{Option, IsTrue}
 use Rattle.vbi_near.proofs.Common.{System, Outcome, Word, Blank, Unfinished, Change, Hold, Reading, Slicing, reading_of}

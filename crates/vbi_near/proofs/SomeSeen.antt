@@ -1,5 +1,5 @@
 -- Any lines have nearest words, levelled and as they are, and a distance of a stretched word; and something is seen
--- of any line. recover_rows, Asked and SomeRecovered stand on it.
+-- of any line. recover_rows, AskedLines and SomeRecovered stand on it.
 use Rattle.std.proofs.Common.{◌≡◌, ℕ, ◌+◌, ◌≤◌, Bool, true, false, List, [], ◌∷◌, refl, ap, subst, arith, min}
 use Rattle.std.specs.Prelude.{Option, Some, None}
 use Rattle.vbi_near.proofs.Common.{System, Outcome, Word, width_of, Slicing, row_levels, reading_of, outcome_of, Nears}

@@ -14,7 +14,7 @@ use Rattle.vbi_near.specs.Candidates.{HasNear, Lines, some_lines}
 use Rattle.vbi_near.specs.LineSearch.{HasWord, IsSought}
 use Rattle.vbi_near.specs.Silence.{says_word, may_say, IsLeadWithin, StandsFor, IsUnsaid, AreSilent}
 use Rattle.vbi_near.specs.{declared.word_rule.Nearest.Nearest, declared.margins.Margins.Margins}
-use Rattle.vbi_near.specs.{declared.line_search.Sought.Sought, WordRule.close_limit, WordRule.said_of}
+use Rattle.vbi_near.specs.{declared.line_search.LineSearch.LineSearch, WordRule.close_limit, WordRule.said_of}
 
 -- ---- what was looked at
 
@@ -226,8 +226,8 @@ module _ (lines : Lines) (margins : Margins) (count : ℕ) (word : Nearest)
   silent_by not unsaid = grind (arith, same)
 
 -- lines whose nearest word isn't said, nor a code
-pub silent : (sought : Sought) (number unit count : ℕ) (margins : Margins) (slicing : Slicing) (lines : List Samples)
-    (costs : Shades) → IsSought sought → unit ≡ unit_of slicing → IsRowOf sought.sums slicing lines costs
+pub silent : (sought : LineSearch) (number unit count : ℕ) (margins : Margins) (slicing : Slicing)
+    (lines : List Samples) (costs : Shades) → IsSought sought → unit ≡ unit_of slicing → IsRowOf sought.sums slicing lines costs
     → says_word unit margins count sought.word ≡ false
     → IsUnsaid sought.sums number unit margins.code.columns (close_limit unit sought.word.near)
     → AreSilent margins count (some_lines sought.sums.system number slicing lines)

@@ -2,11 +2,11 @@
 use Rattle.std.specs.Prelude.{◌≡◌, ℕ, Option}
 use Rattle.vbi_near.specs.Candidates.{Line, HasNearIf, given_line, given_pair, levelled_line, levelled_pair, has_swing}
 use Rattle.vbi_near.specs.Candidates.{are_alike}
-use Rattle.vbi_near.specs.{declared.margins.MarginSet.MarginSet, declared.pair_rule.Asked.Asked}
+use Rattle.vbi_near.specs.{declared.margins.MarginSet.MarginSet, declared.pair_rule.AskedLines.AskedLines}
 use Rattle.vbi_near.specs.{declared.word_rule.PairNears.PairNears, WordRule.said_in, WordRule.stand_of}
 
 -- the nearest words of line 17, of line 18 and of both together, each if there may be such
-pub record HaveNear (line other : Line) (asked : Asked) (near : PairNears) : Type 0 where
+pub record HaveNear (line other : Line) (asked : AskedLines) (near : PairNears) : Type 0 where
   pub line_17 : HasNearIf (given_line line) asked.second near.second
   pub line_18 : HasNearIf (given_line other) asked.third near.third
   pub pair : HasNearIf (given_pair line other.row) asked.both near.both

@@ -8,8 +8,9 @@ use Rattle.vbi_near.specs.Common.{reading_of, outcome_of, unit_of}
 use Rattle.vbi_near.specs.WordRule.{said_if, recovered_by, is_said, stand_of, said_in}
 use Rattle.vbi_near.specs.Candidates.{Candidates, Row, Line, row_of, line_of, marks_at, given_samples, AreOf, AreOfBoth}
 use Rattle.vbi_near.specs.{declared.recovery.Recovered.Recovered, declared.near.Near.Near}
-use Rattle.vbi_near.specs.{declared.word_rule.PairNears.PairNears, declared.word_rule.Stand.Stand}
-use Rattle.vbi_near.specs.{declared.word_rule.Stand.TheVariants.Alone, Margins.levelled_margins, Margins.given_margins}
+use Rattle.vbi_near.specs.{declared.word_rule.PairNears.PairNears, declared.word_rule.Agreement.Agreement}
+use Rattle.vbi_near.specs.{declared.word_rule.Agreement.TheVariants.Alone, Margins.levelled_margins}
+use Rattle.vbi_near.specs.{Margins.given_margins}
 use Rattle.vbi_near.specs.{LevelledLines.levelled_unit, StretchedCells.IsStretched}
 
 -- ---- one line
@@ -80,8 +81,8 @@ are_open unit second third = is_open (own_of unit second).outcome && is_open (ow
 
 -- how lines 17 and 18 stand to each other, levelled and as they are
 pub record Stands : Type 0 where
-  pub levelled : Stand
-  pub given : Stand
+  pub levelled : Agreement
+  pub given : Agreement
 
 -- a line has no other beside it
 abbrev pub alone : Stands

@@ -5,11 +5,11 @@
 -- are off from each other in this many columns: `unit` is that of one column.
 use Rattle.std.specs.Prelude.{ℕ, ◌+◌, ◌*◌, ◌==◌, ◌&&◌, ◌||◌, Bool, false, not, is_some, nat_le, nat_lt, Option, Some}
 use Rattle.std.specs.Prelude.{None, if◌then◌else◌}
-use Rattle.vbi_near.specs.declared.word_rule.Stand.TheVariants.{Alone, Apart, Together}
+use Rattle.vbi_near.specs.declared.word_rule.Agreement.TheVariants.{Alone, Apart, Together}
 use Rattle.vbi_near.specs.{declared.near.Near.Near, declared.word_rule.Nearest.Nearest, declared.near.Nears.Nears}
 use Rattle.vbi_near.specs.{declared.margins.Margin.Margin, declared.margins.Margins.Margins}
 use Rattle.vbi_near.specs.{declared.margins.MarginSet.MarginSet, declared.word_rule.PairNears.PairNears}
-use Rattle.vbi_near.specs.{declared.word_rule.Stand.Stand, LineCodes.is_beyond_79999}
+use Rattle.vbi_near.specs.{declared.word_rule.Agreement.Agreement, LineCodes.is_beyond_79999}
 
 -- ---- what one or two lines say
 
@@ -134,12 +134,12 @@ may_agree unit ends (Some second) (Some third) (Some both) = do_agree unit ends 
 may_agree unit ends second third both = false
 
 -- how two open lines stand to each other
-abbrev pub stand_of : MarginSet → ℕ → PairNears → Stand
+abbrev pub stand_of : MarginSet → ℕ → PairNears → Agreement
 stand_of margins unit near =
     if may_agree unit margins.lone.ends near.second near.third near.both then Together else Apart
 
 -- the word that an open line says by its nearest word, or by that of lines 17 and 18 together
-abbrev pub said_in : MarginSet → Stand → ℕ → Option Nears → Option Nears → Option ℕ
+abbrev pub said_in : MarginSet → Agreement → ℕ → Option Nears → Option Nears → Option ℕ
 said_in margins Alone unit near both = recovered_by unit margins.lone 1 near
 said_in margins Apart unit near both = recovered_by unit margins.apart 1 near
 said_in margins Together unit near both = recovered_by unit margins.both 2 both

@@ -14,7 +14,7 @@ use vbi_words::System;
 
 /// Some lines whose nearest word was found, and what the search for their nearest code needs.
 #[derive(Clone, Copy)]
-pub(crate) struct Sought<'a> {
+pub(crate) struct LineSearch<'a> {
     pub(crate) sums: Sums<'a>,
     pub(crate) word: Nearest,
     /// The column at which the nearest of all words begins, also if none is nearer.
@@ -26,7 +26,7 @@ pub(crate) struct Sought<'a> {
     ghost far: { AreBounds (word_cost_by sums) (starts sums.system) bounds.now },
 }
 
-impl<'a> Sought<'a> {
+impl<'a> LineSearch<'a> {
     ghost use Rattle.vbi_near.specs.{Common.Shades, Rows.IsRowOf, LineSearch.IsSought};
 
     /// Finds the nearest word of the lines, with room for how near words are at each start.
@@ -37,7 +37,7 @@ impl<'a> Sought<'a> {
     {
         let found = nearest_word(&sums, bounds);
         let word = near_word(&sums, found);
-        Sought {
+        LineSearch {
             sums,
             word: Nearest {
                 near: word,
@@ -82,5 +82,5 @@ pub fn nears_of(system: System, number: u32, darks: &[u32], lights: &[u32]) -> N
     let mut light = [0; ROOM];
     let mut bounds = [0; MOST_STARTS];
     let sums = Sums::of(system, darks, lights, &mut dark, &mut light);
-    Sought::of(sums, &mut bounds[..start_count(system)]).nears(number)
+    LineSearch::of(sums, &mut bounds[..start_count(system)]).nears(number)
 }

@@ -24,7 +24,7 @@ use vbi_words::Word24;
 
 /// Which nearest words two lines may have: line 17, line 18, and both together.
 #[derive(Clone, Copy)]
-pub(crate) struct Asked {
+pub(crate) struct AskedLines {
     pub(crate) second: bool,
     pub(crate) third: bool,
     pub(crate) both: bool,
@@ -77,7 +77,7 @@ fn both_in_any_case(
 /// The words that lines 17 and 18 say by these margins.
 pub(crate) fn pair_said(
     margins: &MarginSet,
-    asked: Asked,
+    asked: AskedLines,
     pair: &Pair,
 ) -> (Option<Word24>, Option<Word24>)
     ensures { (near : PairNears) → HaveNear (line_in pair.now.second) (line_in pair.now.third) asked near
@@ -113,7 +113,7 @@ pub(crate) fn levelled_said(pair: &Pair) -> (Option<Word24>, Option<Word24>)
     let swing = level_row(second, bytes);
     let other_swing = level_row(third, other_bytes);
     let unit = unit_of(second.levels);
-    let asked = Asked {
+    let asked = AskedLines {
         second: is_swing(unit, swing),
         third: is_swing(unit, other_swing),
         both: are_alike(unit, swing, other_swing),

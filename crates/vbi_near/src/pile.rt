@@ -7,7 +7,7 @@ ghost use Rattle.vbi_near.specs.Common.{lines_of, known_but, most_of, IsPile, Ar
 ghost use Rattle.vbi_near.specs.{Rows.IsNearWord};
 
 use crate::bits::MOST_STARTS;
-use crate::line_search::{Sought, nears_of};
+use crate::line_search::{LineSearch, nears_of};
 use crate::lines::{line_of, sample};
 use crate::margins::{Margins, unit_of};
 use crate::near::{Near, Nears, WIDEST, nearest};
@@ -136,7 +136,7 @@ impl<'a> Pile<'a> {
             margins,
             lines: self.count as u32,
         };
-        let sought = Sought::of(sums, &mut bounds[..start_count(self.system)]);
+        let sought = LineSearch::of(sums, &mut bounds[..start_count(self.system)]);
         nears_if(&sought, number, &terms)
     }
 

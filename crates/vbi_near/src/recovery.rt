@@ -25,7 +25,7 @@ ghost use Rattle.vbi_near.specs.Recovery.{IsSeen, IsOwn, IsRecovered, IsKept, ro
 use crate::line_rule::{is_confirmed, recovered_alone};
 use crate::lines::{Line, Pair, Rows};
 use crate::margins::GIVEN;
-use crate::pair_rule::{Asked, levelled_said, pair_said};
+use crate::pair_rule::{AskedLines, levelled_said, pair_said};
 use vbi_line::{read_bytes_twice, read_packed, slice_bytes};
 use vbi_words::{Levels, Outcome, Reading, System, Word24};
 
@@ -113,7 +113,7 @@ fn said_by_both(pair: &Pair) -> (Option<Word24>, Option<Word24>)
     if said.0.is_some() && said.1.is_some() {
         return said;
     }
-    let asked = Asked {
+    let asked = AskedLines {
         second: true,
         third: true,
         both: true,

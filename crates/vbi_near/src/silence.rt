@@ -13,7 +13,7 @@ ghost use Rattle.vbi_near.specs.Silence.{says_word, IsLeadWithin, StandsFor, IsU
 ghost use Rattle.vbi_near.specs.{Candidates.some_lines, WordRule.close_limit, LineSearch.IsSought};
 
 use crate::codes::{none, with_start, with_start_by};
-use crate::line_search::Sought;
+use crate::line_search::LineSearch;
 use crate::margins::Margins;
 use crate::near::{Near, Nears, code_or_none};
 use crate::word_rule::{close_limit, is_ahead, is_clear};
@@ -32,7 +32,7 @@ pub(crate) struct Terms<'a> {
 }
 
 /// The nearest code among those that begin at the first start, or where a word may be within a limit; or none.
-fn nearest_within(sought: &Sought, line: u32, limit: u64) -> Found
+fn nearest_within(sought: &LineSearch, line: u32, limit: u64) -> Found
     ensures { IsLeadWithin sought.now.sums line limit (starts sought.now.sums.system) result }
 {
     let sums = &sought.sums;
@@ -47,7 +47,7 @@ fn nearest_within(sought: &Sought, line: u32, limit: u64) -> Found
 }
 
 /// Whether the nearest word of some lines is said if no code is.
-fn says_word(sought: &Sought, terms: &Terms) -> bool
+fn says_word(sought: &LineSearch, terms: &Terms) -> bool
     ensures { result ≡ says_word terms.now.unit terms.now.margins.now terms.now.lines sought.now.word }
 {
     let margins = terms.margins;
@@ -62,7 +62,7 @@ fn says_word(sought: &Sought, terms: &Terms) -> bool
 }
 
 /// Whether the nearest code of lines of this number may be said: whether it is close enough, and ahead of the others.
-fn may_say_code(sought: &Sought, number: u32, terms: &Terms) -> bool
+fn may_say_code(sought: &LineSearch, number: u32, terms: &Terms) -> bool
     ensures { result ≡ false → IsUnsaid sought.now.sums number terms.now.unit terms.now.margins.now.code.columns
         (close_limit terms.now.unit sought.now.word.near) }
 {
@@ -75,7 +75,7 @@ fn may_say_code(sought: &Sought, number: u32, terms: &Terms) -> bool
 }
 
 /// Whether lines of this number say neither their nearest word nor a code.
-fn is_silent(sought: &Sought, number: u32, terms: &Terms) -> bool
+fn is_silent(sought: &LineSearch, number: u32, terms: &Terms) -> bool
     ensures word { IsTrue result → says_word terms.now.unit terms.now.margins.now terms.now.lines sought.now.word
         ≡ false }
     ensures code { IsTrue result → IsUnsaid sought.now.sums number terms.now.unit terms.now.margins.now.code.columns
@@ -87,7 +87,7 @@ fn is_silent(sought: &Sought, number: u32, terms: &Terms) -> bool
 /// The nearest word of some lines, and the nearest of the codes that may stand on a line of this number, or none if
 /// they say nothing.
 #[tactic(auto, using(crate::proofs::Unsaid::silent))]
-pub(crate) fn nears_if(sought: &Sought, number: u32, terms: &Terms) -> Option<Nears>
+pub(crate) fn nears_if(sought: &LineSearch, number: u32, terms: &Terms) -> Option<Nears>
     requires { IsSought sought.now }
     ensures { (slicing : Slicing) (lines : List Samples) (costs : Shades)
         → terms.now.unit ≡ unit_of slicing → IsRowOf sought.now.sums slicing lines costs

@@ -31,7 +31,7 @@ pub(crate) struct PairNears {
 
 /// How lines 17 and 18 stand to each other.
 #[derive(Clone, Copy)]
-pub enum Stand {
+pub enum Agreement {
     /// One of them, or both, need no nearest word.
     Alone,
     /// Their nearest words don't agree.
@@ -286,20 +286,20 @@ fn may_agree(unit: u32, ends: u8, near: &PairNears) -> bool
 }
 
 /// How two open lines stand to each other.
-fn stand_of(margins: &MarginSet, unit: u32, near: &PairNears) -> Stand
+fn stand_of(margins: &MarginSet, unit: u32, near: &PairNears) -> Agreement
     ensures { result ≡ stand_of margins.now unit near.now }
 {
     if may_agree(unit, margins.lone.ends, near) {
-        Stand::Together
+        Agreement::Together
     } else {
-        Stand::Apart
+        Agreement::Apart
     }
 }
 
 /// The word that an open line says by its nearest word, or by that of lines 17 and 18 together.
 fn said_in(
     margins: &MarginSet,
-    stand: Stand,
+    stand: Agreement,
     unit: u32,
     near: Option<Nears>,
     both: Option<Nears>,
@@ -307,9 +307,9 @@ fn said_in(
     ensures { result ≡ said_in margins.now stand unit near both }
 {
     match stand {
-        Stand::Alone => recovered_by(unit, &margins.lone, 1, near),
-        Stand::Apart => recovered_by(unit, &margins.apart, 1, near),
-        Stand::Together => recovered_by(unit, &margins.both, 2, both),
+        Agreement::Alone => recovered_by(unit, &margins.lone, 1, near),
+        Agreement::Apart => recovered_by(unit, &margins.apart, 1, near),
+        Agreement::Together => recovered_by(unit, &margins.both, 2, both),
     }
 }
 

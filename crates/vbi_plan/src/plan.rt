@@ -106,7 +106,7 @@ pub struct PlanFault {
 
 /// Where a number stands in the file. The fields of a plan add up in 125 bits.
 #[derive(Clone, Copy)]
-pub(crate) struct Stand {
+pub(crate) struct RankedField {
     pub(crate) field: u128,
     pub(crate) rank: u32,
     ghost near: { field < 2 ^ 126 },
@@ -124,7 +124,7 @@ pub(crate) fn rank_at(plan: &Plan, at: usize) -> u32
 }
 
 /// Whether a number counts on from another one.
-pub(crate) fn counts_on(spacing: Spacing, here: Stand, there: Stand) -> bool
+pub(crate) fn counts_on(spacing: Spacing, here: RankedField, there: RankedField) -> bool
     ensures { (result ≡ true) ↔ CountsOn spacing here.field here.rank there.field there.rank }
 {
     let (field, rank) = (here.field, here.rank as u128);

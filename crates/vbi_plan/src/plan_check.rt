@@ -12,7 +12,7 @@ ghost use Rattle.vbi_plan.specs.Plans.{IsGood, IsDone, Breaks, IsFirstFault, Sho
 ghost use Rattle.vbi_plan.specs.Plans.{IsReached, is_both, out_at, place_of, rank_at, rank_of};
 
 use crate::plan::{
-    Capture, Layout, Plan, PlanFault, PlanRule, Spacing, Stand, Stretch, counts_on, rank_at,
+    Capture, Layout, Plan, PlanFault, PlanRule, Spacing, RankedField, Stretch, counts_on, rank_at,
 };
 use vbi_side::believed_at;
 
@@ -109,7 +109,7 @@ struct Check<'a> {
 }
 
 /// Where the number of a field stands, if it is in its place after the last one.
-fn in_place(check: &Check, last: Stand, step: usize, number: u32) -> Option<Stand>
+fn in_place(check: &Check, last: RankedField, step: usize, number: u32) -> Option<RankedField>
     ensures some { IfSome result (λ here. let plan = plan_of check.now.plan in
         StandsFor plan check.now.at (rank_of plan number)
         × CountsOn plan.layout.spacing last.field last.rank (place_of plan check.now.at step) (rank_of plan number)
@@ -120,7 +120,7 @@ fn in_place(check: &Check, last: Stand, step: usize, number: u32) -> Option<Stan
         → ⊥ }
 {
     let plan = &check.plan;
-    let here = Stand {
+    let here = RankedField {
         field: check.out + step as u128,
         rank: plan.layout.clock.kept(number),
     };
@@ -133,7 +133,7 @@ fn in_place(check: &Check, last: Stand, step: usize, number: u32) -> Option<Stan
 }
 
 /// The number from which the next ones count on.
-fn next_last(layout: Layout, last: Stand, here: Stand) -> Stand
+fn next_last(layout: Layout, last: RankedField, here: RankedField) -> RankedField
     ensures both { is_both layout.spacing ≡ true → result ≡ last }
     ensures others { is_both layout.spacing ≡ false → result ≡ here }
 {
@@ -144,7 +144,7 @@ fn next_last(layout: Layout, last: Stand, here: Stand) -> Stand
 }
 
 /// The number from which the next ones count on after a field; None if the field's number is out of its place.
-fn place_field(check: &Check, last: Stand, step: usize) -> Option<Stand>
+fn place_field(check: &Check, last: RankedField, step: usize) -> Option<RankedField>
     requires taken { check.now.stretch.padding ≡ 0 }
     requires step { step < check.now.stretch.fields }
     requires inside { check.now.stretch.field + check.now.stretch.fields ≤ length check.now.plan.numbers.now }
@@ -162,7 +162,7 @@ fn place_field(check: &Check, last: Stand, step: usize) -> Option<Stand>
 }
 
 /// The number from which the next ones count on after a stretch; None if one of its numbers is out of its place.
-fn place_fields(check: &Check, mut last: Stand) -> Option<Stand>
+fn place_fields(check: &Check, mut last: RankedField) -> Option<RankedField>
     requires taken { check.now.stretch.padding ≡ 0 }
     requires inside { check.now.stretch.field + check.now.stretch.fields ≤ length check.now.plan.numbers.now }
     requires reached { IsReached (plan_of check.now.plan) check.now.at 0 last.field last.rank }
@@ -177,7 +177,7 @@ fn place_fields(check: &Check, mut last: Stand) -> Option<Stand>
 }
 
 /// The number from which the next ones count on after the next stretch, or the rule that this stretch breaks.
-fn visit(check: &Check, last: Stand) -> Result<Stand, PlanRule>
+fn visit(check: &Check, last: RankedField) -> Result<RankedField, PlanRule>
     requires { IsReached (plan_of check.now.plan) check.now.at 0 last.field last.rank }
     ensures ok { IfOk result (λ next. IsGood (plan_of check.now.plan) check.now.at
         × IsReached (plan_of check.now.plan) (check.now.at + 1) 0 next.field next.rank) }
@@ -213,11 +213,11 @@ fn out_after(out: u128, fields: usize) -> u128
 }
 
 /// Where the plan's first number stands.
-fn first_stand(plan: &Plan) -> Stand
+fn first_stand(plan: &Plan) -> RankedField
     ensures field { result.field ≡ plan.now.layout.begin }
     ensures rank { result.rank ≡ rank_at (plan_of plan.now) 0 }
 {
-    Stand {
+    RankedField {
         field: plan.layout.begin as u128,
         rank: rank_at(plan, 0),
     }

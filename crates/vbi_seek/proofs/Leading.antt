@@ -8,12 +8,12 @@ use Rattle.vbi_seek.specs.declared.halving.End.{End}
 use Rattle.vbi_seek.specs.declared.halving.End.TheVariants.{First, Last}
 use Rattle.vbi_seek.specs.declared.narrowing.Between.{Between}
 use Rattle.vbi_seek.specs.declared.narrowing.Spot.{Spot}
-use Rattle.vbi_seek.specs.declared.search.Kind.{Kind}
-use Rattle.vbi_seek.specs.declared.search.Kind.TheVariants.{Number, Chapter}
+use Rattle.vbi_seek.specs.declared.search.Target.{Target}
+use Rattle.vbi_seek.specs.declared.search.Target.TheVariants.{Number, Chapter}
 use Rattle.vbi_seek.specs.declared.search.Looked.{Looked}
 use Rattle.vbi_seek.specs.declared.search.Search.{Search}
 use Rattle.vbi_seek.specs.FieldLines.{side_of}
-use Rattle.vbi_seek.specs.Kinds.{TellFirst, longest_of, most_of}
+use Rattle.vbi_seek.specs.Targets.{TellFirst, longest_of, most_of}
 use Rattle.vbi_seek.specs.NumberSearch.{left_most}
 use Rattle.vbi_seek.specs.NumberSpots.{IsNarrowed, middle_of}
 use Rattle.vbi_seek.specs.Searches.{IsAlone, IsHalved, IsHalving, IsNarrowedAt, IsNarrower, IsPart, IsReadAtMost}
@@ -21,7 +21,7 @@ use Rattle.vbi_seek.specs.Searches.{IsSilent, LeadsTo, middle_in}
 use Rattle.vbi_seek.specs.Spots.{IsToldAt, IsWithin, half, left_by, past_of, three_quarters, whole}
 
 -- what is told reaches no further than is looked at
-reaches : (kind : Kind) (f k : ℕ) → past_of kind f k ≤ f + (k - most_of kind) + most_of kind
+reaches : (kind : Target) (f k : ℕ) → past_of kind f k ≤ f + (k - most_of kind) + most_of kind
 reaches (Number judging) f k = omega arith
 reaches Chapter f k = omega arith
 
@@ -181,7 +181,7 @@ by_quarters sought at n spot old new halving from to narrowed = elim narrowed [
 ]
 
 -- told in the middle
-in_middle : (kind : Kind) (sought n read : ℕ) (old new : Between) → old.low + left_most < old.high
+in_middle : (kind : Target) (sought n read : ℕ) (old new : Between) → old.low + left_most < old.high
     → read ≤ longest_of kind → read ≤ most_of kind + (old.high - old.low) / 8
     → IsNarrowed sought (middle_in old + (read - most_of kind)) n old new
     → new.high - new.low ≤ left_by kind (old.high - old.low)
@@ -197,7 +197,7 @@ in_middle Chapter sought n read old new wide short few narrowed = elim narrowed 
       (omega (arith, wide, short))
 ]
 
-in_half : (kind : Kind) (end : End) (old : Between) → old.low + left_most < old.high
+in_half : (kind : Target) (end : End) (old : Between) → old.low + left_most < old.high
     → (half_at end old).high - (half_at end old).low ≤ left_by kind (old.high - old.low)
 in_half (Number judging) First old wide = omega (arith, wide)
 in_half (Number judging) Last old wide = omega (arith, wide)
@@ -213,7 +213,7 @@ told_there search judging spot old new is halving at = λ t a b leads within tol
     record {
       within = begun.within;
       told = begun.told;
-      narrower = subst (λ (kind : Kind). new.high - new.low ≤ left_by kind (old.high - old.low)) (sym is)
+      narrower = subst (λ (kind : Target). new.high - new.low ≤ left_by kind (old.high - old.low)) (sym is)
           (by_quarters search.sought (spot.field + (at.read - most_of search.kind)) at.number spot old new halving
           (omega arith) (omega (arith, at.few.1)) at.narrowed);
     }
@@ -247,7 +247,7 @@ never_led search n m t a b old kept part same silent lower higher leads within =
     (sym (ap (λ (b : Between). b.higher) same) ∙ higher) within
 
 -- no more than at one spot is little enough
-pub read_at_most : (kind : Kind) (before after : Looked)
+pub read_at_most : (kind : Target) (before after : Looked)
     → before.fields + before.spare + most_of kind ≤ 824
     → after.fields + after.spare ≤ before.fields + before.spare + most_of kind → IsReadAtMost kind before after
 read_at_most (Number judging) before after room few = few

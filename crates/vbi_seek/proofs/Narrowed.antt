@@ -9,7 +9,7 @@ use Rattle.vbi_seek.specs.declared.search.Search.{Search}
 use Rattle.vbi_seek.specs.Searches.{IsNarrowedAt, IsNarrowedByOne, IsNarrowedNear, IsNarrowedBetween, IsGuessed}
 use Rattle.vbi_seek.specs.Searches.{IsSilent, AreSeenFrom}
 use Rattle.vbi_seek.specs.Searches.{IsMoreLikelyAfter, middle_in, later_in, earlier_in}
-use Rattle.vbi_seek.specs.Kinds.{most_of}
+use Rattle.vbi_seek.specs.Targets.{most_of}
 use Rattle.vbi_seek.specs.NumberSearch.{probe_most, probe_longest}
 use Rattle.vbi_seek.specs.NumberSpots.{IsShownBetween}
 

@@ -4,22 +4,22 @@ use Rattle.std.proofs.Common.{lit≤, add-one}
 use Rattle.std.specs.Prelude.{◌⊎◌}
 use Rattle.std.proofs.lemmas.Bool.Decides.{leb_tells}
 use Rattle.vbi_seek.specs.declared.narrowing.Between.{Between}
-use Rattle.vbi_seek.specs.declared.search.Kind.{Kind}
-use Rattle.vbi_seek.specs.declared.search.Kind.TheVariants.{Number, Chapter}
+use Rattle.vbi_seek.specs.declared.search.Target.{Target}
+use Rattle.vbi_seek.specs.declared.search.Target.TheVariants.{Number, Chapter}
 use Rattle.vbi_seek.specs.declared.search.Looked.{Looked}
-use Rattle.vbi_seek.specs.Kinds.{most_of}
+use Rattle.vbi_seek.specs.Targets.{most_of}
 use Rattle.vbi_seek.specs.NumberSearch.{left_most}
 use Rattle.vbi_seek.specs.Searches.{IsNarrower}
 use Rattle.vbi_seek.specs.Spots.{IsPlaced, half, left_after, left_by, three_quarters}
 use Rattle.vbi_seek.proofs.Leading.{HasBegun}
 
 -- so few fields are left of those of the side after so many steps
-pub record IsAsNear (kind : Kind) (t a b count : ℕ) (between : Between) (steps : ℕ) : Type 0 where
+pub record IsAsNear (kind : Target) (t a b count : ℕ) (between : Between) (steps : ℕ) : Type 0 where
   pub begun : HasBegun (most_of kind) t a b between
   pub near : (between.high ≤ between.low + left_most)
       ⊎ (between.high ≤ between.low + left_after (left_by kind) count steps)
 
-pub near_first : (kind : Kind) (t a b count : ℕ) (between : Between) → HasBegun (most_of kind) t a b between
+pub near_first : (kind : Target) (t a b count : ℕ) (between : Between) → HasBegun (most_of kind) t a b between
     → between.high ≤ count → IsAsNear kind t a b count between 0
 unfolding left_after
 near_first kind t a b count between begun inside =
@@ -35,7 +35,7 @@ unfolding left_after
 left_more step count steps = rw add-one refl
 
 -- of fewer fields no more are left
-fewer_by : (kind : Kind) (few many : ℕ) → few ≤ many → left_by kind few ≤ left_by kind many
+fewer_by : (kind : Target) (few many : ℕ) → few ≤ many → left_by kind few ≤ left_by kind many
 fewer_by (Number judging) few many less = omega (arith, less)
 fewer_by Chapter few many less = omega (arith, less)
 
@@ -46,7 +46,7 @@ left_fewer step fewer few many zero less = less
 left_fewer step fewer few many (suc steps) less =
     fewer (left_after step few steps) (left_after step many steps) (left_fewer step fewer few many steps less)
 
-pub near_more : (kind : Kind) (t a b count steps : ℕ) (old new : Between) → IsAsNear kind t a b count old steps
+pub near_more : (kind : Target) (t a b count steps : ℕ) (old new : Between) → IsAsNear kind t a b count old steps
     → old.low + left_most < old.high → IsNarrower kind t a b old new → IsAsNear kind t a b count new (steps + 1)
 near_more kind t a b count steps old new near wide narrower = record {
   begun = record { within = narrower.within; told = narrower.told };
@@ -61,11 +61,11 @@ near_more kind t a b count steps old new near wide narrower = record {
   ];
 }
 
-pub near_still : (kind : Kind) (t a b count steps : ℕ) (between : Between) → IsAsNear kind t a b count between steps
+pub near_still : (kind : Target) (t a b count steps : ℕ) (between : Between) → IsAsNear kind t a b count between steps
     → between.high ≤ between.low + left_most → IsAsNear kind t a b count between (steps + 1)
 near_still kind t a b count steps between near few = record { begun = near.begun; near = inl few }
 
-pub placed : (kind : Kind) (t a b count steps : ℕ) (between : Between) → IsAsNear kind t a b count between steps
+pub placed : (kind : Target) (t a b count steps : ℕ) (between : Between) → IsAsNear kind t a b count between steps
     → left_after (left_by kind) count steps ≤ left_most → IsPlaced (most_of kind) t between
 placed kind t a b count steps between near last = record {
   from = near.begun.within.from;

@@ -1,11 +1,11 @@
 -- When a chapter that is sought has to be found: what the fields of a side tell leads to its first field.
 use Rattle.std.specs.Prelude.{◌≡◌, ◌<◌, ◌≤◌, ◌+◌, ◌⊎◌, ℕ}
 use Rattle.vbi_seek.specs.declared.chapter_search.Window.{Window}
-use Rattle.vbi_seek.specs.declared.search.Kind.TheVariants.{Chapter}
+use Rattle.vbi_seek.specs.declared.search.Target.TheVariants.{Chapter}
 use Rattle.vbi_seek.specs.declared.side_bytes.FoundField.{FoundField}
 use Rattle.vbi_seek.specs.ChapterSearch.{HasChapter, before_most}
 use Rattle.vbi_seek.specs.FieldLines.{Side}
-use Rattle.vbi_seek.specs.Kinds.{TellFirst}
+use Rattle.vbi_seek.specs.Targets.{TellFirst}
 use Rattle.vbi_seek.specs.Spots.{Spots, Leads, spots_in}
 
 -- this many fields of a side from this one on tell a chapter together, and fewer tell none; they are no more than are

@@ -1,7 +1,7 @@
 pub mod Asked
 pub mod FieldLines
 pub mod NumberSearch
-pub mod Kinds
+pub mod Targets
 pub mod Searches
 pub mod NumbersAround
 pub mod NumberSpots

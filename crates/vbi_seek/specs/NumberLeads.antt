@@ -5,8 +5,8 @@ use Rattle.vbi_side.specs.declared.pace.Pace as paces
 use Rattle.vbi_side.specs.Numbers.{IsAnswer, IsKnown}
 use Rattle.vbi_seek.specs.declared.search.Seek.{Seek}
 use Rattle.vbi_seek.specs.declared.number_search.Sought.{Sought}
-use Rattle.vbi_seek.specs.declared.search.Kind.TheVariants as kinds
-use Rattle.vbi_seek.specs.Kinds.{TellFirst}
+use Rattle.vbi_seek.specs.declared.search.Target.TheVariants as kinds
+use Rattle.vbi_seek.specs.Targets.{TellFirst}
 use Rattle.vbi_seek.specs.NumberSearch.{Numbers, numbers_by, shown_of, around_most}
 use Rattle.vbi_seek.specs.NumberSearch.{HasOther, IsJudgedIn}
 use Rattle.vbi_seek.specs.Spots.{Spots, Leads, spots_in}

@@ -8,13 +8,13 @@ use Rattle.vbi_seek.specs.declared.halving.End.TheVariants.{First, Last}
 use Rattle.vbi_seek.specs.declared.narrowing.Between.{Between}
 use Rattle.vbi_seek.specs.declared.narrowing.Spot.{Spot}
 use Rattle.vbi_seek.specs.declared.narrowing.Told.{Told}
-use Rattle.vbi_seek.specs.declared.search.Kind.{Kind}
-use Rattle.vbi_seek.specs.declared.search.Kind.TheVariants.{Number, Chapter}
+use Rattle.vbi_seek.specs.declared.search.Target.{Target}
+use Rattle.vbi_seek.specs.declared.search.Target.TheVariants.{Number, Chapter}
 use Rattle.vbi_seek.specs.declared.search.Looked.{Looked}
 use Rattle.vbi_seek.specs.declared.search.Search.{Search}
 use Rattle.vbi_seek.specs.ChapterSearch.{IsBetween, placed_most}
 use Rattle.vbi_seek.specs.FieldLines.{side_of}
-use Rattle.vbi_seek.specs.Kinds.{Tell, all_shown_by, longest_of, most_of, shown_by}
+use Rattle.vbi_seek.specs.Targets.{Tell, all_shown_by, longest_of, most_of, shown_by}
 use Rattle.vbi_seek.specs.NumberSearch.{probe_most, probe_longest}
 use Rattle.vbi_seek.specs.NumberSpots.{IsNarrowed, IsShownBetween}
 use Rattle.vbi_seek.specs.Spots.{Leads, IsWithin, IsToldAt, left_by, spots_in}
@@ -143,7 +143,7 @@ IsHalvedByBoth search old new = (told : Told) → old.lower ≡ Some told.lower 
     × IsNarrowedBetween search told spare seen old new)
 
 -- the fields have field t among them as before, and are fewer
-pub record IsNarrower (kind : Kind) (t a b : ℕ) (old new : Between) : Type 0 where
+pub record IsNarrower (kind : Target) (t a b : ℕ) (old new : Between) : Type 0 where
   pub within : IsWithin (most_of kind) t a b new
   pub told : IsToldAt new
   pub narrower : new.high - new.low ≤ left_by kind (old.high - old.low)
@@ -161,7 +161,7 @@ IsSpent search old before after =
 
 -- a step reads no more fields for a number than at one spot, wherever they lead, and for a chapter no more than may be
 -- read while its place is sought
-abbrev pub IsReadAtMost : Kind → Looked → Looked → Type 0
+abbrev pub IsReadAtMost : Target → Looked → Looked → Type 0
 IsReadAtMost (Number judging) before after =
     after.fields + after.spare ≤ before.fields + before.spare + probe_most
 IsReadAtMost Chapter before after = after.fields + after.spare ≤ placed_most

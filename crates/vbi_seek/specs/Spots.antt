@@ -1,11 +1,11 @@
 -- What the fields of a side tell at its spots, of numbers or of chapters, and when that leads a search to a field.
 use Rattle.std.specs.Prelude.{◌≡◌, ◌<◌, ◌≤◌, ◌+◌, ◌-◌, ◌*◌, ◌/◌, ◌⊎◌, ℕ, zero, suc, Some, None}
 use Rattle.vbi_seek.specs.declared.narrowing.Between.{Between}
-use Rattle.vbi_seek.specs.declared.search.Kind.{Kind}
-use Rattle.vbi_seek.specs.declared.search.Kind.TheVariants.{Number, Chapter}
+use Rattle.vbi_seek.specs.declared.search.Target.{Target}
+use Rattle.vbi_seek.specs.declared.search.Target.TheVariants.{Number, Chapter}
 use Rattle.vbi_seek.specs.ChapterSearch.{spot_most}
 use Rattle.vbi_seek.specs.FieldLines.{Side}
-use Rattle.vbi_seek.specs.Kinds.{TellFirst, most_of}
+use Rattle.vbi_seek.specs.Targets.{TellFirst, most_of}
 use Rattle.vbi_seek.specs.NumberSearch.{left_most}
 
 -- the spots of a side: how many fields it has, so many of which tell something at a spot if none is worn; which first
@@ -18,12 +18,12 @@ pub record Spots : Type 1 where
 
 -- one past the last field in which what some fields tell may begin: a number begins in one of the fields that tell it,
 -- and a chapter in one of the 24 from the first of these on
-abbrev pub past_of : Kind → ℕ → ℕ → ℕ
+abbrev pub past_of : Target → ℕ → ℕ → ℕ
 past_of (Number judging) f k = f + k
 past_of Chapter f k = f + spot_most
 
 -- the spots of numbers or of chapters of a side
-abbrev pub spots_in : Kind → Side → Spots
+abbrev pub spots_in : Target → Side → Spots
 spots_in kind side = record {
   count = side.count;
   most = most_of kind;
@@ -76,7 +76,7 @@ three_quarters many = 3 * many / 4
 abbrev pub half : ℕ → ℕ
 half many = (many + 1) / 2
 
-abbrev pub left_by : Kind → ℕ → ℕ
+abbrev pub left_by : Target → ℕ → ℕ
 left_by (Number judging) = three_quarters
 left_by Chapter = half
 

@@ -20,7 +20,7 @@ ghost use Rattle.vbi_seek.specs.{FieldLines.side_of, FieldLines.side_in, Spots.I
 
 use crate::halving::{LEFT, halve, sweep};
 use crate::narrowing::{Between, may_read};
-use crate::search::{Kind, Looked, Search};
+use crate::search::{Target, Looked, Search};
 use crate::side_bytes::{FoundField, Setup, SideBytes};
 use crate::spots::{NO_NUMBER, NOTHING_SEEN, SPOT, see_from};
 use vbi_side::{BELIEVED, Number, REACH, judge_chapters};
@@ -51,7 +51,7 @@ fn place_of(side: &SideBytes, chapter: u32) -> (Between, Looked)
             bytes: side.bytes,
             count: side.count,
         },
-        kind: Kind::Chapter,
+        kind: Target::Chapter,
         sought: chapter,
     };
     let mut between = Between::whole(side.count);
@@ -115,7 +115,7 @@ fn judge_window(side: &SideBytes, window: &Window, chapters: &mut [Number], look
 {
     let mut all_seen = [NOTHING_SEEN; AROUND];
     let seen = &mut all_seen[..window.many];
-    see_from(side, Kind::Chapter, window.first, seen, looked);
+    see_from(side, Target::Chapter, window.first, seen, looked);
     judge_chapters(seen, chapters);
 }
 

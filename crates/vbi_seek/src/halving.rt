@@ -12,11 +12,11 @@ ghost use Rattle.std.specs.Prelude.{◌≡◌, ℕ, ◌+◌, ◌-◌, ◌*◌, �
 ghost use Rattle.vbi_seek.specs.Searches.{IsAlone, IsHalved, IsHalving, IsNarrowedAt, IsPart, IsSilent, IsSpent};
 ghost use Rattle.vbi_seek.specs.Searches.{IsHalvedByBoth, IsReadAtMost, IsSilentFor, middle_in};
 ghost use Rattle.vbi_seek.specs.NumberSearch.{probe_most, probe_longest, looked_most, left_most};
-ghost use Rattle.vbi_seek.specs.{ChapterSearch.placed_most, Kinds.most_of, Kinds.read_most, NumberSpots.middle_of};
-ghost use Rattle.vbi_seek.specs.{declared.asked.Judging.Judging, declared.search.Kind.TheVariants.Number};
+ghost use Rattle.vbi_seek.specs.{ChapterSearch.placed_most, Targets.most_of, Targets.read_most, NumberSpots.middle_of};
+ghost use Rattle.vbi_seek.specs.{declared.asked.Judging.Judging, declared.search.Target.TheVariants.Number};
 
 use crate::narrowing::{Between, Spot, Told, ask_beside, narrow, narrow_between, narrow_either};
-use crate::search::{Kind, Looked, Search};
+use crate::search::{Target, Looked, Search};
 use crate::spots::{LONGEST, NOTHING_SEEN};
 
 /// Halving ends when no more fields than these are left: so few are judged at once.
@@ -112,11 +112,11 @@ fn narrow_beyond(search: &Search, end: End, between: &mut Between, looked: &mut 
     ensures halved { result ≡ true → IsHalved search.now between.old between.new }
 {
     match search.kind {
-        Kind::Number(_) => {
+        Target::Number(_) => {
             let (first, second) = beyond_middle(search, between, end);
             narrow_either(search, first, second, between, looked)
         }
-        Kind::Chapter => false,
+        Target::Chapter => false,
     }
 }
 
@@ -169,11 +169,11 @@ pub(crate) fn halve(search: &Search, between: &mut Between, looked: &mut Looked)
         Some(higher) => match between.lower {
             None => narrow_in_silence(search, End::Last, between, looked),
             Some(lower) => match search.kind {
-                Kind::Number(_) => {
+                Target::Number(_) => {
                     let told = Told { lower, higher };
                     narrow_between(search, told, &seen, between, looked);
                 }
-                Kind::Chapter => ask_beside(search, between, looked),
+                Target::Chapter => ask_beside(search, between, looked),
             },
         },
     }

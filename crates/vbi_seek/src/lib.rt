@@ -6,7 +6,7 @@
 //! that means is the same of both (specs/Spots.antt).
 //!
 //! `field_lines.rt` reads one field. What some fields in a row tell together is in `spots.rt`. By that `narrowing.rt`
-//! and `halving.rt` find the place at which to look for either (`Kind` of `search.rt`). `number_search.rt` judges the
+//! and `halving.rt` find the place at which to look for either (`Target` of `search.rt`). `number_search.rt` judges the
 //! fields around that place and answers, with the numbers beside it (`neighbours.rt`), and `chapter_search.rt` does it
 //! for chapters, which last long. `stop_search.rt` reads field after field.
 #![tactic(auto)]

@@ -16,7 +16,8 @@
 ghost use Rattle.std.specs.Prelude.{◌≡◌, ◌↔◌, ◌⊎◌, ℕ, ◌+◌, ◌-◌, ◌*◌, ◌<◌, ◌≤◌, false, true, None, IfSome};
 ghost use Rattle.vbi_seek.specs.Searches.{IsNarrowedAt, IsNarrowedByOne, IsNarrowedNear, IsNarrowedBetween, IsPart};
 ghost use Rattle.vbi_seek.specs.Searches.{IsSilent, IsSilentFor, IsSpotIn, IsMoreLikelyAfter, AreSeenFrom, middle_in};
-ghost use Rattle.vbi_seek.specs.{ChapterSearch.placed_most, Kinds.most_of, Kinds.read_most, NumberSearch.probe_most};
+ghost use Rattle.vbi_seek.specs.{ChapterSearch.placed_most, Targets.most_of, Targets.read_most};
+ghost use Rattle.vbi_seek.specs.{NumberSearch.probe_most};
 ghost use Rattle.vbi_seek.specs.{NumberSearch.probe_longest, NumberSearch.looked_most, NumberSpots.IsShownBetween};
 ghost use Rattle.vbi_seek.specs.{Spots.whole};
 

@@ -21,7 +21,7 @@ ghost use Rattle.vbi_side.specs.Numbers.{IsFirst};
 ghost use Rattle.vbi_seek.specs.NumbersAround.{IsWindow, IsJudgedAround, among, numbers_of};
 ghost use Rattle.vbi_seek.specs.Neighbours.{Span, span_of, down, up, IsBeside, IsLookedFor, AreAround, AreBeside};
 ghost use Rattle.vbi_seek.specs.NumberSearch.{shown_of, probe_most, probed_most, looked_most, left_most, IsSought};
-ghost use Rattle.vbi_seek.specs.{ChapterSearch.IsBetween, Kinds.most_of, NumberLeads.number_spots};
+ghost use Rattle.vbi_seek.specs.{ChapterSearch.IsBetween, Targets.most_of, NumberLeads.number_spots};
 ghost use Rattle.vbi_seek.specs.{NumberLeads.IsFirstKnown, NumberLeads.IsComplete, Searches.IsNarrowedAt};
 ghost use Rattle.vbi_seek.specs.{Searches.IsSilent, Spots.IsPlaced, Spots.Leads, Spots.left_after};
 ghost use Rattle.vbi_seek.specs.{Spots.three_quarters, NumberSearch.IsSoughtIn, NumberSpots.middle_of};
@@ -31,7 +31,7 @@ use crate::asked::{Judging, pace_for};
 use crate::halving::{LEFT, halve, sweep};
 use crate::narrowing::Between;
 use crate::neighbours::{Neighbour, first_higher, last_lower, neighbour_at};
-use crate::search::{Kind, Looked, Search, Seek};
+use crate::search::{Target, Looked, Search, Seek};
 use crate::side_bytes::SideBytes;
 use crate::spots::{NO_NUMBER, NOTHING_SEEN, PROBE, see_from};
 use vbi_side::{Number, PART, Pace, REACH, first_of, judge};
@@ -126,7 +126,7 @@ fn place_of(wanted: &NumberSearch) -> (Between, Looked)
             bytes: side.bytes,
             count: side.count,
         },
-        kind: Kind::Number(wanted.judging),
+        kind: Target::Number(wanted.judging),
         sought: wanted.number,
     };
     let mut between = Between::whole(search.side.count);
@@ -196,7 +196,7 @@ fn judge_around(
 {
     let mut all_seen = [NOTHING_SEEN; AROUND];
     let seen = &mut all_seen[..around.end - around.first];
-    let kind = Kind::Number(search.judging);
+    let kind = Target::Number(search.judging);
     see_from(&search.side, kind, around.first, seen, looked);
     let pace = pace_for(&search.judging, seen);
     judge(seen, pace, numbers);

@@ -14,7 +14,7 @@ pub struct Seek {
 
 /// What the fields of a side are read for.
 #[derive(Clone, Copy)]
-pub(crate) enum Kind {
+pub(crate) enum Target {
     /// A number of these.
     Number(Judging),
     Chapter,
@@ -24,7 +24,7 @@ pub(crate) enum Kind {
 #[derive(Clone, Copy)]
 pub(crate) struct Search<'a> {
     pub(crate) side: SideBytes<'a>,
-    pub(crate) kind: Kind,
+    pub(crate) kind: Target,
     pub(crate) sought: u32,
 }
 

@@ -13,14 +13,14 @@
 
 ghost use Rattle.std.specs.Prelude.{◌≡◌, ◌↔◌, ℕ, ◌+◌, ◌-◌, ◌*◌, ◌<◌, ◌≤◌, min, length, take, slice_get, true};
 ghost use Rattle.std.specs.Prelude.{IfSome, None};
-ghost use Rattle.vbi_seek.specs.Kinds.{fits_in, most_of, longest_of, shown_by, all_shown_by, IsToldBy, Tell};
+ghost use Rattle.vbi_seek.specs.Targets.{fits_in, most_of, longest_of, shown_by, all_shown_by, IsToldBy, Tell};
 ghost use Rattle.vbi_seek.specs.{ChapterSearch.spot_most, FieldLines.side_of, NumberSearch.probe_most};
 ghost use Rattle.vbi_seek.specs.{NumberSearch.probe_longest, NumberSearch.looked_most, NumberSpots.sum_below};
 ghost use Rattle.vbi_seek.specs.{Searches.shown_from, Searches.AreSeenFrom, Searches.TellsAt};
 ghost use Rattle.vbi_side.specs.{Beliefs.sighting_weight, Sightings.IsSeen};
 
 use crate::field_lines::{chapters_at, numbers_at};
-use crate::search::{Kind, Looked, Search};
+use crate::search::{Target, Looked, Search};
 use crate::side_bytes::SideBytes;
 use vbi_side::{NOTHING, Number, Pace, Sighting, Sightings, support};
 
@@ -56,30 +56,30 @@ pub(crate) const NO_NUMBER: Number = Number {
 };
 
 /// This many fields are read at a spot if none is worn.
-pub(crate) fn most_of(kind: Kind) -> usize
+pub(crate) fn most_of(kind: Target) -> usize
     ensures value { result ≡ most_of kind }
     ensures range { result ≤ spot_most }
 {
     match kind {
-        Kind::Number(_) => PROBE,
-        Kind::Chapter => SPOT,
+        Target::Number(_) => PROBE,
+        Target::Chapter => SPOT,
     }
 }
 
 /// This many are read there at most.
-pub(crate) fn longest_of(kind: Kind) -> usize
+pub(crate) fn longest_of(kind: Target) -> usize
     ensures value { result ≡ longest_of kind }
     ensures range { (most_of kind ≤ result) × (result ≤ probe_longest) }
     ensures more { result ≤ most_of kind + (probe_longest - probe_most) }
 {
     match kind {
-        Kind::Number(_) => LONGEST,
-        Kind::Chapter => SPOT,
+        Target::Number(_) => LONGEST,
+        Target::Chapter => SPOT,
     }
 }
 
 /// What a field shows of its number or of its chapter, with the nearest words of worn lines.
-fn shown_at(side: &SideBytes, kind: Kind, field: usize, looked: &mut Looked) -> Sightings
+fn shown_at(side: &SideBytes, kind: Target, field: usize, looked: &mut Looked) -> Sightings
     requires inside { field < side.now.count }
     requires room { looked.old.fields < looked_most }
     ensures shown { result ≡ shown_by kind (side_of side.now) field }
@@ -87,15 +87,15 @@ fn shown_at(side: &SideBytes, kind: Kind, field: usize, looked: &mut Looked) -> 
 {
     looked.fields += 1;
     match kind {
-        Kind::Number(judging) => numbers_at(side, &judging, field),
-        Kind::Chapter => chapters_at(side, field),
+        Target::Number(judging) => numbers_at(side, &judging, field),
+        Target::Chapter => chapters_at(side, field),
     }
 }
 
 /// Puts what each field from this one on shows into its place.
 pub(crate) fn see_from(
     side: &SideBytes,
-    kind: Kind,
+    kind: Target,
     first: usize,
     seen: &mut [Sightings],
     looked: &mut Looked,
@@ -112,20 +112,20 @@ pub(crate) fn see_from(
 
 /// Whether what field `other` shows says this number in this field: a number does that lies two fields a picture from
 /// it, and a chapter that is the same.
-fn fits_in(kind: Kind, field: usize, number: u32, other: usize, shown: u32) -> bool
+fn fits_in(kind: Target, field: usize, number: u32, other: usize, shown: u32) -> bool
     requires few { (field < probe_longest) × (other < probe_longest) }
     ensures { result ≡ fits_in kind field number other shown }
 {
     match kind {
-        Kind::Number(_) => {
+        Target::Number(_) => {
             other as u64 + 2 * u64::from(number) == field as u64 + 2 * u64::from(shown)
         }
-        Kind::Chapter => shown == number,
+        Target::Chapter => shown == number,
     }
 }
 
 /// How much a line of field `other` says it.
-fn weight_of(kind: Kind, field: usize, number: u32, other: usize, sighting: &Sighting) -> u32
+fn weight_of(kind: Target, field: usize, number: u32, other: usize, sighting: &Sighting) -> u32
     requires few { (field < probe_longest) × (other < probe_longest) }
     ensures value { result ≡ sighting_weight (fits_in kind field number other) sighting.now }
     ensures range { result ≤ 2 }
@@ -139,7 +139,7 @@ fn weight_of(kind: Kind, field: usize, number: u32, other: usize, sighting: &Sig
 
 /// How much the lines of all these fields say it.
 #[tactic(auto, using(crate::proofs::Running::sum_below_zero, crate::proofs::Running::sum_below_more))]
-fn weight_together(kind: Kind, seen: &[Sightings], field: usize, number: u32) -> u32
+fn weight_together(kind: Target, seen: &[Sightings], field: usize, number: u32) -> u32
     requires inside { field < length seen.now }
     requires few { length seen.now ≤ probe_longest }
     ensures { result ≡ sum_below (fits_in kind field number) seen.now (length seen.now) }
@@ -155,23 +155,23 @@ fn weight_together(kind: Kind, seen: &[Sightings], field: usize, number: u32) ->
 
 /// Whether enough of what these fields show says this number in this field: all of it at the pace of video, or what
 /// supports it around the field at either pace. Of a chapter all of it counts, however far apart.
-fn is_told(kind: Kind, seen: &[Sightings], field: usize, number: u32) -> bool
+fn is_told(kind: Target, seen: &[Sightings], field: usize, number: u32) -> bool
     requires inside { field < length seen.now }
     requires few { length seen.now ≤ probe_longest }
     ensures { (result ≡ true) ↔ IsToldBy kind seen.now field number }
 {
     match kind {
-        Kind::Number(_) => {
+        Target::Number(_) => {
             support(seen, Pace::Video, field, number) >= TOGETHER
                 || support(seen, Pace::Film, field, number) >= TOGETHER
                 || weight_together(kind, seen, field, number) >= TOGETHER
         }
-        Kind::Chapter => weight_together(kind, seen, field, number) >= TOGETHER,
+        Target::Chapter => weight_together(kind, seen, field, number) >= TOGETHER,
     }
 }
 
 /// Whether this line of a field shows a number that these fields tell together.
-fn is_together(kind: Kind, seen: &[Sightings], field: usize, sighting: &Sighting) -> bool
+fn is_together(kind: Target, seen: &[Sightings], field: usize, sighting: &Sighting) -> bool
     requires inside { field < length seen.now }
     requires few { length seen.now ≤ probe_longest }
     ensures { (result ≡ true) ↔ IsSeen sighting.now × IsToldBy kind seen.now field sighting.now.number }
@@ -180,7 +180,7 @@ fn is_together(kind: Kind, seen: &[Sightings], field: usize, sighting: &Sighting
 }
 
 /// The first number that these fields tell together, if they tell one, or the first chapter.
-fn told_together(kind: Kind, seen: &[Sightings]) -> Option<u32>
+fn told_together(kind: Target, seen: &[Sightings]) -> Option<u32>
     requires { length seen.now ≤ probe_longest }
     ensures some { IfSome result (λ number. Tell kind seen.now number) }
     ensures none { result ≡ None → (number : ℕ) → Tell kind seen.now number → ⊥ }

@@ -14,7 +14,7 @@ use Rattle.vbi_whole.specs.Drifts.{IsDrift, IsDriftTold}
 use Rattle.vbi_side.specs.Ends.{lead_out}
 use Rattle.vbi_whole.specs.Gaps.{AreNeighbours, AreGaps, since_end, rule_by, of_video}
 use Rattle.vbi_whole.specs.Detours.{detoured, detoured_from}
-use Rattle.vbi_whole.specs.Told.{tally_of}
+use Rattle.vbi_whole.specs.Tallies.{tally_of}
 use Rattle.vbi_side.specs.Numbers.{believed, nothing, doubtful_of, AreAnswers, IsAnswer, IsMarked}
 use Rattle.vbi_side.specs.Side.{AreEnds}
 use Rattle.vbi_whole.specs.Swaps.{IsSwap, IsSwapTold}

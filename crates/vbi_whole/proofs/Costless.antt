@@ -10,7 +10,7 @@ use Rattle.vbi_side.specs.Clocks.{kept}
 use Rattle.vbi_whole.specs.Detours.{detoured}
 use Rattle.vbi_whole.specs.Gaps.{lost, replaced, skipped, since_end, Judged}
 use Rattle.vbi_side.specs.Numbers.{IsMarked}
-use Rattle.vbi_whole.specs.Told.{fields_if, one_if, lost_of, undecided_of, shown_most, tally_of}
+use Rattle.vbi_whole.specs.Tallies.{fields_if, one_if, lost_of, undecided_of, shown_most, tally_of}
 use Rattle.vbi_whole.specs.Verdicts.{are_seen, verdict_of, too_few, AreReasons}
 use Rattle.vbi_whole.specs.Verdicts.{padded_in, reasons_of, HasNone, IsFinding, found_by}
 

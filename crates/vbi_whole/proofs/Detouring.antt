@@ -7,7 +7,7 @@ use Rattle.vbi_whole.specs.Types.{Gap, Tally, Rule}
 use Rattle.vbi_whole.specs.Gaps.{inserted, replaced}
 use Rattle.vbi_whole.specs.Detours.{detour_of, fields_by, turned, detoured_from}
 use Rattle.vbi_whole.specs.Detours.{detoured}
-use Rattle.vbi_whole.specs.Told.{AreTold, AreTelling, listed, stage}
+use Rattle.vbi_whole.specs.Tallies.{AreTold, AreTelling, listed, stage}
 
 module _ (rule : Rule) where
   -- ---- two gaps

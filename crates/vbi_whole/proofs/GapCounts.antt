@@ -8,7 +8,7 @@ use Rattle.vbi_side.specs.Clocks.{left_out, clock_fits, out_between}
 use Rattle.vbi_side.proofs.Counting.{kept_is, out_up, out_far}
 use Rattle.vbi_side.proofs.Truth.{near_same, video_fits}
 use Rattle.vbi_whole.specs.Gaps.{gap_of, skipped, rule_by, amid}
-use Rattle.vbi_whole.specs.Told.{lost_of, undecided_of}
+use Rattle.vbi_whole.specs.Tallies.{lost_of, undecided_of}
 use Rattle.vbi_side.specs.Paces.{spot}
 
 pub skipped_few : (clock : Clock) (m n : ℕ) → m < n → skipped clock m n + out_between clock m n ≤ n - m - 1

@@ -11,7 +11,7 @@ use Rattle.vbi_whole.specs.Detours.{detoured, turned, IsToldAs}
 use Rattle.vbi_whole.specs.Gaps.{lost, inserted, replaced, IsGap, AreGaps, HasRightEnds, LostAtLeast, Judged}
 use Rattle.vbi_side.specs.Numbers.{IsMarked}
 use Rattle.vbi_side.specs.Side.{Rises, captured, AreEnds}
-use Rattle.vbi_whole.specs.Told.{fields_if}
+use Rattle.vbi_whole.specs.Tallies.{fields_if}
 use Rattle.vbi_whole.proofs.Detouring.{detour_kind}
 use Rattle.vbi_whole.proofs.DetourLaws.{each_told}
 use Rattle.vbi_whole.proofs.GapLaws.{gap_least}

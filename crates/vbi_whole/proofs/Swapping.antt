@@ -9,13 +9,13 @@ use Rattle.vbi_side.specs.Numbers.{IsMarked}
 use Rattle.vbi_side.specs.Paces.{spot}
 use Rattle.vbi_whole.specs.Gaps.{IsLast, Judged}
 use Rattle.vbi_whole.specs.Swaps.{is_stray, IsSwap, IsFirstStray, IsSearch}
-use Rattle.vbi_whole.specs.declared.swaps.Search.{Search}
+use Rattle.vbi_whole.specs.declared.swaps.SwapSearch.{SwapSearch}
 use Rattle.vbi_side.proofs.Truth.{video_fits, near_same}
 use Rattle.vbi_whole.proofs.Telling.{neighbours_of}
 use Rattle.vbi_whole.proofs.GapLaws.{same_before, same_number, on_video}
 
 -- what the search knows, where this is the last number
-pub search_at : (judged : Judged) (k : ℕ) (search : Search) (place : Place) → IsSearch judged k search
+pub search_at : (judged : Judged) (k : ℕ) (search : SwapSearch) (place : Place) → IsSearch judged k search
     → search.last ≡ Some place → IsSearch judged k (record { last = Some place; stray = search.stray })
 search_at judged k search place is at =
     subst (λ last. IsSearch judged k (record { last = last; stray = search.stray })) at is

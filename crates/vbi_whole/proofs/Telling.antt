@@ -10,9 +10,9 @@ use Rattle.std.proofs.lemmas.Option.{slice_get-get_or, slice_get_within, slice_g
 use Rattle.std.proofs.lemmas.Option.{get_or_from_slice_get}
 use Rattle.vbi_whole.specs.Types.{Number, Gap, Tally, Place, Clock, Rule, Amid}
 use Rattle.vbi_side.specs.Numbers.{IsMarked}
-use Rattle.vbi_whole.specs.Told.{capped, one_if, one_if_open, fields_if, lost_of, undecided_of, still_end_of}
-use Rattle.vbi_whole.specs.Told.{begins_still, last_still, stills_of, tally_of, with_gap, AreWritten, AreTold}
-use Rattle.vbi_whole.specs.Told.{AreTelling, IsTelling, listed, Stage}
+use Rattle.vbi_whole.specs.Tallies.{capped, one_if, one_if_open, fields_if, lost_of, undecided_of, still_end_of}
+use Rattle.vbi_whole.specs.Tallies.{begins_still, last_still, stills_of, tally_of, with_gap, AreWritten, AreTold}
+use Rattle.vbi_whole.specs.Tallies.{AreTelling, IsTelling, listed, Stage}
 use Rattle.vbi_whole.proofs.Detouring.{settled_few}
 use Rattle.vbi_whole.specs.Gaps.{lost, held, back, still, joined, inserted, gap_of, gap_as, kind_of, since_end, is_end}
 use Rattle.vbi_whole.specs.Gaps.{AreNeighbours, IsFree, IsGap, AreGaps, IsLast, skipped, Judged, amid_of, from_of}

@@ -13,7 +13,7 @@ use Rattle.vbi_whole.specs.BlankFields.{IsBlank, IsBlankTold}
 use Rattle.vbi_side.specs.Numbers.{believed, IsMarked}
 use Rattle.vbi_side.specs.Side.{Rises, captured, NoneLost, AreEnds, IsAnchor}
 use Rattle.vbi_whole.specs.Gaps.{lost, HasRightEnds, LostAtLeast, to_judge, Judged, rule_by, goes_on, of_video}
-use Rattle.vbi_whole.specs.Told.{fields_if, capped}
+use Rattle.vbi_whole.specs.Tallies.{fields_if, capped}
 use Rattle.vbi_whole.specs.SaidWhole.{IsSaidWhole, AreClearEnds, AreFewLost}
 use Rattle.vbi_whole.specs.Verdicts.{verdict_of, is_off, HasNone, AreReasons, IsFinding}
 use Rattle.std.proofs.lemmas.Bool.{and_parts}

@@ -1,6 +1,6 @@
 pub mod Gaps
 pub mod Detours
-pub mod Told
+pub mod Tallies
 pub mod ClockSearch
 pub mod Verdicts
 pub mod AsideNumbers

@@ -5,7 +5,7 @@ use Rattle.std.specs.Prelude.{Option, Some, None, slice_get}
 use Rattle.vbi_whole.specs.Types.{Clock, Number, Video, Place, Sighting, Sightings, Rule}
 use Rattle.vbi_side.specs.Clocks.{clock_fits, by_clock}
 use Rattle.vbi_side.specs.Paces.{spot}
-use Rattle.vbi_whole.specs.declared.swaps.Search.{Search}
+use Rattle.vbi_whole.specs.declared.swaps.SwapSearch.{SwapSearch}
 use Rattle.vbi_whole.specs.Gaps.{AreNeighbours, IsLast, Judged}
 
 -- place b stands one field before or after the place that place a leaves for its number
@@ -63,7 +63,7 @@ IsSwapTold rule seen answers field false =
 
 -- of the fields after the last number and before this one, the one that was found is the first that stands off, or none
 -- does
-abbrev pub IsFirstStray : Clock → List Sightings → List Number → ℕ → Search → Type 0
+abbrev pub IsFirstStray : Clock → List Sightings → List Number → ℕ → SwapSearch → Type 0
 IsFirstStray clock seen answers field search = elim search.last [
   | None ↦ elim search.stray [ None ↦ Unit {0} | Some k ↦ ⊥ ]
   | Some place ↦ elim search.stray [
@@ -74,6 +74,6 @@ IsFirstStray clock seen answers field search = elim search.last [
 ]
 
 -- and this is the last number before it
-abbrev pub IsSearch : Judged → ℕ → Search → Type 0
+abbrev pub IsSearch : Judged → ℕ → SwapSearch → Type 0
 IsSearch judged field search = IsLast judged.numbers field search.last
     × IsFirstStray judged.rule.numbering.clock judged.seen judged.numbers field search

@@ -18,7 +18,7 @@ pub use Rattle.vbi_whole.specs.declared.gap.Numbering.{Numbering}
 pub use Rattle.vbi_whole.specs.declared.gap.Rule.{Rule}
 pub use Rattle.vbi_whole.specs.declared.tally.Tally.{Tally}
 pub use Rattle.vbi_whole.specs.declared.verdict.Finding.{Finding}
-pub use Rattle.vbi_whole.specs.declared.verdict.Found.{Found}
+pub use Rattle.vbi_whole.specs.declared.verdict.Findings.{Findings}
 pub use Rattle.vbi_whole.specs.declared.verdict.Reasons.{Reasons}
 pub use Rattle.vbi_whole.specs.declared.verdict.Verdict.{Verdict}
 pub use Rattle.vbi_whole.specs.declared.verdict.Verdict.TheVariants.{Yes, No, CannotTell}

@@ -1,14 +1,14 @@
 -- Whether a capture of a side is whole: yes, no, or it can't be told, with the reasons.
 use Rattle.std.specs.Prelude.{◌≡◌, ℕ, ◌+◌, ◌*◌, ◌-◌, ◌==◌, nat_lt, nat_le, not, ◌&&◌, ◌||◌, ◌⊎◌, Bool, false, true}
 use Rattle.std.specs.Prelude.{if◌then◌else◌, List, [], length, count_by, drop}
-use Rattle.vbi_whole.specs.Types.{Number, Gap, Tally, Finding, Found, Reasons, Verdict, Yes, No, CannotTell, Pace}
+use Rattle.vbi_whole.specs.Types.{Number, Gap, Tally, Finding, Findings, Reasons, Verdict, Yes, No, CannotTell, Pace}
 use Rattle.vbi_whole.specs.Types.{Video, Film, Place, Plain, Rule}
 use Rattle.vbi_side.specs.Paces.{spot, nearly}
 use Rattle.vbi_side.specs.Numbers.{IsMarked}
 use Rattle.vbi_side.specs.Side.{AreEnds}
 use Rattle.vbi_side.specs.Clocks.{by_clock}
 use Rattle.vbi_whole.specs.Gaps.{since_end, Judged}
-use Rattle.vbi_whole.specs.Told.{IsTold, tally_of}
+use Rattle.vbi_whole.specs.Tallies.{IsTold, tally_of}
 use Rattle.vbi_side.specs.Ends.{lead_out, padding}
 use Rattle.vbi_whole.specs.BlankFields.{IsBlankTold}
 use Rattle.vbi_whole.specs.Swaps.{IsSwapTold}
@@ -89,7 +89,7 @@ padded_in ends = count_by (λ e. e == padding) ends
 
 -- all reasons against a capture of which this is found; how far its first and its last number are from each other and
 -- from the disc's beginning is counted by the clock
-abbrev pub reasons_of : Judged → Bool → Found → Reasons
+abbrev pub reasons_of : Judged → Bool → Findings → Reasons
 reasons_of judged may_end found =
     let tally = found.tally in
     let first = by_clock judged.rule.numbering.clock found.first in
@@ -123,7 +123,7 @@ IsUntold answers finding =
     × (finding.last ≡ 0)
 
 -- what is found of a capture with these first and last numbers, if it is swapped or drifts as this says
-abbrev pub found_by : Finding → Bool → Bool → ℕ → ℕ → Found
+abbrev pub found_by : Finding → Bool → Bool → ℕ → ℕ → Findings
 found_by finding swapped drifts m n = record {
   tally = finding.tally;
   padded = finding.padded;

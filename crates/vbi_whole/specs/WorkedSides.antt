@@ -1,10 +1,10 @@
 -- Worked sides: what discs count, and gaps and fields written down.
 use Rattle.std.specs.Prelude.{ℕ, zero, suc, List, [], ◌∷◌, replicate, false, Option, Some}
 use Rattle.vbi_whole.specs.Types.{Ntsc, Pal, Pictures, Times, Numbering, Clock, Plain, Gap, Number, Sightings, Video}
-use Rattle.vbi_whole.specs.Types.{Film, Amid, Rule, Found}
+use Rattle.vbi_whole.specs.Types.{Film, Amid, Rule, Findings}
 use Rattle.vbi_side.specs.Numbers.{believed, nothing}
 use Rattle.vbi_side.specs.Worked.{field_of, blank}
-use Rattle.vbi_whole.specs.Told.{tally_of}
+use Rattle.vbi_whole.specs.Tallies.{tally_of}
 use Rattle.vbi_whole.specs.Gaps.{lost, still, gap_of, gap_made, to_judge, Judged, rule_by, amid}
 use Rattle.vbi_side.specs.Paces.{spot}
 
@@ -86,7 +86,7 @@ abbrev pub one_number : List ℕ → Judged
 one_number ends = to_judge by_pictures [] (believed 1 ∷ []) ends
 
 -- number 1 in field 0 and in this one, with these gaps and nothing else
-abbrev pub found_at : List Gap → ℕ → Found
+abbrev pub found_at : List Gap → ℕ → Findings
 found_at gaps last = record {
   tally = tally_of Plain gaps 0;
   padded = 0;

@@ -6,7 +6,7 @@ ghost use Rattle.std.specs.Prelude.{false, if◌then◌else◌};
 ghost use Rattle.vbi_whole.specs.Types.{Clock, Plain, DropFrame, OneIn, Gap, Numbering, Pace, Video};
 ghost use Rattle.vbi_whole.specs.Gaps.{lost, open_gap, gap_of, gap_made, skipped, to_judge, rule_by, amid};
 ghost use Rattle.vbi_whole.specs.WorkedSides.{clv, clv_by, worked_side, worked_answers, worked_ends, by_times, unseen};
-ghost use Rattle.vbi_whole.specs.{Told.lost_of, Told.undecided_of, Verdicts.IsFinding, Verdicts.found_whole};
+ghost use Rattle.vbi_whole.specs.{Tallies.lost_of, Tallies.undecided_of, Verdicts.IsFinding, Verdicts.found_whole};
 ghost use Rattle.vbi_side.specs.Clocks.{left_out, leaves_out, kept, place, clock_fits, IsProper, IsClear, out_between};
 ghost use Rattle.vbi_side.specs.Clocks.{out_near, DiscCountsBy, IsClearAt, numbered, drop_number, thousand_number};
 ghost use Rattle.vbi_side.specs.{Clocks.more_number, Side.DiscRuns, Side.captured, Votes.IsVoter, Beliefs.enough};

@@ -10,7 +10,7 @@ ghost use Rattle.vbi_whole.specs.Types.{Clock, Plain, Gap, Numbering, Number, Pa
 ghost use Rattle.vbi_whole.specs.Detours.{detour_of, fields_by, turned, detoured, skips, repeats, IsToldAs, IsLeft};
 ghost use Rattle.vbi_whole.specs.Gaps.{lost, held, back, still, joined, open_gap, inserted, replaced, gap_made};
 ghost use Rattle.vbi_whole.specs.Gaps.{since_end, IsGap, IsOfVideo, Judged, rule_by};
-ghost use Rattle.vbi_whole.specs.{Types.No, Types.Rule, Told.tally_of, Verdicts.too_few, Verdicts.padded_in};
+ghost use Rattle.vbi_whole.specs.{Types.No, Types.Rule, Tallies.tally_of, Verdicts.too_few, Verdicts.padded_in};
 ghost use Rattle.vbi_whole.specs.{Verdicts.HasNone, Verdicts.IsFinding, WorkedSides.cav, WorkedSides.by_pictures};
 ghost use Rattle.vbi_whole.specs.{WorkedSides.by_film, Detours.IsRightDetour};
 ghost use Rattle.vbi_side.specs.{Clocks.kept, Clocks.DiscCountsBy, Numbers.IsMarked, Side.Rises, Side.captured};

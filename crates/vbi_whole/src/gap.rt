@@ -16,7 +16,7 @@
 ghost use Rattle.std.specs.Prelude.{◌≡◌, ◌+◌, ◌*◌, ◌<◌, ◌≤◌, ◌^◌};
 ghost use Rattle.vbi_side.specs.{Paces.stays, Clocks.kept, Clocks.is_plain};
 ghost use Rattle.vbi_whole.specs.Gaps.{lacking, has_stills, has_clock, off_by, is_open, kind_of, fields_of, gap_of};
-ghost use Rattle.vbi_whole.specs.Told.{shown_most, lost_of, undecided_of, fields_if, one_if};
+ghost use Rattle.vbi_whole.specs.Tallies.{shown_most, lost_of, undecided_of, fields_if, one_if};
 ghost use Rattle.vbi_whole.specs.Gaps.{skipped, goes_on, from_of, to_of};
 
 use std::mem::size_of;

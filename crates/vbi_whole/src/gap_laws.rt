@@ -20,7 +20,8 @@ ghost use Rattle.vbi_whole.specs.Verdicts.{is_end_unseen, too_few, HasNone, IsFi
 ghost use Rattle.vbi_whole.specs.WorkedSides.{cav, cav_pal, clv, clv_pal, by_pictures, by_times, by_film, unseen};
 ghost use Rattle.vbi_whole.specs.WorkedSides.{after_5, gap_after_5, two_stills, two_pictures, two_answers, worked_side};
 ghost use Rattle.vbi_whole.specs.{Types.OneIn, Types.Numbering, Types.Yes, Types.CannotTell, Detours.detoured};
-ghost use Rattle.vbi_whole.specs.{Told.lost_of, Told.undecided_of, Told.stills_of, Told.last_still, Swaps.stands_off};
+ghost use Rattle.vbi_whole.specs.{Tallies.lost_of, Tallies.undecided_of, Tallies.stills_of, Tallies.last_still};
+ghost use Rattle.vbi_whole.specs.{Swaps.stands_off};
 ghost use Rattle.vbi_whole.specs.{Swaps.is_stray, NumbersOnBoth.is_on_both, SaidWhole.IsSaidWhole};
 ghost use Rattle.vbi_whole.specs.SaidWhole.{AreClearEnds, AreFewLost, IsReadGap};
 ghost use Rattle.vbi_whole.specs.{Drifts.leads, Drifts.IsDriftTold};

@@ -6,14 +6,15 @@
 //! which pair ends there, if one does, gap.rt what lies between the two, and detour.rt which gaps are a detour.
 //!
 //! clock_search.rt makes its pass with `neighbours_at` and `last_at`, and verdict.rt counts with `since_at`. What this
-//! file tells is `IsTold` of `specs/Told.antt`; a change of what counts as an end changes ends.rt and include/ldvbi.h
-//! too.
+//! file tells is `IsTold` of `specs/Tallies.antt`; a change of what counts as an end changes ends.rt and
+//! include/ldvbi.h too.
 
 ghost use Rattle.std.specs.Prelude.{◌≡◌, ◌≢◌, ℕ, suc, ◌+◌, ◌*◌, ◌<◌, ◌≤◌, ◌^◌, length, slice_set, List, [], Bool};
 ghost use Rattle.std.specs.Prelude.{Option, Some, None, IfSome, true};
 ghost use Rattle.vbi_whole.specs.Gaps.{gap_of, skipped, ended_between, shown_between, AreNeighbours, IsFree, IsLast};
-ghost use Rattle.vbi_whole.specs.{Types.Gap, Types.Clock, Types.Number, Types.Sightings, Told.IsTold, Told.IsTelling};
-ghost use Rattle.vbi_whole.specs.{Told.waiting, Told.stage_of, Gaps.is_end, Gaps.since_end, Gaps.judged_in};
+ghost use Rattle.vbi_whole.specs.{Types.Gap, Types.Clock, Types.Number, Types.Sightings, Tallies.IsTold};
+ghost use Rattle.vbi_whole.specs.{Tallies.IsTelling};
+ghost use Rattle.vbi_whole.specs.{Tallies.waiting, Tallies.stage_of, Gaps.is_end, Gaps.since_end, Gaps.judged_in};
 ghost use Rattle.vbi_side.specs.{Numbers.IsMarked, Sightings.shows_between};
 
 use crate::detour::Waiting;

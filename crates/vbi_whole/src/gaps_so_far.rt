@@ -4,7 +4,7 @@
 //! until the next one is found or the fields end. Of two that are a detour neither waits: none is of two detours.
 
 ghost use Rattle.std.specs.Prelude.{◌≡◌, ℕ, ◌+◌, ◌<◌, ◌≤◌, ◌^◌, length, slice_set, List, [], ◌∷◌, ◌++◌, Some, None};
-ghost use Rattle.vbi_whole.specs.Told.{AreTold, AreTelling, waiting, listed, stage_of};
+ghost use Rattle.vbi_whole.specs.Tallies.{AreTold, AreTelling, waiting, listed, stage_of};
 ghost use Rattle.vbi_whole.specs.{Types.Clock, Types.Gap, Types.Pace, Types.Rule, Detours.detoured};
 
 use crate::detour::{Waiting, detour, fields_by};

@@ -8,7 +8,8 @@ ghost use Rattle.vbi_whole.specs.Gaps.{lost, held, back, still, joined, open_gap
 ghost use Rattle.vbi_whole.specs.Verdicts.{no_reason, verdict_of, reasons_of, is_begin_unseen, lead_out_follows};
 ghost use Rattle.vbi_whole.specs.Verdicts.{are_doubtful, padded_in, HasNone, IsFinding};
 ghost use Rattle.vbi_whole.specs.{BlankFields.IsBlank, BlankFields.IsBlankTo, Gaps.GoesOn, Gaps.to_judge, Gaps.Judged};
-ghost use Rattle.vbi_whole.specs.{Told.tally_of, WorkedSides.one_number, WorkedSides.found_at, WorkedSides.by_pictures};
+ghost use Rattle.vbi_whole.specs.{Tallies.tally_of, WorkedSides.one_number, WorkedSides.found_at};
+ghost use Rattle.vbi_whole.specs.{WorkedSides.by_pictures};
 ghost use Rattle.vbi_side.specs.{Ends.no_end, Ends.lead_out, Ends.lead_in, Ends.padding, Ends.end_of, Numbers.believed};
 ghost use Rattle.vbi_side.specs.{Numbers.doubtful, Paces.spot};
 

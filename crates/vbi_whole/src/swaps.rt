@@ -65,7 +65,7 @@ fn is_stray(side: &Side, here: Place, field: usize) -> bool
 
 /// What the search knows of the fields before the next one.
 #[derive(Clone, Copy)]
-struct Search {
+struct SwapSearch {
     /// The last field with a believed number.
     last: Option<Place>,
     /// The first field after it whose number stands a field off.
@@ -73,17 +73,17 @@ struct Search {
 }
 
 /// What the search knows of the fields before the one after this.
-fn search_after(side: &Side, field: usize, search: Search) -> Search
+fn search_after(side: &Side, field: usize, search: SwapSearch) -> SwapSearch
     requires inside { field < length side.now.numbers.now }
     requires search { IsSearch (judged_in side.now) field search }
     ensures { IsSearch (judged_in side.now) (field + 1) result }
 {
     match (believed_at(side.numbers, field), search.last) {
-        (Some(there), _) => Search {
+        (Some(there), _) => SwapSearch {
             last: Some(there),
             stray: None,
         },
-        (None, Some(here)) if search.stray.is_none() && is_stray(side, here, field) => Search {
+        (None, Some(here)) if search.stray.is_none() && is_stray(side, here, field) => SwapSearch {
             stray: Some(field),
             ..search
         },
@@ -92,7 +92,7 @@ fn search_after(side: &Side, field: usize, search: Search) -> Search
 }
 
 /// The first field that stands off between the last number and the one of this field, if these go on.
-fn swap_before(side: &Side, field: usize, search: Search) -> Option<usize>
+fn swap_before(side: &Side, field: usize, search: SwapSearch) -> Option<usize>
     requires inside { field < length side.now.numbers.now }
     requires search { IsSearch (judged_in side.now) field search }
     ensures some { IfSome result (λ k. IsSwapIn (judged_in side.now) k) }
@@ -119,7 +119,7 @@ pub(crate) fn first_swap(side: &Side) -> Option<usize>
     ensures first { IfSome result (λ field. (k : ℕ) → k < field → IsSwapIn (judged_in side.now) k → ⊥) }
     ensures none { result ≡ None → (k : ℕ) → IsSwapIn (judged_in side.now) k → ⊥ }
 {
-    let mut search = Search {
+    let mut search = SwapSearch {
         last: None,
         stray: None,
     };

@@ -5,7 +5,7 @@
 
 ghost use Rattle.std.specs.Prelude.{◌≡◌, ◌+◌, ◌<◌, ◌^◌, []};
 ghost use Rattle.vbi_whole.specs.Types.{Clock};
-ghost use Rattle.vbi_whole.specs.Told.{tally_of, with_gap, with_unread, still_end_of, begins_still};
+ghost use Rattle.vbi_whole.specs.Tallies.{tally_of, with_gap, with_unread, still_end_of, begins_still};
 
 use crate::gap::{BACK, Gap, HELD, INSERTED, JOINED, LOST, OPEN, REPLACED, STILL};
 use std::mem::size_of;

@@ -1,7 +1,7 @@
 //! Whether a capture of a side is whole.
 //!
 //! `judge_whole` asks four passes over the answers: the gaps (gaps.rt), the swapped fields (swaps.rt), the numbers that
-//! drift (drift.rt) and the fields without any (blank_fields.rt). What they find is `Found`, with the first and the
+//! drift (drift.rt) and the fields without any (blank_fields.rt). What they find is `Findings`, with the first and the
 //! last number. Each thing that speaks against the capture is one of its `Reasons`. Some are seen on the capture
 //! itself: with one of these the verdict is `No`. The others leave it open, so with these alone it is `CannotTell`. A
 //! capture without a number has the reason `no_numbers` alone.
@@ -224,7 +224,7 @@ struct Swap {
 
 /// What was found of a capture with a believed number.
 #[derive(Clone, Copy)]
-struct Found {
+struct Findings {
     /// What its gaps come to.
     tally: Tally,
     /// How many fields are padding.
@@ -242,7 +242,7 @@ struct Found {
 }
 
 /// All reasons against a capture.
-fn reasons_against(side: &Side, may_end: bool, found: &Found) -> Reasons
+fn reasons_against(side: &Side, may_end: bool, found: &Findings) -> Reasons
     requires first { found.now.first.field < length side.now.numbers.now }
     requires last { found.now.last.field < length side.now.numbers.now }
     requires padded { found.now.padded ≡ padded_in side.now.ends.now }
@@ -319,7 +319,7 @@ pub fn judge_whole(side: &Side, may_end: bool, out: &mut [Gap]) -> Finding
         };
     };
     let last = last_believed(side.numbers).unwrap_or(first);
-    let found = Found {
+    let found = Findings {
         tally,
         padded,
         swap,

@@ -1,7 +1,7 @@
 use Rattle.std.proofs.Common.{◌≡◌, ℕ, true, false, ap, ◌∙◌, rules}
 use Rattle.std.specs.Prelude.{Option, Some, is_some}
 use Rattle.std.specs.Option.{option_or}
-use Rattle.vbi_near.proofs.{Common.unit_of, Asked.first-says, Asked.other-says}
+use Rattle.vbi_near.proofs.{Common.unit_of, AskedLines.first-says, AskedLines.other-says}
 use Rattle.vbi_near.specs.{Margins.given_margins, WordRule.unless_beyond, WordRule.recovered_by}
 use Rattle.vbi_near.proofs.line_rule.recovered_alone.Goals as goal
 

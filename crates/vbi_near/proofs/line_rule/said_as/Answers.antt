@@ -1,6 +1,6 @@
 use Rattle.std.proofs.Common.{ℕ, ap, ◌∙◌}
 use Rattle.vbi_near.specs.{WordRule.said_if, Lines.line_in, Candidates.given_line}
-use Rattle.vbi_near.proofs.Asked.{heard-says}
+use Rattle.vbi_near.proofs.AskedLines.{heard-says}
 use Rattle.vbi_near.proofs.line_rule.said_as.Goals as goal
 
 pub returns : goal.returns

@@ -1,6 +1,6 @@
 use Rattle.std.proofs.Common.{◌≡◌, ℕ, true, false, [], ◌∷◌, List, sym, ap, ◌∙◌, subst}
 use Rattle.vbi_near.proofs.Common.{Slicing, samples_of, known_but, unit_of}
-use Rattle.vbi_near.proofs.Asked.{none_if, says_if}
+use Rattle.vbi_near.proofs.AskedLines.{none_if, says_if}
 use Rattle.vbi_near.specs.LevelledLines.{levelled_unit, levelled_slicing, is_swing}
 use Rattle.vbi_near.specs.Candidates.{Line, Lines, HasNear, some_lines, given_line, levelled_line, has_swing}
 use Rattle.vbi_near.specs.{Margins.levelled_margins, WordRule.said_of, WordRule.said_if, Lines.line_in}

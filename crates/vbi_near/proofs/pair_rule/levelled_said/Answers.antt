@@ -1,8 +1,9 @@
 use Rattle.std.proofs.Common.{◌≡◌, [], ◌∷◌, refl, sym, ◌∙◌, ap, subst}
 use Rattle.vbi_near.proofs.Common.{samples_of, Samples, known_but, unit_of}
-use Rattle.vbi_near.proofs.Asked.{same_if, levelled_as, swing_each}
+use Rattle.vbi_near.proofs.AskedLines.{same_if, levelled_as, swing_each}
 use Rattle.vbi_near.specs.Candidates.{Line, line_of, row_of, some_lines, has_swing, swing_in, are_alike, are_alike_by}
-use Rattle.vbi_near.specs.{declared.pair_rule.Asked.Asked, LevelledLines.levelled_slicing, LevelledLines.is_swing}
+use Rattle.vbi_near.specs.{declared.pair_rule.AskedLines.AskedLines, LevelledLines.levelled_slicing}
+use Rattle.vbi_near.specs.{LevelledLines.is_swing}
 use Rattle.vbi_near.specs.{Margins.levelled_margins, Lines.line_in, PairRule.HaveNear, PairRule.SayInPair}
 use Rattle.vbi_near.proofs.pair_rule.levelled_said.Goals as goal
 
@@ -43,7 +44,7 @@ returns c near has =
     (λ is. let each = swing_each (unit_of line.slicing) (swing_in line.system line.slicing line.row)
     (swing_in line.system line.slicing other.row) (alike ∙ is) in
     λ j. some_lines line.system line.number levelled_slicing (a each.0 j ∷ d each.1 j ∷ [])) has.pair in
-    let asked : Asked
+    let asked : AskedLines
     = record { second = c.is_swing.result; third = c.is_swing-2.result; both = c.are_alike.result } in
     let found = line_of line.system line.number levelled_slicing
     (row_of c.level_row-swing.new.out line.row.erased) in

@@ -1,6 +1,6 @@
 use Rattle.std.proofs.Common.{◌≡◌, ℕ, subst, rules}
 use Rattle.std.specs.Prelude.{Option, None}
-use Rattle.vbi_near.proofs.{Common.Nears, Common.Slicing, Common.unit_of, OneSeen.one_near_if, Asked.pair-silent}
+use Rattle.vbi_near.proofs.{Common.Nears, Common.Slicing, Common.unit_of, OneSeen.one_near_if, AskedLines.pair-silent}
 use Rattle.vbi_near.specs.{declared.word_rule.PairNears.PairNears, Lines.row_in, Lines.line_in, Candidates.given_line}
 use Rattle.vbi_near.specs.{Candidates.given_pair, PairRule.SayInPair, Silence.HasNearIfUnlessSilent, WordRule.said_if}
 use Rattle.vbi_near.proofs.pair_rule.pair_said.Goals as goal

@@ -1,7 +1,7 @@
 use Rattle.std.proofs.Common.{◌≡◌, ℕ, ◌<◌, ◌∷◌, [], ◌++◌, List, true, map, take, subst, ap, sym, ◌∙◌, arith}
 use Rattle.std.proofs.lemmas.List.{take_more_set, length-set}
 use Rattle.vbi_near.proofs.Common.{samples_of, Samples, known_but, unit_of}
-use Rattle.vbi_near.proofs.{PiledRows.rows-next, PiledRows.each-swings, Asked.levelled_as}
+use Rattle.vbi_near.proofs.{PiledRows.rows-next, PiledRows.each-swings, AskedLines.levelled_as}
 use Rattle.vbi_near.specs.Candidates.{Row, Line, levelled_samples, swing_in, has_swing}
 use Rattle.vbi_near.specs.PileRule.{rows_in, are_all_alike, swing_alike}
 use Rattle.vbi_near.specs.{Lines.line_in_rows, Lines.row_at, LevelledLines.levelled_slicing, Pile.IsPileOf}

@@ -1,7 +1,7 @@
 use Rattle.std.proofs.Common.{◌≡◌, ℕ, true, refl, ap, ◌∙◌, rules}
 use Rattle.std.specs.Prelude.{Option, Some, is_some}
 use Rattle.std.specs.Option.{option_or}
-use Rattle.vbi_near.proofs.{Common.unit_of, Asked.first-says}
+use Rattle.vbi_near.proofs.{Common.unit_of, AskedLines.first-says}
 use Rattle.vbi_near.specs.WordRule.{said_in, stand_of}
 use Rattle.vbi_near.specs.{Margins.given_margins, Recovery.levelled_of, Recovery.given_of}
 use Rattle.vbi_near.proofs.recovery.said_by_both.Goals as goal

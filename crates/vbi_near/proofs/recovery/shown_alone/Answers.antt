@@ -1,7 +1,7 @@
 use Rattle.std.proofs.Common.{◌∙◌, rules}
 use Rattle.std.specs.Prelude.{IsTrue}
 use Rattle.vbi_near.specs.{Recovery.is_open, Recovery.alone, Lines.line_in}
-use Rattle.vbi_near.proofs.Asked.{open-near, open-shows}
+use Rattle.vbi_near.proofs.AskedLines.{open-near, open-shows}
 use Rattle.vbi_near.proofs.recovery.shown_alone.Goals as goal
 
 pub returns-then-is_open : goal.returns-then-is_open

@@ -1,6 +1,6 @@
 use Rattle.std.proofs.Common.{◌≡◌, true, false, ◌∙◌, rules}
 use Rattle.std.specs.Prelude.{◌&&◌}
-use Rattle.vbi_near.proofs.{Common.unit_of, Asked.pair-open, Asked.pair-shows, Asked.stands-alone}
+use Rattle.vbi_near.proofs.{Common.unit_of, AskedLines.pair-open, AskedLines.pair-shows, AskedLines.stands-alone}
 use Rattle.vbi_near.specs.{Lines.line_in, Recovery.is_open, Recovery.shown_in}
 use Rattle.vbi_near.proofs.recovery.shown_pair.Goals as goal
 

@@ -1,5 +1,5 @@
 use Rattle.std.proofs.Common.{◌+◌, ◌<◌, ap, arith, inl, inr, subst, sym}
-use Rattle.vbi_seek.specs.declared.search.Kind.TheVariants.{Chapter}
+use Rattle.vbi_seek.specs.declared.search.Target.TheVariants.{Chapter}
 use Rattle.vbi_seek.specs.declared.search.Looked.{Looked}
 use Rattle.vbi_seek.specs.ChapterSearch.{IsBetween}
 use Rattle.vbi_seek.specs.NumberSearch.{left_most}

@@ -1,5 +1,5 @@
 use Rattle.std.proofs.Common.{◌+◌, ◌≤◌, ℕ}
-use Rattle.vbi_seek.specs.declared.search.Kind.TheVariants.{Chapter}
+use Rattle.vbi_seek.specs.declared.search.Target.TheVariants.{Chapter}
 use Rattle.vbi_seek.specs.ChapterLeads.{chapter_spots}
 use Rattle.vbi_seek.specs.ChapterSearch.{IsBetween, placed_most}
 use Rattle.vbi_seek.specs.FieldLines.{side_of}

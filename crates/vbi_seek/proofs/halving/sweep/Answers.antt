@@ -1,6 +1,6 @@
 use Rattle.std.proofs.Common.{ℕ, ◌-◌, ◌*◌, arith, below_more, subst, ◌∙◌}
 use Rattle.vbi_seek.specs.Searches.{IsSilentFor}
-use Rattle.vbi_seek.specs.Kinds.{read_most}
+use Rattle.vbi_seek.specs.Targets.{read_most}
 use Rattle.vbi_seek.specs.NumberSearch.{probe_most, probe_longest}
 use Rattle.vbi_seek.specs.NumberSpots.{middle_of}
 use Rattle.vbi_seek.proofs.halving.sweep.Goals as goal

@@ -1,6 +1,6 @@
 use Rattle.std.proofs.Common.{◌≡◌, ℕ, ◌+◌, ◌-◌, ◌*◌, ◌<◌, ◌≤◌}
 use Rattle.vbi_seek.specs.Searches.{IsSilentFor}
-use Rattle.vbi_seek.specs.Kinds.{most_of, read_most}
+use Rattle.vbi_seek.specs.Targets.{most_of, read_most}
 use Rattle.vbi_seek.specs.NumberSearch.{probe_most, probe_longest}
 use Rattle.vbi_seek.specs.NumberSpots.{middle_of}
 use Rattle.vbi_seek.proofs.halving.sweep.Given as goal

@@ -1,7 +1,7 @@
 use Rattle.std.proofs.Common.{◌+◌, ◌<◌, arith, ap, sym, subst}
 use Rattle.vbi_seek.specs.declared.narrowing.Between.{Between}
-use Rattle.vbi_seek.specs.declared.search.Kind.{Kind}
-use Rattle.vbi_seek.specs.declared.search.Kind.TheVariants.{Number}
+use Rattle.vbi_seek.specs.declared.search.Target.{Target}
+use Rattle.vbi_seek.specs.declared.search.Target.TheVariants.{Number}
 use Rattle.vbi_seek.specs.declared.search.Looked.{Looked}
 use Rattle.vbi_seek.specs.ChapterSearch.{IsBetween}
 use Rattle.vbi_seek.specs.NumberSearch.{left_most}
@@ -26,7 +26,7 @@ loop-step-init c =
 pub loop-step-preserved : goal.loop-step-preserved
 loop-step-preserved c =
     let count = c.args.wanted.now.side.count in
-    let kind : Kind = Number c.args.wanted.now.judging in
+    let kind : Target = Number c.args.wanted.now.judging in
     elim c.if-between-gt-LEFT.branch [
       | then-between-gt-LEFT w ↦ record {
         part = subst (IsBetween count) (sym w.between-is) w.halve.ensures.part;
@@ -50,7 +50,7 @@ loop-step-preserved c =
 
 pub returns-clause-leads : goal.returns-clause-leads
 returns-clause-leads c = λ t a b few leads.
-    let kind : Kind = Number c.args.wanted.now.judging in
+    let kind : Target = Number c.args.wanted.now.judging in
     placed kind t a b c.args.wanted.now.side.count c.steps_of-steps.result c.loop-step.between
     (subst (IsAsNear kind t a b c.args.wanted.now.side.count c.loop-step.between) (omega arith)
     (c.loop-step.invariant.leads t a b few leads)) (c.steps_of-steps.ensures.enough few)

@@ -1,5 +1,5 @@
 use Rattle.std.proofs.Common.{◌+◌, ◌*◌, ◌-◌, ◌≤◌, ℕ}
-use Rattle.vbi_seek.specs.declared.search.Kind.TheVariants.{Number}
+use Rattle.vbi_seek.specs.declared.search.Target.TheVariants.{Number}
 use Rattle.vbi_seek.specs.ChapterSearch.{IsBetween}
 use Rattle.vbi_seek.specs.NumberLeads.{number_spots}
 use Rattle.vbi_seek.specs.NumbersAround.{numbers_of}

@@ -2,7 +2,7 @@ use Rattle.std.proofs.Common.{◌≡◌, ◌+◌, arith, inl, inr, refl, subst, 
 use Rattle.std.proofs.Math.ListN.{length-set}
 use Rattle.std.proofs.lemmas.Bool.Decides.{leb_tells}
 use Rattle.vbi_seek.specs.Searches.{shows, TellsAt}
-use Rattle.vbi_seek.specs.Kinds.{Tell}
+use Rattle.vbi_seek.specs.Targets.{Tell}
 use Rattle.vbi_seek.proofs.Seen.{seen_more}
 use Rattle.vbi_seek.proofs.Shown.{shown_more, counted_more}
 use Rattle.vbi_seek.proofs.spots.probe.Goals as goal

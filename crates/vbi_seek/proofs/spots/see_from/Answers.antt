@@ -1,6 +1,6 @@
 use Rattle.std.proofs.Common.{arith}
 use Rattle.vbi_seek.specs.FieldLines.{side_of}
-use Rattle.vbi_seek.specs.Kinds.{shown_by}
+use Rattle.vbi_seek.specs.Targets.{shown_by}
 use Rattle.vbi_seek.proofs.Shown.{shown_more, counted_more}
 use Rattle.vbi_seek.proofs.spots.see_from.Goals as goal
 

@@ -1,6 +1,6 @@
 use Rattle.std.proofs.Common.{◌≡◌, ◌+◌, take}
 use Rattle.vbi_seek.specs.FieldLines.{side_of}
-use Rattle.vbi_seek.specs.Kinds.{all_shown_by}
+use Rattle.vbi_seek.specs.Targets.{all_shown_by}
 use Rattle.vbi_seek.proofs.spots.see_from.Given as goal
 
 abbrev pub invariant-loop-i : goal.invariant-loop-i

@@ -1,7 +1,7 @@
 use Rattle.std.proofs.Common.{ap, arith}
 use Rattle.std.proofs.lemmas.Option.{slice_get-get_or}
 use Rattle.vbi_side.specs.Beliefs.{field_weight}
-use Rattle.vbi_seek.specs.Kinds.{fits_in}
+use Rattle.vbi_seek.specs.Targets.{fits_in}
 use Rattle.vbi_seek.proofs.Running.{sum_below_more}
 use Rattle.vbi_seek.proofs.Seen.{nothing_shown}
 use Rattle.vbi_seek.proofs.spots.weight_together.Goals as goal

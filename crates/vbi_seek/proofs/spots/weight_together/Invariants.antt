@@ -1,5 +1,5 @@
 use Rattle.std.proofs.Common.{◌≡◌, ◌*◌, ◌≤◌}
-use Rattle.vbi_seek.specs.Kinds.{fits_in}
+use Rattle.vbi_seek.specs.Targets.{fits_in}
 use Rattle.vbi_seek.specs.NumberSpots.{sum_below}
 use Rattle.vbi_seek.proofs.spots.weight_together.Given as goal
 

@@ -1,6 +1,6 @@
 use Rattle.std.proofs.Common.{◌≡◌, [], false, refl, arith, inr, length}
 use Rattle.vbi_whole.specs.Gaps.{rule_by, since_end}
-use Rattle.vbi_whole.specs.Told.{stills_of, last_still}
+use Rattle.vbi_whole.specs.Tallies.{stills_of, last_still}
 use Rattle.vbi_side.specs.Clocks.{kept, left_out}
 use Rattle.vbi_whole.specs.WorkedSides.{clv_by, worked_ends, worked_answers}
 use Rattle.vbi_whole.specs.Detours.{detoured_from}

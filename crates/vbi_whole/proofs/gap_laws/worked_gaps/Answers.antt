@@ -1,6 +1,6 @@
 use Rattle.std.proofs.Common.{refl}
 use Rattle.vbi_whole.specs.Gaps.{since_end}
-use Rattle.vbi_whole.specs.Told.{stills_of, last_still}
+use Rattle.vbi_whole.specs.Tallies.{stills_of, last_still}
 use Rattle.vbi_whole.proofs.gap_laws.worked_gaps.Goals as goal
 
 pub returns-clause-since : goal.returns-clause-since

@@ -4,7 +4,7 @@ use Rattle.std.proofs.lemmas.Option.{slice_get_within}
 use Rattle.vbi_whole.specs.Types.{Number, Video, Plain}
 use Rattle.vbi_side.specs.Numbers.{believed, nothing, IsMarked}
 use Rattle.vbi_whole.specs.Gaps.{AreGaps, rule_by, since_end}
-use Rattle.vbi_whole.specs.Told.{stills_of, last_still}
+use Rattle.vbi_whole.specs.Tallies.{stills_of, last_still}
 use Rattle.vbi_side.specs.Clocks.{kept}
 use Rattle.std.proofs.lemmas.Bool.Decides.{eqb_tells}
 use Rattle.vbi_side.specs.Paces.{nearly, spot}

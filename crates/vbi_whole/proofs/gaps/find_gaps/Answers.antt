@@ -2,7 +2,7 @@ use Rattle.std.proofs.Common.{◌≡◌, [], refl, arith, subst, length}
 use Rattle.vbi_whole.specs.Gaps.{since_end, AreGaps, judged_in}
 use Rattle.vbi_whole.proofs.Telling.{told_few}
 use Rattle.vbi_whole.proofs.gaps.find_gaps.Goals as goal
-use Rattle.vbi_whole.specs.Told.{stage_of}
+use Rattle.vbi_whole.specs.Tallies.{stage_of}
 
 pub loop-field-init : goal.loop-field-init
 unfolding since_end AreGaps

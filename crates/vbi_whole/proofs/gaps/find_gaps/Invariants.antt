@@ -1,6 +1,6 @@
 use Rattle.std.proofs.Common.{◌≡◌, ◌≤◌}
 use Rattle.vbi_whole.specs.Gaps.{since_end, IsLast, judged_in}
-use Rattle.vbi_whole.specs.Told.{IsTelling, stage_of}
+use Rattle.vbi_whole.specs.Tallies.{IsTelling, stage_of}
 use Rattle.vbi_whole.proofs.gaps.find_gaps.Given as goal
 
 abbrev pub invariant-loop-field : goal.invariant-loop-field

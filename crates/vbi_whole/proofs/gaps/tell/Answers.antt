@@ -1,7 +1,7 @@
 use Rattle.std.proofs.Common.{◌≡◌, ℕ, suc, ◌+◌, sym, ap, subst, arith}
 use Rattle.std.specs.Prelude.{Some, nat_lt}
 use Rattle.vbi_whole.specs.Gaps.{gap_of, ended_between, judged_in, amid}
-use Rattle.vbi_whole.specs.Told.{AreTelling, IsTelling, listed, stage_of}
+use Rattle.vbi_whole.specs.Tallies.{AreTelling, IsTelling, listed, stage_of}
 use Rattle.vbi_whole.proofs.Telling.{told_on, told_gap, go_on}
 use Rattle.vbi_whole.proofs.gaps.tell.Goals as goal
 

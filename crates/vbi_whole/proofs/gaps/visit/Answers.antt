@@ -1,5 +1,5 @@
 use Rattle.std.proofs.Common.{◌≡◌, suc, ◌+◌, refl, subst, arith}
-use Rattle.vbi_whole.specs.Told.{IsTelling, stage_of}
+use Rattle.vbi_whole.specs.Tallies.{IsTelling, stage_of}
 use Rattle.vbi_whole.proofs.Telling.{told_free}
 use Rattle.vbi_whole.proofs.gaps.visit.Goals as goal
 use Rattle.vbi_whole.specs.Gaps.{judged_in}

@@ -1,7 +1,7 @@
 use Rattle.std.proofs.Common.{subst}
 use Rattle.std.specs.Prelude.{Option}
 use Rattle.vbi_whole.specs.declared.detour.Waiting.{Waiting}
-use Rattle.vbi_whole.specs.Told.{AreTelling, waiting, listed, stage}
+use Rattle.vbi_whole.specs.Tallies.{AreTelling, waiting, listed, stage}
 use Rattle.vbi_whole.proofs.Detouring.{none_waits, last_told}
 use Rattle.vbi_whole.proofs.gaps_so_far.Telling.ended.Goals as goal
 

@@ -1,5 +1,5 @@
 use Rattle.std.proofs.Common.{[], refl, arith}
-use Rattle.vbi_whole.specs.Told.{last_still, stills_of}
+use Rattle.vbi_whole.specs.Tallies.{last_still, stills_of}
 use Rattle.vbi_whole.proofs.Telling.{none_written}
 use Rattle.vbi_whole.proofs.gaps_so_far.Telling.none.Goals as goal
 

@@ -3,7 +3,7 @@ use Rattle.std.specs.Prelude.{Option}
 use Rattle.vbi_whole.specs.declared.detour.Waiting.{Waiting}
 use Rattle.vbi_whole.specs.Types.{Gap}
 use Rattle.vbi_whole.specs.Detours.{turned, fields_by}
-use Rattle.vbi_whole.specs.Told.{AreTold, AreTelling, waiting, listed, stage}
+use Rattle.vbi_whole.specs.Tallies.{AreTold, AreTelling, waiting, listed, stage}
 use Rattle.vbi_whole.proofs.Detouring.{one_waits, one_told, two_told}
 use Rattle.vbi_whole.proofs.gaps_so_far.Telling.with_gap.Goals as goal
 
@@ -39,10 +39,10 @@ returns-in-Some-detour c = λ gaps unread old telling.
     let second = c.with_written-in-Some-detour in
     let both = second.ensures.told (now.settled ++ c.turned.result.gap ∷ []) unread old
     (c.with_written-tally.ensures.told now.settled unread old now.told) in
-    let Told : List Gap → Type 0
+    let Tallies : List Gap → Type 0
     = λ settled. AreTold rule.numbering.clock (listed settled unread) second.result old second.new.out in
     two_told rule gaps unread tally second.result old c.args.out.now second.new.out a b kind
     (sym c.in-Some-detour.ensures) now
-    (subst (λ (y : Gap). Told ((now.settled ++ turned kind (fields_by rule kind a b) a ∷ []) ++ y ∷ []))
+    (subst (λ (y : Gap). Tallies ((now.settled ++ turned kind (fields_by rule kind a b) a ∷ []) ++ y ∷ []))
     c.turned-in-Some-detour.ensures
-    (subst (λ (x : Gap). Told ((now.settled ++ x ∷ []) ++ c.turned-in-Some-detour.result.gap ∷ [])) first both))
+    (subst (λ (x : Gap). Tallies ((now.settled ++ x ∷ []) ++ c.turned-in-Some-detour.result.gap ∷ [])) first both))

@@ -1,6 +1,6 @@
 use Rattle.std.proofs.Common.{◌++◌, ◌∷◌, [], sym, subst}
 use Rattle.vbi_whole.specs.Types.{Tally}
-use Rattle.vbi_whole.specs.Told.{AreTold, listed}
+use Rattle.vbi_whole.specs.Tallies.{AreTold, listed}
 use Rattle.vbi_whole.proofs.Telling.{told_one}
 use Rattle.vbi_whole.proofs.tally.Tally.with_written.Goals as goal
 

@@ -1,6 +1,6 @@
 use Rattle.std.proofs.Common.{◌∙◌}
 use Rattle.vbi_near.proofs.{Common.shades_of, HalvedRows.halved-by}
-use Rattle.vbi_near.proofs.line_search.Sought.nears.Goals as goal
+use Rattle.vbi_near.proofs.line_search.LineSearch.nears.Goals as goal
 
 pub returns : goal.returns
 returns c slicing lines costs row =

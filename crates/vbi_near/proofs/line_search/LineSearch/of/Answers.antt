@@ -1,7 +1,7 @@
 use Rattle.std.proofs.Common.{refl, sym, ◌∙◌}
 use Rattle.std.specs.Prelude.{None}
 use Rattle.vbi_near.proofs.{Common.Shades, Common.shades_of, Costs.blank-cost, HalvedRows.halved-by, Piles.far-same}
-use Rattle.vbi_near.proofs.line_search.Sought.of.Goals as goal
+use Rattle.vbi_near.proofs.line_search.LineSearch.of.Goals as goal
 
 pub returns-clause-word : goal.returns-clause-word
 returns-clause-word c =
