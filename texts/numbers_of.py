@@ -100,7 +100,7 @@ def of_sides() -> Dict[str, int]:
 
 
 # The margins of one line, of either of two and of both, each those of a code and of another word: columns, and a share
-SIX = r"[^#]*?".join(6 * [r"columns = (\d+); share = (\d+)"])
+SIX = r"[^#]*?".join(6 * [r"ahead_by (\d+) (\d+)"])
 
 
 def margins(name: str) -> str:
@@ -120,7 +120,8 @@ RULES = (
     ("borne", "is_borne", r" \+ (\d+) \* unit"),
     ("stretched.least stretched.most", "IsStretchedPlace", r"\((\d+) ≤ rate\) × \(rate ≤ (\d+)\)"),
     *((margins(name), name + "_margins", SIX) for name in ("levelled", "given")),
-    *((name + ".ends", name + "_margins", r"ends = (\d+)") for name in ("levelled", "given", "pile")),
+    *((name + ".ends", name + "_margins", r"\) (\d+);") for name in ("levelled", "given")),
+    ("pile.ends", "pile_margins", r"ends = (\d+)"),
     ("pile.known pile.else pile.share", "pile_margins", r"if known then (\d+) else (\d+); share = (\d+)"),
     ("pile.other pile.other_share", "pile_margins", r"other = record \{ columns = (\d+); share = (\d+) "),
 )

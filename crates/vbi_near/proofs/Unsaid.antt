@@ -227,8 +227,8 @@ module _ (lines : Lines) (margins : Margins) (count : ℕ) (word : Nearest)
 
 -- lines whose nearest word isn't said, nor a code
 pub silent : (sought : LineSearch) (number unit count : ℕ) (margins : Margins) (slicing : Slicing)
-    (lines : List Samples) (costs : Shades) → IsSought sought → unit ≡ unit_of slicing → IsRowOf sought.sums slicing lines costs
-    → says_word unit margins count sought.word ≡ false
+    (lines : List Samples) (costs : Shades) → IsSought sought → unit ≡ unit_of slicing
+    → IsRowOf sought.sums slicing lines costs → says_word unit margins count sought.word ≡ false
     → IsUnsaid sought.sums number unit margins.code.columns (close_limit unit sought.word.near)
     → AreSilent margins count (some_lines sought.sums.system number slicing lines)
 silent sought number unit count margins slicing lines costs is same row not unsaid near has =
