@@ -7,8 +7,8 @@
 //! the record of a field is written as soon as its last byte came.
 //!
 //! Each function here has one definition of `specs/Document.antt`, of which its text is proved to be an equal, byte for
-//! byte; the three words, causes and passes of a record are pieces with a function and a proof each. A record is that of
-//! `specs/RecoveredDocument.antt`, which has no nearest words here.
+//! byte; the three words, causes and passes of a record are pieces with a function and a proof each. A record is
+//! that of `specs/RecoveredDocument.antt`, which has no nearest words here.
 //!
 //! Texts are held in an `ArrayString`, as the program allocates nothing. Its size (448, and 18 to 72 for the pieces)
 //! has room for the widest number of each type, so that no bound on columns or field numbers has to be proved; the
