@@ -1,0 +1,78 @@
+//! The value of each reading: what the best story that ends at it is worth.
+
+ghost use Rattle.std.specs.Prelude.{◌≡◌, ℕ, ◌+◌, ◌*◌, ◌<◌, ◌≤◌, ◌^◌, length, slice_set, slice_index, None, Some};
+ghost use Rattle.vbi_story.specs.Story.{reading_at, AreReadings};
+ghost use Rattle.vbi_story.specs.Working.{AreEntered, AreJudged};
+
+use crate::before::best_before;
+use crate::reading::{NumberReading, reading_at};
+use crate::table::{Entered, enter_before, greater};
+
+/// Judges one reading more.
+fn judge_one(
+    readings: &[NumberReading],
+    values: &mut [u32],
+    origins: &mut [Option<usize>],
+    best_on: &[Option<usize>],
+    entered: Entered,
+    place: usize,
+)
+    requires inside { place < length readings.now }
+    requires few { length readings.now ≤ 2 ^ 28 }
+    requires values_are { length values.old ≡ length readings.now }
+    requires origins_are { length origins.old ≡ length readings.now }
+    requires readings { AreReadings (length best_on.now) readings.now }
+    requires entered { AreEntered readings.now values.old entered.count entered.top best_on.now }
+    requires count { entered.count ≤ place }
+    requires earlier { (k : ℕ) → k < entered.count
+        → (reading_at readings.now k).field < (reading_at readings.now place).field }
+    requires later { (k : ℕ) → entered.count ≤ k → k < length readings.now
+        → (reading_at readings.now place).field ≤ (reading_at readings.now k).field }
+    requires judged { AreJudged readings.now values.old origins.old place }
+    ensures entered { AreEntered readings.now values.new entered.count entered.top best_on.now }
+    ensures judged { AreJudged readings.now values.new origins.new (place + 1) }
+{
+    let reading = reading_at(readings, place);
+    let before = best_before(values, best_on, entered, reading.row);
+    values[place] = before.worth + reading.weight;
+    origins[place] = before.origin;
+}
+
+/// Judges each reading.
+pub(crate) fn judge_all(
+    readings: &[NumberReading],
+    values: &mut [u32],
+    origins: &mut [Option<usize>],
+    best_on: &mut [Option<usize>],
+)
+    requires few { length readings.now ≤ 2 ^ 28 }
+    requires values_are { length values.old ≡ length readings.now }
+    requires origins_are { length origins.old ≡ length readings.now }
+    requires readings { AreReadings (length best_on.old) readings.now }
+    ensures { AreJudged readings.now values.new origins.new (length readings.now) }
+{
+    for row in best_on.iter_mut() {
+        *row = None;
+    }
+    let mut entered = Entered {
+        count: 0,
+        top: None,
+    };
+    for place in 0..readings.len() {
+        entered = enter_before(readings, values, best_on, entered, place);
+        judge_one(readings, values, origins, best_on, entered, place);
+    }
+}
+
+/// The place of the greatest value.
+pub(crate) fn greatest(values: &[u32]) -> Option<usize>
+    ensures inside { (k : ℕ) → result ≡ Some k → k < length values.now }
+    ensures covers { (k : ℕ) → k < length values.now
+        → (top : ℕ) × (result ≡ Some top) × (slice_index values.now k ≤ slice_index values.now top) }
+{
+    let mut top = None;
+    for place in 0..values.len() {
+        top = Some(greater(values, top, place));
+    }
+    top
+}
