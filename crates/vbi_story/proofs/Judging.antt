@@ -6,7 +6,7 @@ use Rattle.std.proofs.lemmas.Bool.{cases_eq, cases_lt}
 use Rattle.vbi_story.specs.declared.reading.NumberReading.{NumberReading}
 use Rattle.vbi_story.specs.declared.before.Before.{Before}
 use Rattle.vbi_story.specs.Story.{reading_at, row_price, AreReadings}
-use Rattle.vbi_story.specs.Working.{place_at, AreEntered, IsReached, Covers, AreJudged}
+use Rattle.vbi_story.specs.Working.{place_in, place_at, AreEntered, IsReached, Covers, AreJudged}
 
 -- what comes before is small
 worth_by : (readings : List NumberReading) (values : List ℕ) (n row i : ℕ) (before : Before) (o : Option ℕ)
@@ -24,7 +24,7 @@ worth_few readings values n row i before less reached few =
 
 -- what is entered stays so as a later value is written
 pub entered_still : (readings : List NumberReading) (values : List ℕ) (n i v : ℕ) (top : Option ℕ)
-    (table : List (Option ℕ))
+    (table : List ℕ)
     → n ≤ i → AreEntered readings values n top table → AreEntered readings (slice_set values i v) n top table
 entered_still readings values n i v top table less entered =
     let kept : (k : ℕ) → k < n → slice_index (slice_set values i v) k ≡ slice_index values k
@@ -39,7 +39,7 @@ entered_still readings values n i v top table less entered =
     }
 
 -- of none is anything said
-pub none_judged : (readings : List NumberReading) (values : List ℕ) (origins : List (Option ℕ))
+pub none_judged : (readings : List NumberReading) (values : List ℕ) (origins : List ℕ)
     → AreJudged readings values origins 0
 none_judged readings values origins = record {
   alone = λ i h. absurd (omega arith);
@@ -49,7 +49,8 @@ none_judged readings values origins = record {
   few = λ i h. absurd (omega arith);
 }
 
-module _ (readings : List NumberReading) (values : List ℕ) (origins : List (Option ℕ)) (rows n i : ℕ) (before : Before)
+module _ (readings : List NumberReading) (values : List ℕ) (origins : List ℕ) (rows n i word : ℕ) (before : Before)
+    (keeps : place_in word ≡ before.origin)
     (given : AreReadings rows readings)
     (inside : i < length readings) (in_values : i < length values) (in_origins : i < length origins)
     (less : n ≤ i)
@@ -62,7 +63,7 @@ module _ (readings : List NumberReading) (values : List ℕ) (origins : List (Op
   value = slice_index (slice_set values i (before.worth + (reading_at readings i).weight))
 
   abbrev origin : ℕ → Option ℕ
-  origin = place_at (slice_set origins i before.origin)
+  origin = place_at (slice_set origins i word)
 
   value_here : value i ≡ before.worth + (reading_at readings i).weight
   value_here = get_or-set_same values i _ 0 in_values
@@ -71,10 +72,10 @@ module _ (readings : List NumberReading) (values : List ℕ) (origins : List (Op
   value_old k h = get_or-set_other values i k _ 0 (λ e. absurd (omega arith))
 
   origin_here : origin i ≡ before.origin
-  origin_here = get_or-set_same origins i _ None in_origins
+  origin_here = ap place_in (get_or-set_same origins i word 0 in_origins) ∙ keeps
 
   origin_old : (k : ℕ) → k < i → origin k ≡ place_at origins k
-  origin_old k h = get_or-set_other origins i k _ None (λ e. absurd (omega arith))
+  origin_old k h = ap place_in (get_or-set_other origins i k word 0 (λ e. absurd (omega arith)))
 
   alone_more : (j : ℕ) → j < i + 1 → (reading_at readings j).weight ≤ value j
   alone_more j h = elim (cases_eq j i) [
@@ -146,7 +147,7 @@ module _ (readings : List NumberReading) (values : List ℕ) (origins : List (Op
   ]
 
   pub judged_more : AreJudged readings (slice_set values i (before.worth + (reading_at readings i).weight))
-      (slice_set origins i before.origin) (i + 1)
+      (slice_set origins i word) (i + 1)
   judged_more = record {
     alone = alone_more;
     after = after_more;

@@ -64,7 +64,7 @@ module _ (readings : List NumberReading) (values : List ℕ) (n row : ℕ) where
   reached_better so_far best from paid cheap (inr w) reached
       = reached_step so_far best w.0 paid (cheap w.0 w.1).0 (cheap w.0 w.1).1 w.2 w.3
 
-  module _ (top : Option ℕ) (table : List (Option ℕ)) (entered : AreEntered readings values n top table) where
+  module _ (top : Option ℕ) (table : List ℕ) (entered : AreEntered readings values n top table) where
     pub same_row : (k : ℕ) → place_at table row ≡ Some k → (k < n) × (row_price (reading_at readings k).row row ≤ 0)
     same_row k is = let w = entered.on_row row k is in (w.0, omega (arith, price_same _ _ w.1))
 

@@ -16,7 +16,7 @@ pub record Ends (readings : List NumberReading) (worth i : ℕ) : Type 0 where
   ascends : Ascends (before ++ reading_at readings i ∷ [])
   reaches : price (before ++ reading_at readings i ∷ []) + worth ≤ weight before + (reading_at readings i).weight
 
-module _ (readings : List NumberReading) (values : List ℕ) (origins : List (Option ℕ))
+module _ (readings : List NumberReading) (values : List ℕ) (origins : List ℕ)
     (judged : AreJudged readings values origins (length readings)) where
   ends_by : (fuel i : ℕ) → i < fuel → i < length readings → (o : Option ℕ) → place_at origins i ≡ o
       → Ends readings (slice_index values i) i
@@ -82,7 +82,7 @@ module _ (readings : List NumberReading) (back : ℕ → ℕ) (judged : AreJudge
   begins_at i inside = begins_by (length readings) i (omega arith) inside
 
 -- both together
-pub through_reached : (readings : List NumberReading) (values : List ℕ) (origins : List (Option ℕ)) (back : ℕ → ℕ)
+pub through_reached : (readings : List NumberReading) (values : List ℕ) (origins : List ℕ) (back : ℕ → ℕ)
     → AreJudged readings values origins (length readings) → AreJudgedBack readings back
     → (i bound : ℕ) → i < length readings
     → bound + (reading_at readings i).weight ≡ slice_index values i + back i

@@ -1,17 +1,18 @@
 -- What a story through a reading is worth at most.
 use Rattle.std.proofs.Common.{◌≡◌, ◌⊎◌, inl, inr, ℕ, ◌+◌, ◌-◌, ◌<◌, ◌≤◌, List, [], ◌∷◌, ◌++◌, length, refl, arith, ap}
 use Rattle.std.proofs.Common.{◌∙◌}
-use Rattle.std.proofs.Common.{slice_index}
+use Rattle.std.proofs.Common.{slice_index, slice_set, get_or-set_same, get_or-set_other}
 use Rattle.std.specs.Prelude.{Option, Some, None}
 use Rattle.vbi_story.specs.declared.reading.NumberReading.{NumberReading}
 use Rattle.vbi_story.specs.Story.{reading_at, row_price, IsAmong, Each, Ascends, price, weight, IsStory}
 use Rattle.vbi_story.specs.Working.{AreJudged, place_at}
 use Rattle.vbi_story.specs.Rivals.{AreJudgedBack, AreMirrored, mirror}
+use Rattle.std.proofs.lemmas.Bool.{cases_eq}
 use Rattle.std.proofs.lemmas.Bool.Decides.{nat_tests}
 use Rattle.std.proofs.lemmas.Grind.{common_steps}
 use Rattle.vbi_story.proofs.Splices.{weight_append, price_split, each_first, each_rest, ascends_first, ascends_rest}
 
-module _ (readings : List NumberReading) (values : List ℕ) (origins : List (Option ℕ))
+module _ (readings : List NumberReading) (values : List ℕ) (origins : List ℕ)
     (judged : AreJudged readings values origins (length readings)) where
   -- from one reading on to another
   on_to : (x : NumberReading) (j : ℕ) → j < length readings → reading_at readings j ≡ x → (rest : List NumberReading)
@@ -93,7 +94,7 @@ module _ (last : ℕ) (readings mirrored : List NumberReading) (same : length mi
       let turned : length readings - 1 - (length readings - 1 - i) ≡ i = omega arith in
       are (length readings - 1 - i) (omega arith) ∙ ap (λ (k : ℕ). mirror last (reading_at readings k)) turned
 
-  next_by : (values : List ℕ) (origins : List (Option ℕ)) → AreJudged mirrored values origins (length mirrored)
+  next_by : (values : List ℕ) (origins : List ℕ) → AreJudged mirrored values origins (length mirrored)
       → (i : ℕ) → i < length readings → (o : Option ℕ) → place_at origins (length readings - 1 - i) ≡ o
       → (slice_index values (length readings - 1 - i) ≤ (reading_at readings i).weight)
       ⊎ ((k : ℕ) × (i < k) × (k < length readings)
@@ -121,7 +122,7 @@ module _ (last : ℕ) (readings mirrored : List NumberReading) (same : length mi
         omega (arith, told, price_turned (reading_at readings k).row (reading_at readings i).row),
       )
 
-  pub mirrored_back : (values : List ℕ) (origins : List (Option ℕ))
+  pub mirrored_back : (values : List ℕ) (origins : List ℕ)
       → AreJudged mirrored values origins (length mirrored)
       → AreJudgedBack readings (λ i. slice_index values (length readings - 1 - i))
   mirrored_back values origins judged = record {
@@ -136,3 +137,21 @@ module _ (last : ℕ) (readings mirrored : List NumberReading) (same : length mi
         omega (arith, told, price_turned (reading_at readings i).row (reading_at readings k).row);
     goes_on = λ i in_i. next_by values origins judged i in_i (place_at origins (length readings - 1 - i)) refl;
   }
+
+-- ---- a bound is written
+
+pub turned_more : (readings : List NumberReading) (values back bounds : List ℕ) (at last weight : ℕ)
+    → at < length bounds → weight ≤ slice_index values at → (reading_at readings at).weight ≡ weight
+    → ((i : ℕ) → i < at → slice_index bounds i + (reading_at readings i).weight
+    ≡ slice_index values i + slice_index back (last - i))
+    → (i : ℕ) → i < at + 1
+    → slice_index (slice_set bounds at (slice_index values at + slice_index back (last - at) - weight)) i
+    + (reading_at readings i).weight ≡ slice_index values i + slice_index back (last - i)
+turned_more readings values back bounds at last weight inside less is done i h = elim (cases_eq i at) [
+  | inl e ↦
+      let set = get_or-set_same bounds at (slice_index values at + slice_index back (last - at) - weight) 0 inside in
+      rw e (omega (arith, set, less, is))
+  | inr ne ↦
+      let set = get_or-set_other bounds at i (slice_index values at + slice_index back (last - at) - weight) 0 ne in
+      omega (arith, set, done i (omega arith))
+]

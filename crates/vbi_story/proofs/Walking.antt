@@ -10,7 +10,7 @@ use Rattle.vbi_story.specs.Working.{place_at, value_of, AreJudged, IsWalked, IsW
 
 -- ---- a step of the way
 
-module _ (readings : List NumberReading) (values : List ℕ) (origins : List (Option ℕ)) (worth i : ℕ) (next : Option ℕ)
+module _ (readings : List NumberReading) (values : List ℕ) (origins : List ℕ) (worth i : ℕ) (next : Option ℕ)
     (story : List NumberReading) (way : IsWay readings values worth (i + 1) next story) where
   -- past a place that is not on it
   pub way_past : (next ≡ Some i → ⊥) → IsWay readings values worth i next story
@@ -73,7 +73,7 @@ picked_here readings marks i in_readings in_marks =
     rw (drop-set marks i true in_marks, drop-cons readings i nothing in_readings, add-one i) refl
 
 -- one step more
-pub way_step : (readings : List NumberReading) (values : List ℕ) (origins : List (Option ℕ)) (marks : List Bool)
+pub way_step : (readings : List NumberReading) (values : List ℕ) (origins : List ℕ) (marks : List Bool)
     (worth i : ℕ)
     (at next : Option ℕ) (here : Bool) → i < length readings → i < length marks
     → AreJudged readings values origins (length readings)
@@ -98,7 +98,7 @@ picked_each P (r ∷ more) (true ∷ marks) each =
 
 -- ---- no story is worth more
 
-module _ (readings : List NumberReading) (values : List ℕ) (origins : List (Option ℕ))
+module _ (readings : List NumberReading) (values : List ℕ) (origins : List ℕ)
     (judged : AreJudged readings values origins (length readings)) (top : ℕ)
     (most : (k : ℕ) → k < length readings → slice_index values k ≤ top) where
   -- than the value of the reading that it ends at
@@ -128,7 +128,7 @@ module _ (readings : List NumberReading) (values : List ℕ) (origins : List (Op
       omega (arith, own, rest)
 
 -- what was walked is the best
-pub walked_best : (readings : List NumberReading) (values : List ℕ) (origins : List (Option ℕ)) (marks : List Bool)
+pub walked_best : (readings : List NumberReading) (values : List ℕ) (origins : List ℕ) (marks : List Bool)
     (top : ℕ)
     → AreJudged readings values origins (length readings)
     → ((k : ℕ) → k < length readings → slice_index values k ≤ top)

@@ -1,17 +1,21 @@
 -- What the pass knows between two readings.
-use Rattle.std.specs.Prelude.{◌≡◌, ◌⊎◌, ℕ, ◌+◌, ◌*◌, ◌<◌, ◌≤◌, true}
-use Rattle.std.specs.Prelude.{List, ◌∷◌, slice_index, slice_index_or, Option, Some, None}
+use Rattle.std.specs.Prelude.{◌≡◌, ◌⊎◌, ℕ, ◌+◌, ◌-◌, ◌*◌, ◌<◌, ◌≤◌, nat_eq, true, if◌then◌else◌}
+use Rattle.std.specs.Prelude.{List, ◌∷◌, slice_index, Option, Some, None}
 use Rattle.vbi_story.specs.declared.reading.NumberReading.{NumberReading}
 use Rattle.vbi_story.specs.declared.before.Before.{Before}
 use Rattle.vbi_story.specs.Story.{reading_at, row_price, is_near, near, Ascends, price, weight}
 
--- the place that is kept here, if one is
-abbrev pub place_at : List (Option ℕ) → ℕ → Option ℕ
-place_at places i = slice_index_or places i None
+-- the place that a word keeps: there places count from 1, and 0 keeps none
+abbrev pub place_in : ℕ → Option ℕ
+place_in word = if nat_eq word 0 then None else Some (word - 1)
+
+-- the place that the word here keeps, if it keeps one
+abbrev pub place_at : List ℕ → ℕ → Option ℕ
+place_at words i = place_in (slice_index words i)
 
 -- of the first n readings are entered: on each row and above all the one with the greatest value
 pub record AreEntered (readings : List NumberReading) (values : List ℕ) (n : ℕ) (top : Option ℕ)
-    (best_on : List (Option ℕ)) : Type 0 where
+    (best_on : List ℕ) : Type 0 where
   pub on_row : (row k : ℕ) → place_at best_on row ≡ Some k → (k < n) × ((reading_at readings k).row ≡ row)
   pub covers : (m : ℕ) → m < n
       → (k : ℕ) × (place_at best_on (reading_at readings m).row ≡ Some k)
@@ -31,7 +35,7 @@ Covers readings values n row before = (m : ℕ) → m < n
     → slice_index values m ≤ before.worth + row_price (reading_at readings m).row row
 
 -- the values of the first n readings are those of the best stories that end at them, and origins say how
-pub record AreJudged (readings : List NumberReading) (values : List ℕ) (origins : List (Option ℕ))
+pub record AreJudged (readings : List NumberReading) (values : List ℕ) (origins : List ℕ)
     (n : ℕ) : Type 0 where
   pub alone : (i : ℕ) → i < n → (reading_at readings i).weight ≤ slice_index values i
   pub after : (k i : ℕ) → k < n → i < n → (reading_at readings k).field < (reading_at readings i).field
@@ -45,7 +49,7 @@ pub record AreJudged (readings : List NumberReading) (values : List ℕ) (origin
   pub few : (i : ℕ) → i < n → slice_index values i ≤ 4 * (i + 1)
 
 -- it is as it was, or a step from a near row
-abbrev pub IsNearStep : List ℕ → List (Option ℕ) → ℕ → Before → Before → Type 0
+abbrev pub IsNearStep : List ℕ → List ℕ → ℕ → Before → Before → Type 0
 IsNearStep values best_on row so_far best = (best ≡ so_far) ⊎ ((other k : ℕ) × (is_near other row ≡ true)
     × (place_at best_on other ≡ Some k) × (best.origin ≡ Some k) × (best.worth + near ≡ slice_index values k))
 

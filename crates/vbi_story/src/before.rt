@@ -5,6 +5,7 @@ ghost use Rattle.vbi_story.specs.declared.reading.NumberReading.{NumberReading};
 ghost use Rattle.vbi_story.specs.Story.{is_near, near, near_reach};
 ghost use Rattle.vbi_story.specs.Working.{place_at, IsNearStep, IsReached, Covers, AreEntered};
 
+use crate::place::place_in;
 use crate::reading::{FAR, NEAR, NEAR_REACH};
 use crate::table::Entered;
 
@@ -40,7 +41,7 @@ fn better(values: &[u32], so_far: Before, from: Option<usize>, price: u32) -> Be
 }
 
 /// The place of the best on the row that is `NEAR_REACH` below this one, if there are so many and one is on it.
-fn best_on_shifted(best_on: &[Option<usize>], shifted: usize) -> Option<usize>
+fn best_on_shifted(best_on: &[u32], shifted: usize) -> Option<usize>
     ensures some { (k : ℕ) → result ≡ Some k
         → (other : ℕ) × (other + near_reach ≡ shifted) × (place_at best_on.now other ≡ Some k) }
     ensures all { (other : ℕ) → other + near_reach ≡ shifted → result ≡ place_at best_on.now other }
@@ -49,13 +50,13 @@ fn best_on_shifted(best_on: &[Option<usize>], shifted: usize) -> Option<usize>
         return None;
     }
     match best_on.get(shifted - NEAR_REACH) {
-        Some(place) => *place,
+        Some(word) => place_in(*word),
         None => None,
     }
 }
 
 /// The better of what was found so far and a step from a near row.
-fn better_of_near(values: &[u32], best_on: &[Option<usize>], row: u32, so_far: Before) -> Before
+fn better_of_near(values: &[u32], best_on: &[u32], row: u32, so_far: Before) -> Before
     requires inside { (other k : ℕ) → place_at best_on.now other ≡ Some k → k < length values.now }
     ensures kept { so_far.worth ≤ result.worth }
     ensures covers { (other k : ℕ) → is_near other row ≡ true → place_at best_on.now other ≡ Some k
@@ -71,12 +72,7 @@ fn better_of_near(values: &[u32], best_on: &[Option<usize>], row: u32, so_far: B
 }
 
 /// What stands best before a reading on this row, of the first so many readings that are entered.
-pub(crate) fn best_before(
-    values: &[u32],
-    best_on: &[Option<usize>],
-    entered: Entered,
-    row: u32,
-) -> Before
+pub(crate) fn best_before(values: &[u32], best_on: &[u32], entered: Entered, row: u32) -> Before
     requires row_is { row < length best_on.now }
     requires inside { (other k : ℕ) → place_at best_on.now other ≡ Some k → k < length values.now }
     requires top_inside { (k : ℕ) → entered.top ≡ Some k → k < length values.now }
@@ -91,7 +87,8 @@ pub(crate) fn best_before(
         worth: 0,
         origin: None,
     };
-    let same = better(values, none, best_on[row as usize], 0);
+    let here = place_in(best_on[row as usize]);
+    let same = better(values, none, here, 0);
     let close = better_of_near(values, best_on, row, same);
     better(values, close, entered.top, FAR)
 }

@@ -5,6 +5,7 @@ ghost use Rattle.vbi_story.specs.Story.{reading_at, AreReadings};
 ghost use Rattle.vbi_story.specs.Working.{AreEntered, AreJudged};
 
 use crate::before::best_before;
+use crate::place::{NO_PLACE, word_of};
 use crate::reading::{NumberReading, reading_at};
 use crate::table::{Entered, enter_before, greater};
 
@@ -12,8 +13,8 @@ use crate::table::{Entered, enter_before, greater};
 fn judge_one(
     readings: &[NumberReading],
     values: &mut [u32],
-    origins: &mut [Option<usize>],
-    best_on: &[Option<usize>],
+    origins: &mut [u32],
+    best_on: &[u32],
     entered: Entered,
     place: usize,
 )
@@ -35,15 +36,16 @@ fn judge_one(
     let reading = reading_at(readings, place);
     let before = best_before(values, best_on, entered, reading.row);
     values[place] = before.worth + reading.weight;
-    origins[place] = before.origin;
+    let word = word_of(before.origin);
+    origins[place] = word;
 }
 
 /// Judges each reading.
 pub(crate) fn judge_all(
     readings: &[NumberReading],
     values: &mut [u32],
-    origins: &mut [Option<usize>],
-    best_on: &mut [Option<usize>],
+    origins: &mut [u32],
+    best_on: &mut [u32],
 )
     requires few { length readings.now ≤ 2 ^ 28 }
     requires values_are { length values.old ≡ length readings.now }
@@ -52,7 +54,7 @@ pub(crate) fn judge_all(
     ensures { AreJudged readings.now values.new origins.new (length readings.now) }
 {
     for row in best_on.iter_mut() {
-        *row = None;
+        *row = NO_PLACE;
     }
     let mut entered = Entered {
         count: 0,

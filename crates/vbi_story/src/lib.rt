@@ -13,15 +13,16 @@
 //! two of one field. A reading's value is its weight and the best of what may stand before it (`before`): nothing, the
 //! best on its row, the best on a near row less 3, the best of all less 10. `judge` keeps of each reading its value
 //! and its origin, and on the way back (`walk`) what was taken is marked. `rivals` makes the same pass over the
-//! readings in a mirror too, last field first. The time grows as the readings. `story_laws` says what holds of a story
-//! that none is worth more than: above all that between two true readings all that is told is true, if whatever is
-//! misread there is outweighed. Nothing allocates or fails.
+//! readings in a mirror too, last field first. `place` keeps the place of a reading in 4 bytes. The time grows as the
+//! readings. `story_laws` says what holds of a story that no other is worth more than: above all that between two true
+//! readings all that is told is true, if whatever is misread there is outweighed. Nothing allocates or fails.
 //!
 //! A change of a price changes `specs/Story.antt`, the worked rows of `story_laws` and what it says of two steps.
 #![tactic(auto)]
 
 mod before;
 mod judge;
+mod place;
 mod reading;
 mod rivals;
 mod story;

@@ -40,8 +40,8 @@ pub fn bound(
     mirrored: &mut [NumberReading],
     values: &mut [u32],
     back: &mut [u32],
-    origins: &mut [Option<usize>],
-    best_on: &mut [Option<usize>],
+    origins: &mut [u32],
+    best_on: &mut [u32],
     bounds: &mut [u32],
 )
     requires few { length readings.now ≤ 2 ^ 28 }

@@ -12,8 +12,8 @@ use crate::walk::walk_back;
 pub fn decode(
     readings: &[NumberReading],
     values: &mut [u32],
-    origins: &mut [Option<usize>],
-    best_on: &mut [Option<usize>],
+    origins: &mut [u32],
+    best_on: &mut [u32],
     marks: &mut [bool],
 )
     requires few { length readings.now ≤ 2 ^ 28 }

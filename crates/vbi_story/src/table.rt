@@ -1,9 +1,10 @@
 //! The best of the readings of earlier fields.
 
-ghost use Rattle.std.specs.Prelude.{◌≡◌, ◌⊎◌, ℕ, ◌+◌, ◌<◌, ◌≤◌, length, slice_index, Some};
+ghost use Rattle.std.specs.Prelude.{◌≡◌, ◌⊎◌, ℕ, ◌+◌, ◌<◌, ◌≤◌, ◌^◌, length, slice_index, Some};
 ghost use Rattle.vbi_story.specs.Story.{reading_at, AreReadings};
 ghost use Rattle.vbi_story.specs.Working.{AreEntered};
 
+use crate::place::{place_in, word_of};
 use crate::reading::{NumberReading, reading_at};
 
 /// How many readings are entered, and the place of the one with the greatest value.
@@ -17,6 +18,7 @@ pub(crate) struct Entered {
 pub(crate) fn greater(values: &[u32], old: Option<usize>, new: usize) -> usize
     requires old_in { (k : ℕ) → old ≡ Some k → k < length values.now }
     requires new_in { new < length values.now }
+    ensures inside { result < length values.now }
     ensures either { (result ≡ new) ⊎ (old ≡ Some result) }
     ensures old { (k : ℕ) → old ≡ Some k → slice_index values.now k ≤ slice_index values.now result }
     ensures new { slice_index values.now new ≤ slice_index values.now result }
@@ -37,10 +39,11 @@ pub(crate) fn greater(values: &[u32], old: Option<usize>, new: usize) -> usize
 fn enter(
     readings: &[NumberReading],
     values: &[u32],
-    best_on: &mut [Option<usize>],
+    best_on: &mut [u32],
     entered: Entered,
 ) -> Entered
     requires inside { entered.count < length readings.now }
+    requires few { length readings.now ≤ 2 ^ 28 }
     requires values_are { length values.now ≡ length readings.now }
     requires readings { AreReadings (length best_on.old) readings.now }
     requires entered { AreEntered readings.now values.now entered.count entered.top best_on.old }
@@ -49,8 +52,10 @@ fn enter(
 {
     let place = entered.count;
     let row = reading_at(readings, place).row as usize;
-    let best = greater(values, best_on[row], place);
-    best_on[row] = Some(best);
+    let old = place_in(best_on[row]);
+    let best = greater(values, old, place);
+    let word = word_of(Some(best));
+    best_on[row] = word;
     let top = greater(values, entered.top, place);
     Entered {
         count: place + 1,
@@ -62,11 +67,12 @@ fn enter(
 pub(crate) fn enter_before(
     readings: &[NumberReading],
     values: &[u32],
-    best_on: &mut [Option<usize>],
+    best_on: &mut [u32],
     entered: Entered,
     place: usize,
 ) -> Entered
     requires inside { place < length readings.now }
+    requires few { length readings.now ≤ 2 ^ 28 }
     requires values_are { length values.now ≡ length readings.now }
     requires readings { AreReadings (length best_on.old) readings.now }
     requires entered { AreEntered readings.now values.now entered.count entered.top best_on.old }

@@ -5,6 +5,8 @@ ghost use Rattle.vbi_story.specs.declared.reading.NumberReading.{NumberReading};
 ghost use Rattle.vbi_story.specs.Story.{picked};
 ghost use Rattle.vbi_story.specs.Working.{AreJudged, IsWalked, value_of};
 
+use crate::place::place_in;
+
 /// Whether this is the place.
 fn is_here(at: Option<usize>, place: usize) -> bool
     ensures { (result ≡ true) ↔ (at ≡ Some place) }
@@ -24,7 +26,7 @@ fn past(here: bool, at: Option<usize>, origin: Option<usize>) -> Option<usize>
 }
 
 /// Marks the way back from this place.
-pub(crate) fn walk_back(origins: &[Option<usize>], last: Option<usize>, marks: &mut [bool])
+pub(crate) fn walk_back(origins: &[u32], last: Option<usize>, marks: &mut [bool])
     requires inside { (k : ℕ) → last ≡ Some k → k < length origins.now }
     requires marks_are { length marks.old ≡ length origins.now }
     ensures { (readings : List NumberReading) (values : List ℕ) → length readings ≡ length origins.now
@@ -37,6 +39,6 @@ pub(crate) fn walk_back(origins: &[Option<usize>], last: Option<usize>, marks: &
         place -= 1;
         let here = is_here(at, place);
         marks[place] = here;
-        at = past(here, at, origins[place]);
+        at = past(here, at, place_in(origins[place]));
     }
 }

@@ -26,7 +26,7 @@ returns-clause-judged c =
     let i = c.args.place in
     rw c.reading_at-reading.ensures (
     judged_more c.args.readings.now c.args.values.now c.args.origins.now _ c.args.entered.count i
-    c.best_before-before.result c.requires.readings c.requires.inside (omega arith) (omega arith)
+    c.word_of-word.result c.best_before-before.result c.word_of-word.ensures c.requires.readings c.requires.inside (omega arith) (omega arith)
     c.requires.count c.requires.earlier c.requires.later
     (rw c.reading_at-reading.ensures at (c.best_before-before.ensures.reached c.args.readings.now c.requires.entered))
     (rw c.reading_at-reading.ensures at (c.best_before-before.ensures.covers c.args.readings.now c.requires.entered))
@@ -35,3 +35,8 @@ returns-clause-judged c =
 pub best_before-before-requires-clause-inside : goal.best_before-before-requires-clause-inside
 best_before-before-requires-clause-inside c = λ other k is.
     omega (arith, (c.requires.entered.on_row other k is).0, c.requires.count, c.requires.inside, c.requires.values_are)
+
+pub word_of-word-requires : goal.word_of-word-requires
+word_of-word-requires c = λ k is.
+    let reached = c.best_before-before.ensures.reached c.args.readings.now c.requires.entered in
+    omega (arith, (reached.some k is).0, c.requires.count, c.requires.inside, c.requires.few)

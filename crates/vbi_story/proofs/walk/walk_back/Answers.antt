@@ -12,7 +12,8 @@ loop-place-preserved c = record {
       let next : c.loop-place.place ≡ i + 1 = omega arith in
       let marks = c.loop-place.marks in
       way_step readings values c.args.origins.now marks (value_of values c.args.last) i c.loop-place.at c.past-at.result
-      c.is_here-here.result (omega arith) (omega arith) judged c.is_here-here.ensures c.past-at.ensures.here
+      c.is_here-here.result (omega arith) (omega arith) judged c.is_here-here.ensures
+      (rw c.place_in.ensures at c.past-at.ensures.here)
       c.past-at.ensures.other
       (subst (λ (k : ℕ). IsWay readings values (value_of values c.args.last) k c.loop-place.at
       (picked (drop k readings) (drop k marks))) next (c.loop-place.invariant.way readings values same judged));
