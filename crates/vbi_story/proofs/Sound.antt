@@ -313,24 +313,24 @@ few_far readings row from to few away = record {
 
 -- ---- and so are its numbers
 
-module _ (big row from to : ℕ) (number : NumberReading → ℕ) (recorded : ℕ → ℕ) (readings : List NumberReading)
-    (video : AreOfVideo big number readings) (runs : RunsOn big recorded row from to) where
+module _ (big row from to : ℕ) (recorded : ℕ → ℕ) (readings : List NumberReading)
+    (video : AreOfVideo big readings) (runs : RunsOn big recorded row from to) where
   numbers_on : (a b : NumberReading) → from ≤ a.field → b.field ≤ to → (these : List NumberReading)
       → Each (IsAmong readings) these → Each (λ r. (a.field < r.field) × (r.field < b.field)) these
-      → Each (IsOn row) these → Each (λ r. number r ≡ recorded r.field) these
+      → Each (IsOn row) these → Each (λ r. r.number ≡ recorded r.field) these
   numbers_on a b begin end [] among inside on = tt
   numbers_on a b begin end (x ∷ these) among inside on = (
     omega (arith, video x among.0, runs x.field (omega (arith, inside.0.0)) (omega (arith, inside.0.1)), on.0),
     numbers_on a b begin end these among.1 inside.1 on.1,
   )
 
-  on_row_by : (r : NumberReading) → IsAmong readings r → from ≤ r.field → r.field ≤ to → number r ≡ recorded r.field
+  on_row_by : (r : NumberReading) → IsAmong readings r → from ≤ r.field → r.field ≤ to → r.number ≡ recorded r.field
       → IsOn row r
   on_row_by r among begin end is = omega (arith, video r among, runs r.field begin end)
 
   pub numbers_sound : (before middle after : List NumberReading) (a b : NumberReading) → RanOn readings row from to
       → IsBest readings (before ++ a ∷ (middle ++ b ∷ after)) → from ≤ a.field → b.field ≤ to
-      → number a ≡ recorded a.field → number b ≡ recorded b.field → Each (λ r. number r ≡ recorded r.field) middle
+      → a.number ≡ recorded a.field → b.number ≡ recorded b.field → Each (λ r. r.number ≡ recorded r.field) middle
   numbers_sound before middle after a b ran best begin end is_a is_b =
       let among : Each (IsAmong readings) (a ∷ (middle ++ b ∷ after))
       = each_rest (IsAmong readings) before (a ∷ (middle ++ b ∷ after)) best.story_is.among in

@@ -79,7 +79,7 @@ module _ (readings : List NumberReading) (values : List ℕ) (origins : List ℕ
 
 -- ---- in the mirror
 
-price_turned : (a b : ℕ) → row_price a b ≡ row_price b a
+pub price_turned : (a b : ℕ) → row_price a b ≡ row_price b a
 price_turned a b = grind (arith, nat_tests, common_steps)
 
 module _ (last : ℕ) (readings mirrored : List NumberReading) (same : length mirrored ≡ length readings)

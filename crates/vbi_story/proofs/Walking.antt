@@ -145,3 +145,11 @@ walked_best readings values origins marks top judged most walked = record {
 pub most_of : (values : List ℕ) (last : Option ℕ) (top k : ℕ) → last ≡ Some top
     → slice_index values k ≤ slice_index values top → slice_index values k ≤ value_of values last
 most_of values last top k is le = rw is le
+
+-- and what was walked is worth just so much
+pub walked_worth : (readings : List NumberReading) (values : List ℕ) (origins : List ℕ) (top : ℕ)
+    (story : List NumberReading) → AreJudged readings values origins (length readings)
+    → ((k : ℕ) → k < length readings → slice_index values k ≤ top) → IsBest readings story → IsWalked top story
+    → top + price story ≡ weight story
+walked_worth readings values origins top story judged most best walked =
+    omega (arith, walked.reaches, story_most readings values origins judged top most story best.story_is)

@@ -32,7 +32,7 @@ AreReached readings bounds = (i : ℕ) → i < length readings
 
 -- a reading seen in a mirror: of the last field first
 abbrev pub mirror : ℕ → NumberReading → NumberReading
-mirror last r = record { field = last - r.field; row = r.row; weight = r.weight }
+mirror last r = record { field = last - r.field; number = r.number; row = r.row; weight = r.weight }
 
 -- these are the readings in a mirror
 abbrev pub AreMirrored : ℕ → List NumberReading → List NumberReading → Type 0

@@ -5,7 +5,7 @@ use Rattle.vbi_story.specs.declared.reading.NumberReading.{NumberReading}
 
 -- what stands where no reading is
 abbrev pub nothing : NumberReading
-nothing = record { field = 0; row = 0; weight = 0 }
+nothing = record { field = 0; number = 0; row = 0; weight = 0 }
 
 -- the reading at a place
 abbrev pub reading_at : List NumberReading → ℕ → NumberReading

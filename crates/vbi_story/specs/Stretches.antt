@@ -65,8 +65,8 @@ AreFarOff readings row from to = (r : NumberReading) → IsAmong readings r → 
     → is_near r.row row ≡ false
 
 -- of video each number stands on the row of its field and itself
-abbrev pub AreOfVideo : ℕ → (NumberReading → ℕ) → List NumberReading → Type 0
-AreOfVideo big number readings = (r : NumberReading) → IsAmong readings r → r.row + 2 * number r ≡ r.field + 2 * big
+abbrev pub AreOfVideo : ℕ → List NumberReading → Type 0
+AreOfVideo big readings = (r : NumberReading) → IsAmong readings r → r.row + 2 * r.number ≡ r.field + 2 * big
 
 -- and the disc's own numbers in these fields on one
 abbrev pub RunsOn : ℕ → (ℕ → ℕ) → ℕ → ℕ → ℕ → Type 0
@@ -75,6 +75,6 @@ RunsOn big recorded row from to = (field : ℕ) → from ≤ field → field ≤
 
 -- ---- written down by hand
 
--- a reading of this field, on this row, of this weight
+-- a reading of this field, on this row, of this weight; its number is of no account
 abbrev pub reading : ℕ → ℕ → ℕ → NumberReading
-reading field row weight = record { field = field; row = row; weight = weight }
+reading field row weight = record { field = field; number = 0; row = row; weight = weight }

@@ -2,7 +2,7 @@
 
 ghost use Rattle.std.specs.Prelude.{◌≡◌, ℕ, ◌+◌, ◌*◌, ◌<◌, ◌≤◌, ◌^◌, length, slice_set, slice_index, None, Some};
 ghost use Rattle.vbi_story.specs.Story.{reading_at, AreReadings};
-ghost use Rattle.vbi_story.specs.Working.{AreEntered, AreJudged};
+ghost use Rattle.vbi_story.specs.Working.{AreEntered, AreJudged, value_of};
 
 use crate::before::best_before;
 use crate::place::{NO_PLACE, word_of};
@@ -77,4 +77,15 @@ pub(crate) fn greatest(values: &[u32]) -> Option<usize>
         top = Some(greater(values, top, place));
     }
     top
+}
+
+/// Returns the value at this place, or 0 if there is none.
+pub(crate) fn value_of(values: &[u32], place: Option<usize>) -> u32
+    requires { (k : ℕ) → place ≡ Some k → k < length values.now }
+    ensures { result ≡ value_of values.now place }
+{
+    match place {
+        Some(place) => values[place],
+        None => 0,
+    }
 }

@@ -14,13 +14,17 @@
 //! best on its row, the best on a near row less 3, the best of all less 10. `judge` keeps of each reading its value
 //! and its origin, and on the way back (`walk`) what was taken is marked. `rivals` makes the same pass over the
 //! readings in a mirror too, last field first. `place` keeps the place of a reading in 4 bytes. The time grows as the
-//! readings. `story_laws` says what holds of a story that no other is worth more than: above all that between two true
-//! readings all that is told is true, if whatever is misread there is outweighed. Nothing allocates or fails.
+//! readings. A story tells misread numbers too, where nothing outweighs them: `belief` says which told readings are
+//! believed, by the runs and groups (`chain`) in which they are told, and by their rivals. `story_laws` says what holds
+//! of a story that no other is worth more than: above all that between two true readings all that is told is true, if
+//! whatever is misread there is outweighed. Nothing allocates or fails.
 //!
 //! A change of a price changes `specs/Story.antt`, the worked rows of `story_laws` and what it says of two steps.
 #![tactic(auto)]
 
 mod before;
+mod belief;
+mod chain;
 mod judge;
 mod place;
 mod reading;
@@ -30,6 +34,7 @@ pub mod story_laws;
 mod table;
 mod walk;
 
+pub use belief::{GROUP_ENOUGH, STORY_MARGIN, believe};
 pub use reading::NumberReading;
 pub use rivals::bound;
 pub use story::decode;

@@ -9,6 +9,8 @@ ghost use Rattle.vbi_story.specs.Story.{reading_at};
 pub struct NumberReading {
     /// The field that shows it.
     pub field: u32,
+    /// The number that it shows.
+    pub number: u32,
     /// The row that it stands on.
     pub row: u32,
     /// How much it weighs, at most 4.

@@ -15,6 +15,7 @@ fn in_mirror(reading: NumberReading, last_field: u32) -> NumberReading
 {
     NumberReading {
         field: last_field - reading.field,
+        number: reading.number,
         row: reading.row,
         weight: reading.weight,
     }

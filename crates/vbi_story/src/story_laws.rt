@@ -6,6 +6,7 @@ ghost use Rattle.vbi_story.specs.declared.reading.NumberReading.{NumberReading};
 ghost use Rattle.vbi_story.specs.Story.{Each, IsAmong, IsStory, IsBest, weight, price, near, far, is_near, row_price};
 ghost use Rattle.vbi_story.specs.Story.{Ascends, reading_at};
 ghost use Rattle.vbi_story.specs.Rivals.{AreBounds};
+ghost use Rattle.vbi_story.specs.Beliefs.{IsBelieved, IsFarBehind, group_enough};
 ghost use Rattle.vbi_story.specs.Stretches.{reading, IsOn, IsOff, between, RanOn, AreLighter, AreFarOff, IsHeard};
 ghost use Rattle.vbi_story.specs.Stretches.{AreOfVideo, RunsOn};
 
@@ -40,11 +41,11 @@ pub fn few_misread()
 /// tells between two of the disc's own is the one that the disc has in its field.
 pub fn sound_numbers()
     ensures { (readings before middle after : List NumberReading) (a b : NumberReading) (row from to big : ℕ)
-        (number : NumberReading → ℕ) (recorded : ℕ → ℕ)
-        → AreOfVideo big number readings → RunsOn big recorded row from to → RanOn readings row from to
+        (recorded : ℕ → ℕ)
+        → AreOfVideo big readings → RunsOn big recorded row from to → RanOn readings row from to
         → IsBest readings (before ++ a ∷ (middle ++ b ∷ after)) → from ≤ a.field → b.field ≤ to
-        → number a ≡ recorded a.field → number b ≡ recorded b.field
-        → Each (λ r. number r ≡ recorded r.field) middle }
+        → a.number ≡ recorded a.field → b.number ≡ recorded b.field
+        → Each (λ r. r.number ≡ recorded r.field) middle }
 {}
 
 /// If the best story tells two readings of one row, one after the other, no reading of that row between their fields
@@ -87,6 +88,24 @@ pub fn sure()
         → IsBest readings (before ++ reading_at readings i ∷ after) → ⊥ }
 {}
 
+/// Nothing false is believed between two true readings that are told, unless what is misread there weighs more than
+/// 10: as much as two near steps cost, and the margin.
+pub fn believed_is_true()
+    ensures { (readings told : List NumberReading) (row from to i j k : ℕ)
+        → IsBest readings told → AreLighter readings row from to 11 → i < j → j < k → k < length told
+        → IsOn row (reading_at told i) → IsOn row (reading_at told k)
+        → from ≤ (reading_at told i).field → (reading_at told k).field ≤ to
+        → IsBelieved readings told j → IsOn row (reading_at told j) }
+{}
+
+/// Where two stories are both the best, a number that is believed in the one has no rival in the other: of two misread
+/// numbers of a field of which the stories are worth the same, neither is believed.
+pub fn believed_is_sure()
+    ensures { (readings told before after : List NumberReading) (q : NumberReading) (j : ℕ)
+        → IsStory readings told → IsBest readings (before ++ q ∷ after) → IsBelieved readings told j
+        → q.field ≡ (reading_at told j).field → q.number ≡ (reading_at told j).number }
+{}
+
 /// Prices at their edges, and a story written down by hand: two readings of a row, one three rows off, one far off.
 pub fn worked()
     ensures stays { row_price 100 100 ≡ 0 }
@@ -96,4 +115,11 @@ pub fn worked()
         (weight told ≡ 11) × (price told ≡ 13) }
     ensures order { Ascends (reading 0 50 4 ∷ reading 2 50 2 ∷ []) }
     ensures one_of_a_field { Ascends (reading 2 50 4 ∷ reading 2 50 2 ∷ []) → ⊥ }
+{}
+
+/// The weight of a group and the margin at their edges.
+pub fn worked_beliefs()
+    ensures enough { group_enough ≡ 10 }
+    ensures behind { let told = reading 0 50 4 ∷ reading 2 50 2 ∷ [] in
+        IsFarBehind (reading 5 70 1 ∷ []) told × (IsFarBehind (reading 5 70 2 ∷ []) told → ⊥) }
 {}

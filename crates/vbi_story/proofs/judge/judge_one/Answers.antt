@@ -26,7 +26,8 @@ returns-clause-judged c =
     let i = c.args.place in
     rw c.reading_at-reading.ensures (
     judged_more c.args.readings.now c.args.values.now c.args.origins.now _ c.args.entered.count i
-    c.word_of-word.result c.best_before-before.result c.word_of-word.ensures c.requires.readings c.requires.inside (omega arith) (omega arith)
+    c.word_of-word.result c.best_before-before.result c.word_of-word.ensures c.requires.readings c.requires.inside
+    (omega arith) (omega arith)
     c.requires.count c.requires.earlier c.requires.later
     (rw c.reading_at-reading.ensures at (c.best_before-before.ensures.reached c.args.readings.now c.requires.entered))
     (rw c.reading_at-reading.ensures at (c.best_before-before.ensures.covers c.args.readings.now c.requires.entered))
