@@ -8,6 +8,9 @@
 //! one row, 3 to a row at most 6 off, 10 to any other. `decode` marks a story that is worth as much as any; `bound`
 //! says of each reading what the best story through it is worth, so that rivals that are as good are seen.
 //!
+//! `rows` has the rows on which a number in a field stands: of video, film, numbers on both fields of a picture, other
+//! speeds and stills.
+//!
 //! It is one pass over the readings in the order of their fields. `table` keeps the place of the best reading on each
 //! row, and that of the best of all; readings are entered there once a later field is reached, so that no story takes
 //! two of one field. A reading's value is its weight and the best of what may stand before it (`before`): nothing, the
@@ -19,7 +22,8 @@
 //! of a story that no other is worth more than: above all that between two true readings all that is told is true, if
 //! whatever is misread there is outweighed. Nothing allocates or fails.
 //!
-//! A change of a price changes `specs/Story.antt`, the worked rows of `story_laws` and what it says of two steps.
+//! A change of a price changes `specs/Story.antt`, the worked rows of `story_laws` and what it says of two steps; of a
+//! row `specs/Rows.antt` and `row_laws`.
 #![tactic(auto)]
 
 mod before;
@@ -29,6 +33,8 @@ mod judge;
 mod place;
 mod reading;
 mod rivals;
+pub mod row_laws;
+mod rows;
 mod story;
 pub mod story_laws;
 mod table;
@@ -37,4 +43,5 @@ mod walk;
 pub use belief::{GROUP_ENOUGH, STORY_MARGIN, believe};
 pub use reading::NumberReading;
 pub use rivals::bound;
+pub use rows::Playing;
 pub use story::decode;
