@@ -78,7 +78,7 @@ module _ (told : List NumberReading) where
         ))
   ]
 
-  first_step : (x : ℕ) → x + 1 < length told
+  pub first_step : (x : ℕ) → x + 1 < length told
       → paid (x + 1 + 1) ≡ paid (x + 1) + row_price (row_at x) (row_at (x + 1))
   first_step x less =
       let at : x + 1 - 1 ≡ x = omega arith in

@@ -1,19 +1,16 @@
 -- What is misread between two told readings that are true, where one of it is believed.
 use Rattle.std.proofs.Common.{◌≡◌, ◌≢◌, inl, inr, ℕ, zero, suc, ◌+◌, ◌-◌, ◌<◌, ◌≤◌, List, length}
-use Rattle.std.proofs.Common.{arith, sym, ◌∙◌, ap, take}
-use Rattle.std.proofs.lemmas.Bool.{cases_eq, cases_lt}
+use Rattle.std.proofs.Common.{arith, sym, ◌∙◌, ap, take, false}
+use Rattle.std.proofs.lemmas.Bool.{cases_eq}
 use Rattle.vbi_story.specs.declared.reading.NumberReading.{NumberReading}
-use Rattle.vbi_story.specs.Story.{reading_at, row_price, near}
-use Rattle.vbi_story.specs.Story.{IsBest}
-use Rattle.vbi_story.specs.Story.{weight}
-use Rattle.vbi_story.specs.Stretches.{IsOff, IsWithin, AreLighter}
-use Rattle.vbi_story.specs.Beliefs.{part, without, IsChain, IsFarBehind, IsBelieved}
-use Rattle.vbi_story.proofs.Prices.{price_same, price_least}
+use Rattle.vbi_story.specs.Story.{row_price, near, far, is_near, IsBest, weight}
+use Rattle.vbi_story.specs.Beliefs.{part, without, IsChain, IsFarBehind}
+use Rattle.vbi_story.proofs.Prices.{price_same, price_least, price_far}
 use Rattle.vbi_story.proofs.Through.{price_turned}
 use Rattle.vbi_story.proofs.Chains.{to_end}
-use Rattle.vbi_story.proofs.Parts.{story_without, story_part, each_part, weight_part}
-use Rattle.vbi_story.proofs.Believing.{order_at}
-use Rattle.vbi_story.proofs.Excursions.{row_at, paid, paid_more, way_least, way_home, way_out, part_least, run_least}
+use Rattle.vbi_story.proofs.Parts.{story_without, weight_part}
+use Rattle.vbi_story.proofs.Excursions.{row_at, paid, paid_more, paid_up, first_step, way_least, way_home, way_out}
+use Rattle.vbi_story.proofs.Excursions.{part_least, run_least}
 
 -- ---- a run off the row
 
@@ -231,96 +228,80 @@ module _ (readings told : List NumberReading) (row a s e b : ℕ) (best : IsBest
     ]
   ]
 
--- ---- the readings of the row around it
+  -- where all that is told there is far off
+  module _ (away : (n : ℕ) → a < n → n < b → is_near (row_at told n) row ≡ false) where
+    first_far : paid told (a + 1) + far ≤ paid told (a + 1 + 1)
+    first_far =
+        let step : far ≤ row_price (row_at told (a + 1)) row
+        = price_far (row_at told (a + 1)) row (off (a + 1) (omega arith) (omega (arith, some)))
+        (away (a + 1) (omega arith) (omega (arith, some))) in
+        let turned : row_price (row_at told a) (row_at told (a + 1)) ≡ row_price (row_at told (a + 1)) row
+        = ap (λ (r : ℕ). row_price r (row_at told (a + 1))) on_a ∙ price_turned row (row_at told (a + 1)) in
+        omega (arith, first_step told a (omega (arith, some)), step, turned)
 
-module _ (told : List NumberReading) (row : ℕ) where
-  last_on : (k i s : ℕ) → s ≡ i + suc k → row_at told i ≡ row
-      → (a : ℕ) × (i ≤ a) × (a < s) × (row_at told a ≡ row)
-      × ((n : ℕ) → a < n → n < s → row_at told n ≢ row)
-  last_on zero i s is on = (i, omega arith, omega arith, on, λ n after before. absurd (omega arith))
-  last_on (suc k) i s is on = elim (cases_eq (row_at told (s - 1)) row) [
-    | inl here ↦ (s - 1, omega arith, omega arith, here, λ n after before. absurd (omega arith))
-    | inr other ↦
-        let w = last_on k i (s - 1) (omega arith) on in (
-          w.0,
-          w.1,
-          omega (arith, w.2),
-          w.3,
-          λ n after before. elim (cases_eq n (s - 1)) [
-            | inl last ↦ λ same. other (ap (row_at told) (sym last) ∙ same)
-            | inr less ↦ w.4 n after (omega arith)
-          ],
+    last_far : paid told b + far ≤ paid told (b + 1)
+    last_far =
+        let step : far ≤ row_price (row_at told (b - 1)) row
+        = price_far (row_at told (b - 1)) row (off (b - 1) (omega (arith, some)) (omega (arith, some)))
+        (away (b - 1) (omega (arith, some)) (omega (arith, some))) in
+        omega (
+          arith,
+          paid_more told b (omega (arith, some)) inside,
+          step,
+          ap (row_price (row_at told (b - 1))) on_b,
         )
-  ]
 
-  first_on : (k e m : ℕ) → m ≡ e + k → row_at told m ≡ row
-      → (b : ℕ) × (e ≤ b) × (b ≤ m) × (row_at told b ≡ row)
-      × ((n : ℕ) → e ≤ n → n < b → row_at told n ≢ row)
-  first_on zero e m is on = (m, omega arith, omega arith, on, λ n after before. absurd (omega arith))
-  first_on (suc k) e m is on = elim (cases_eq (row_at told e) row) [
-    | inl here ↦ (e, omega arith, omega arith, here, λ n after before. absurd (omega arith))
-    | inr other ↦
-        let w = first_on k (e + 1) m (omega arith) on in (
-          w.0,
-          omega (arith, w.1),
-          w.2,
-          w.3,
-          λ n after before. elim (cases_eq n e) [
-            | inl first ↦ λ same. other (ap (row_at told) (sym first) ∙ same)
-            | inr more ↦ w.4 n (omega arith) before
-          ],
+    far_alone : s ≡ a + 1 → e ≡ b → 23 ≤ weight (part told (a + 1) b)
+    far_alone first last =
+        let at : s - 1 ≡ a = omega arith in
+        let same : row_at told (s - 1) ≡ row_at told e
+        = ap (row_at told) at ∙ on_a ∙ sym on_b ∙ ap (row_at told) (sym last) in
+        omega (
+          arith,
+          held,
+          price_same (row_at told (s - 1)) (row_at told e) same,
+          paid_run,
+          first_far,
+          last_far,
+          ap (paid told) first,
+          ap (λ (n : ℕ). paid told (n + 1)) first,
+          ap (paid told) last,
+          ap (λ (n : ℕ). paid told (n + 1)) last,
+          ap (λ (n : ℕ). weight (part told n e)) first,
+          ap (λ (n : ℕ). weight (part told (a + 1) n)) last,
         )
-  ]
 
--- ---- what is believed between two true readings is true
+    far_then : s ≡ a + 1 → e < b → 23 ≤ weight (part told (a + 1) b)
+    far_then first less = omega (
+      arith,
+      all_least,
+      first_far,
+      last_far,
+      paid_run,
+      paid_from,
+      from_least,
+      ap (λ (n : ℕ). paid told (n + 1)) first,
+      paid_up told (b - e - 1) (e + 1) b (omega arith) (omega arith),
+    )
 
-module _ (readings told : List NumberReading) (row from to i j k : ℕ) (best : IsBest readings told)
-    (few : AreLighter readings row from to 11) (first : i < j) (last : j < k) (inside : k < length told)
-    (on_i : row_at told i ≡ row) (on_k : row_at told k ≡ row) (begin : from ≤ (reading_at told i).field)
-    (end : (reading_at told k).field ≤ to) where
-  off_none : (s e : ℕ) → IsChain 0 told s e → s ≤ j → j < e → IsFarBehind (without told s e) told
-      → row_at told j ≢ row → ⊥
-  off_none s e run after before behind off_j =
-      let here : (n : ℕ) → s ≤ n → n < e → row_at told n ≢ row
-      = λ n from_s to_e same. off_j (same_run told s e run (j - s) j (omega arith) before
-      ∙ sym (same_run told s e run (n - s) n (omega arith) to_e) ∙ same) in
-      let i_less : i < s = elim (cases_lt i s) [
-        | inl less ↦ less
-        | inr more ↦ absurd (here i more (omega arith) on_i)
-      ] in
-      let k_most : e ≤ k = elim (cases_lt k e) [
-        | inl less ↦ absurd (here k (omega arith) less on_k)
-        | inr more ↦ more
-      ] in
-      let left = last_on told row (s - i - 1) i s (omega arith) on_i in
-      let right = first_on told row (k - e) e k (omega arith) on_k in
-      let a = left.0 in
-      let b = right.0 in
-      let off : (n : ℕ) → a < n → n < b → row_at told n ≢ row
-      = λ n from_a to_b. elim (cases_lt n s) [
-        | inl less ↦ left.4 n from_a less
-        | inr more ↦ elim (cases_lt n e) [
-          | inl less ↦ here n more less
-          | inr past ↦ right.4 n past to_b
-        ]
-      ] in
-      let le : a + 1 ≤ b = omega (arith, left.2, right.1) in
-      let wrong = part told (a + 1) b in
-      let inside_b : b ≤ length told = omega (arith, right.2) in
-      let order = order_at told best.story_is.ascends in
-      let heavy = misread_heavy readings told row a s e b best run behind left.3 right.3 left.2 right.1
-      (omega (arith, right.2)) off in
-      let light = few wrong (story_part told (a + 1) b le readings best.story_is)
-      (each_part told (a + 1) b le (IsWithin from to) inside_b (λ n from_a to_b. (
-        omega (arith, begin, order i n (omega (arith, left.1)) (omega arith)),
-        omega (arith, end, order n k (omega (arith, right.2)) inside),
-      )))
-      (each_part told (a + 1) b le (IsOff row) inside_b (λ n from_a to_b. off n (omega arith) to_b)) in
-      absurd (omega (arith, heavy, light))
+    far_before : a + 1 < s → 23 ≤ weight (part told (a + 1) b)
+    far_before more = omega (
+      arith,
+      all_least,
+      first_far,
+      last_far,
+      paid_to,
+      to_least,
+      paid_run,
+      paid_up told (s - a - 1 - 1) (a + 1 + 1) s (omega arith) (omega (arith, some)),
+      paid_up told (b - e) e b (omega arith) (omega arith),
+    )
 
-  pub believed_on : IsBelieved readings told j → row_at told j ≡ row
-  believed_on believed = elim (cases_eq (row_at told j) row) [
-    | inl same ↦ same
-    | inr other ↦
-        let run = believed.held in absurd (off_none run.0 run.1 run.2 run.3 run.4 run.5 other)
-  ]
+    pub misread_far : 23 ≤ weight (part told (a + 1) b)
+    misread_far = elim (cases_eq s (a + 1)) [
+      | inl first ↦ elim (cases_eq e b) [
+        | inl last ↦ far_alone first last
+        | inr less ↦ far_then first (omega arith)
+      ]
+      | inr more ↦ far_before (omega arith)
+    ]

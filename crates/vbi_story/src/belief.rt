@@ -7,7 +7,8 @@
 //! that go on as well, neither is believed.
 //!
 //! The bounds are what `believed_is_true` rests on: to leave a row for a near one and come back costs 6, and with the
-//! margin of 4 what is misread between true readings has to weigh more than 10 before any of it is believed.
+//! margin of 4 what is misread between true readings has to weigh more than 10 before any of it is believed; and 23 if
+//! all of it is far off.
 
 ghost use Rattle.std.specs.Prelude.{◌≡◌, ◌≢◌, ◌⊎◌, ◌↔◌, ℕ, ◌+◌, ◌-◌, ◌<◌, ◌≤◌, ◌^◌, length, slice_index};
 ghost use Rattle.std.specs.Prelude.{slice_index_or};

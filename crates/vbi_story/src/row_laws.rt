@@ -20,8 +20,8 @@ pub fn one_row()
         → (row_of Still last big i m ≡ row_of Still last big k n) ↔ ((m ≡ n) × (i % 2 ≡ k % 2)) }
 {}
 
-/// Rows written down by hand, on a side of the fields 0 to 100 whose numbers go up to 40: of video and its second field;
-/// of four pictures of film; of a number's three pictures; and of numbers that rise or fall by two and by three.
+/// Rows written down by hand, on a side of the fields 0 to 100 whose numbers go up to 40: of video and its second
+/// field; of four pictures of film; of a number's three pictures; and of numbers that rise or fall by two and by three.
 pub fn worked_rows()
     ensures video { row_of Video 100 40 10 5 ∷ row_of Video 100 40 12 6 ∷ row_of Video 100 40 13 6 ∷ []
         ≡ 81 ∷ 81 ∷ 82 ∷ [] }

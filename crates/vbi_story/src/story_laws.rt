@@ -89,12 +89,18 @@ pub fn sure()
 {}
 
 /// Nothing false is believed between two true readings that are told, unless what is misread there weighs more than
-/// 10: as much as two near steps cost, and the margin.
+/// 10: as much as two near steps cost, and the margin. Where all of it is far off, it has to weigh 23.
 pub fn believed_is_true()
-    ensures { (readings told : List NumberReading) (row from to i j k : ℕ)
-        → IsBest readings told → AreLighter readings row from to 11 → i < j → j < k → k < length told
+    ensures near { (readings told : List NumberReading) (row from to i j k : ℕ)
+        → IsBest readings told → i < j → j < k → k < length told
         → IsOn row (reading_at told i) → IsOn row (reading_at told k)
         → from ≤ (reading_at told i).field → (reading_at told k).field ≤ to
+        → AreLighter readings row from to 11 → IsBelieved readings told j → IsOn row (reading_at told j) }
+    ensures far { (readings told : List NumberReading) (row from to i j k : ℕ)
+        → IsBest readings told → i < j → j < k → k < length told
+        → IsOn row (reading_at told i) → IsOn row (reading_at told k)
+        → from ≤ (reading_at told i).field → (reading_at told k).field ≤ to
+        → AreLighter readings row from to 23 → AreFarOff readings row from to
         → IsBelieved readings told j → IsOn row (reading_at told j) }
 {}
 
