@@ -14,13 +14,13 @@
 //! It is one pass over the readings in the order of their fields. `table` keeps the place of the best reading on each
 //! row, and that of the best of all; readings are entered there once a later field is reached, so that no story takes
 //! two of one field. A reading's value is its weight and the best of what may stand before it (`before`): nothing, the
-//! best on its row, the best on a near row less 3, the best of all less 10. `judge` keeps of each reading its value
-//! and its origin, and on the way back (`walk`) what was taken is marked. `rivals` makes the same pass over the
-//! readings in a mirror too, last field first. `place` keeps the place of a reading in 4 bytes. The time grows as the
-//! readings. A story tells misread numbers too, where nothing outweighs them: `belief` says which told readings are
-//! believed, by the runs and groups (`chain`) in which they are told, and by their rivals. `story_laws` says what holds
-//! of a story that no other is worth more than: above all that between two true readings all that is told is true, if
-//! whatever is misread there is outweighed. Nothing allocates or fails.
+//! best on its row, the best on a near row less 3, the best of all less 10. `judge` keeps of each reading its value and
+//! its origin, and on the way back (`walk`) what was taken is marked, and told (`told`). `rivals` makes the same pass
+//! over the readings in a mirror too, last field first. `place` keeps the place of a reading in 4 bytes. The time grows
+//! as the readings. A story tells misread numbers too, where nothing outweighs them: `belief` says which told readings
+//! are believed, by the runs and groups (`chain`) in which they are told, and by their rivals. `story_laws` says what
+//! holds of a story that no other is worth more than: above all that between two true readings all that is told is
+//! true, if whatever is misread there is outweighed. Nothing allocates or fails.
 //!
 //! A change of a price changes `specs/Story.antt`, the worked rows of `story_laws` and what it says of two steps; of a
 //! row `specs/Rows.antt` and `row_laws`.
@@ -38,6 +38,7 @@ mod rows;
 mod story;
 pub mod story_laws;
 mod table;
+mod told;
 mod walk;
 
 pub use belief::{GROUP_ENOUGH, STORY_MARGIN, believe};
@@ -45,3 +46,4 @@ pub use reading::NumberReading;
 pub use rivals::bound;
 pub use rows::Playing;
 pub use story::decode;
+pub use told::tell;
