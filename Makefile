@@ -56,7 +56,7 @@ WHEELS ?= dist
 DEBS ?= dist
 SOURCES := $(shell find crates -name out -prune -o \( -name '*.rt' -o -name '*.antt' \) -print)
 LIBRARY_CRATES := $(addprefix crates/,vbi_words/% vbi_line/% vbi_near/% vbi_field/% vbi_side/% vbi_whole/% vbi_plan/% \
-	vbi_seek/% vbi_c/%)
+	vbi_story/% vbi_seek/% vbi_c/%)
 LIBRARY_SOURCES := $(filter $(LIBRARY_CRATES),$(SOURCES))
 
 # $(call proved,CRATE,COMMAND): proves and builds a crate by a command of the toolchain, and prints a line with the time
@@ -105,6 +105,7 @@ libldvbi.a: crates.txt $(LIBRARY_SOURCES)
 	$(call proved,vbi_side,rt lib $(LARGE))
 	$(call proved,vbi_whole,rt lib $(LARGE))
 	$(call proved,vbi_plan,rt lib $(SMALL))
+	$(call proved,vbi_story,rt lib $(SMALL))
 	$(call proved,vbi_seek,rt lib $(LARGE))
 	$(call proved,vbi_c,rt lib $(SMALL))
 	cp crates/vbi_c/out/libvbi_c.a libldvbi.a

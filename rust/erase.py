@@ -15,7 +15,7 @@ import sys
 
 MODULES = {"vbi_words": "words", "vbi_line": "line", "vbi_field": "field", "vbi_meta": "meta", "vbi_cli": "cli",
            "vbi_near": "near", "vbi_side": "side", "vbi_whole": "whole_side", "vbi_plan": "plan", "vbi_seek": "seek",
-           "vbi_c": "c"}
+           "vbi_story": "story", "vbi_c": "c"}
 # Those that need a feature of the crate
 ATTRIBUTES_OF = {"meta": '#[cfg(feature = "metadata")]\n', "cli": '#[cfg(feature = "cli")]\n'}
 # A comment, a text or a character, in which nothing is code

@@ -25,7 +25,7 @@
 } > places
 described='pkgconfig/ldvbi.pc cmake/ldvbi/ldvbi-config.cmake cmake/ldvbi/ldvbi-config-version.cmake'
 program_crates='vbi_words vbi_line vbi_near vbi_field vbi_meta vbi_cli ldvbi'
-library_crates='vbi_words vbi_line vbi_near vbi_field vbi_side vbi_whole vbi_plan vbi_seek vbi_c'
+library_crates='vbi_words vbi_line vbi_near vbi_field vbi_side vbi_whole vbi_plan vbi_story vbi_seek vbi_c'
 libraries='libldvbi.a libldvbi.so libldvbi.so.3'
 version=$(sed -n 's/^## \([0-9.]*\) .*/\1/p' "$top/CHANGELOG.md" | head -n 1)
 umask 077
@@ -257,14 +257,14 @@ done
 while IFS='|' read -r target rows; do
     rm -f proofs
     made source $target JOBS=3
-    echo "$rows" | tr ',' '\n' | sed 's/ [1-9]/ lib --jobs&/; s/run lib/run/' > wanted_words
+    echo "$rows" | tr ',' '\n' | sed '/^ldvbi/! s/^/vbi_/; s/ [1-9]/ lib --jobs&/; s/run lib/run/' > wanted_words
     sed 's/ .*/ proved, 5 s/' wanted_words > wanted_text
     judge "make $target says one line of a crate" 0 wanted_text ''
     check "make $target: what is proved" cmp wanted_words proofs
     check "make $target: what is copied" [ "$(cat source/$target)" = "of $(tail -n 1 proofs | cut -d ' ' -f 1)" ]
 done << 'END'
-ldvbi|vbi_words 3,vbi_line 3,vbi_near 3,vbi_field 3,vbi_meta 1,vbi_cli 3,ldvbi run 1 -- --help
-libldvbi.a|vbi_words 3,vbi_line 3,vbi_near 3,vbi_field 3,vbi_side 3,vbi_whole 3,vbi_plan 1,vbi_seek 3,vbi_c 1
+ldvbi|words 3,line 3,near 3,field 3,meta 1,cli 3,ldvbi run 1 -- --help
+libldvbi.a|words 3,line 3,near 3,field 3,side 3,whole 3,plan 1,story 1,seek 3,c 1
 END
 { echo 'rt run --jobs 1 -- --help'; seq 99; } > wanted
 check 'the log has what the toolchain said' cmp source/crates/ldvbi/out/make.log wanted

@@ -16,7 +16,7 @@ import tempfile
 
 MODULES = {"vbi_words": "words", "vbi_line": "line", "vbi_field": "field", "vbi_meta": "meta", "vbi_cli": "cli",
            "vbi_near": "near", "vbi_side": "side", "vbi_whole": "whole_side", "vbi_plan": "plan", "vbi_seek": "seek",
-           "vbi_c": "c"}
+           "vbi_story": "story", "vbi_c": "c"}
 TOKEN = re.compile(r"""//[^\n]*|b?"(?:\\.|[^"\\])*"|b?'(?:\\[^'\n]+|[^'\\\n])'|'[a-z_]\w*|\w+|::|->|=>|\S""", re.S)
 CLOSING = {"(": ")", "[": "]", "{": "}"}
 LAWS = re.compile(r"(?:\w+_)?laws")

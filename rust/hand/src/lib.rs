@@ -119,6 +119,9 @@ mod seek;
 #[allow(dead_code, unused_imports)]
 mod side;
 mod sides;
+#[cfg(not(one_file))]
+#[allow(dead_code, unused_imports)]
+mod story;
 mod whole;
 #[cfg(not(one_file))]
 #[allow(dead_code, unused_imports)]
