@@ -82,6 +82,7 @@ impl Progress {
 
     /// Takes the reading of the next row, if it is selected, and reports the readings of a field that is whole now.
     #[tactic(auto, using(crate::proofs::Growing::within_field, crate::proofs::Growing::past_field))]
+    #[inline]
     fn advance(&mut self, config: &Config, reading: Option<Reading>) -> Option<FieldReadings>
         requires { IsWithin config.now self.old }
         ensures inside { self.new.row < height_of config.now.system }

@@ -33,6 +33,7 @@ pub fn read_twice(line: &mut LineBuf, system: System, slicing: Levels) -> Readin
 }
 
 /// The reading of a line that is held whole, if it is selected; the line is held no longer.
+#[inline]
 pub fn take_reading(line: &mut LineBuf, slicing: Levels, is_selected: bool) -> Option<Reading>
     requires full { IsFull line.old }
     requires passes { line.old.cursors ≡ [] }

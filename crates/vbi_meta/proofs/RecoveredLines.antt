@@ -12,7 +12,7 @@ use Rattle.vbi_line.proofs.OneReading.{is_outcome}
 use Rattle.vbi_near.specs.declared.near.Nears.{Nears}
 use Rattle.vbi_near.specs.declared.margins.Margins.{Margins}
 use Rattle.vbi_near.specs.declared.margins.MarginSet.{MarginSet}
-use Rattle.vbi_near.specs.declared.word_rule.Agreement.{Stand}
+use Rattle.vbi_near.specs.declared.word_rule.Agreement.{Agreement}
 use Rattle.vbi_near.specs.declared.word_rule.Agreement.TheVariants.{Alone, Apart, Together}
 use Rattle.vbi_near.specs.Candidates.{Row, Lines, HasNear, HasNearIf, AreOf, AreOfBoth, given_samples, given_line}
 use Rattle.vbi_near.specs.Candidates.{given_pair}
@@ -131,7 +131,7 @@ says-words lines can None unit none margins count = none-words
 says-words lines can (Some near) unit (can_be, has) margins count =
     unless-words (said_of unit margins count near) (said-words lines near has unit margins count)
 
-in-words : (margins : MarginSet) (stand : Stand) (unit : ℕ) (near both : Option Nears) → SaysWords unit near
+in-words : (margins : MarginSet) (stand : Agreement) (unit : ℕ) (near both : Option Nears) → SaysWords unit near
     → SaysWords unit both → AreWords (said_in margins stand unit near both)
 in-words margins Alone unit near both is are = is margins.lone 1
 in-words margins Apart unit near both is are = is margins.apart 1
