@@ -18,10 +18,13 @@ use Rattle.vbi_cli.specs.declared.fault.AppFault.{AppFault}
 use Rattle.vbi_cli.specs.declared.fault.AppFault.TheVariants as app
 use Rattle.vbi_cli.specs.declared.job.Ended.{Ended}
 use Rattle.vbi_cli.specs.declared.job.Ended.TheVariants.{Whole, CutField}
+use Rattle.vbi_cli.specs.declared.job.Text.{Text}
+use Rattle.vbi_cli.specs.declared.job.Text.TheVariants.{Document, RecoveredDocument, Report, RecoveredReport}
 use Rattle.vbi_cli.specs.declared.command_line.Job.{Job}
 use Rattle.vbi_cli.specs.declared.command_line.Verb.{Verb}
 use Rattle.vbi_cli.specs.declared.command_line.Verb.TheVariants.{Line, Extract, Show, Draw}
 use Rattle.vbi_line.specs.Intake as lines
+use Rattle.vbi_line.specs.declared.intake.Intake.{Intake}
 use Rattle.vbi_field.specs.Draws as draws
 use Rattle.vbi_field.specs.declared.drawing.DrawFault.{DrawFault}
 use Rattle.vbi_field.specs.declared.drawing.DrawFault.TheVariants as draw
@@ -148,6 +151,13 @@ module _ {R : Type 0} where
   recover_of (source.Extract i recover) = recover
   recover_of (source.Show i recover) = recover
   recover_of (source.Draw i) = false
+
+  -- what is read for a text of a stream
+  abbrev pub source_of : Text → Intake R → Source R
+  source_of Document i = source.Extract i false
+  source_of RecoveredDocument i = source.Extract i true
+  source_of Report i = source.Show i false
+  source_of RecoveredReport i = source.Show i true
 
   -- the reader has not been called; what is read by lines is read by those of this system
   abbrev pub IsFresh : Source R → System → Type 0

@@ -2,12 +2,15 @@
 
 ghost use Rattle.std.specs.Prelude.{◌≡◌, ◌≢◌, IfOk, IfErr, Err, true, false, option_map};
 ghost use Rattle.vbi_line.specs.Counted.{IsSameDevice};
+ghost use Rattle.vbi_line.specs.Intake as lines;
 ghost use Rattle.vbi_field.specs.Outlet as outlets;
-ghost use Rattle.vbi_field.specs.Ran.{over};
+ghost use Rattle.vbi_field.specs.{Extracts.AreSameDevices, Ran.over};
+ghost use Rattle.vbi_field.specs.RowIntake as row_intakes;
 ghost use Rattle.vbi_meta.specs.DocumentValue.{IsConfig};
 ghost use Rattle.vbi_cli.specs.Jobs.{Settles, Refuses, Under, Counting, Did, IfMeta, UnlessMeta, IsEndedBy};
-ghost use Rattle.vbi_cli.specs.Jobs.{IsAnsweredBy, IsDrawnBy, Does, app_status};
+ghost use Rattle.vbi_cli.specs.Jobs.{IsAnsweredBy, IsDrawnBy, Does, source_of, app_status};
 ghost use Rattle.vbi_cli.specs.Jobs as sources;
+ghost use Rattle.vbi_cli.specs.declared.source.Source.TheVariants as source;
 
 use crate::command_line::Job;
 use crate::fault::AppFault;
@@ -100,27 +103,42 @@ fn do_command<R: Read, W: Write>(
     ensures did { Does config.now (over R.remaining source.old source.new)
         (over W.contents outlet.old outlet.new) result }
 {
-    numbers(config);
     match source {
-        Source::Line(intake) => line_end(config.system(), run_line(config, intake, outlet)),
+        Source::Line(intake) => line_job(config, intake, outlet),
         Source::Extract {
             intake,
             recover: false,
-        } => end_of(extract(config, intake, outlet)),
+        } => text_job(config, Text::Document, intake, outlet),
         Source::Extract {
             intake,
             recover: true,
-        } => end_of(extract_recovered(config, intake, outlet)),
+        } => text_job(config, Text::RecoveredDocument, intake, outlet),
         Source::Show {
             intake,
             recover: false,
-        } => end_of(show(config, intake, outlet)),
+        } => text_job(config, Text::Report, intake, outlet),
         Source::Show {
             intake,
             recover: true,
-        } => end_of(show_recovered(config, intake, outlet)),
-        Source::Draw(rows) => drawing_end(draw(config, rows, outlet)),
+        } => text_job(config, Text::RecoveredReport, intake, outlet),
+        Source::Draw(rows) => draw_job(config, rows, outlet),
     }
+}
+
+/// The command `line`.
+fn line_job<R: Read, W: Write>(
+    config: &Config,
+    intake: &mut Intake<R>,
+    outlet: &mut Outlet<W>,
+) -> Result<Ended, AppFault>
+    requires intake { lines.IsFresh intake.old config.now.system }
+    requires outlet { outlets.IsFresh outlet.old }
+    ensures same { AreSameDevices intake.old intake.new outlet.old outlet.new }
+    ensures did { Does config.now (over R.remaining (source.Line intake.old) (source.Line intake.new))
+        (over W.contents outlet.old outlet.new) result }
+{
+    let outcome = run_line(config, intake, outlet);
+    line_end(config.system(), outcome)
 }
 
 /// The job's answer to a run over one line.
@@ -135,6 +153,47 @@ fn line_end(system: System, outcome: Result<Outcome, LineFault>) -> Result<Ended
         }),
         Err(LineFault::Read { offset }) => Err(AppFault::ReadLine { offset }),
         Err(LineFault::Write { written }) => Err(AppFault::Write { written }),
+    }
+}
+
+/// A text of a stream.
+#[derive(Clone, Copy)]
+enum Text {
+    /// What `extract` writes.
+    Document,
+    /// What `extract --recover` writes.
+    RecoveredDocument,
+    /// What `show` writes.
+    Report,
+    /// What `show --recover` writes.
+    RecoveredReport,
+}
+
+/// The commands `extract` and `show`, by their text. The document without recovered words is also known to be read back
+/// as the words that the lines show.
+fn text_job<R: Read, W: Write>(
+    config: &Config,
+    text: Text,
+    intake: &mut Intake<R>,
+    outlet: &mut Outlet<W>,
+) -> Result<Ended, AppFault>
+    requires intake { lines.IsFresh intake.old config.now.system }
+    requires outlet { outlets.IsFresh outlet.old }
+    ensures same { AreSameDevices intake.old intake.new outlet.old outlet.new }
+    ensures did { Does config.now (over R.remaining (source_of text intake.old) (source_of text intake.new))
+        (over W.contents outlet.old outlet.new) result }
+{
+    match text {
+        Text::Document => {
+            numbers(config);
+            end_of(extract(config, intake, outlet))
+        }
+        Text::RecoveredDocument => {
+            numbers(config);
+            end_of(extract_recovered(config, intake, outlet))
+        }
+        Text::Report => end_of(show(config, intake, outlet)),
+        Text::RecoveredReport => end_of(show_recovered(config, intake, outlet)),
     }
 }
 
@@ -161,6 +220,23 @@ fn end_of(summary: Result<Summary, RunFault>) -> Result<Ended, AppFault>
         Err(RunFault::TooManyFields) => Err(AppFault::TooManyFields),
         Err(RunFault::Failed) => unreachable!("a run never answers it"),
     }
+}
+
+/// The command `draw`.
+fn draw_job<R: Read, W: Write>(
+    config: &Config,
+    rows: &mut RowIntake<R>,
+    outlet: &mut Outlet<W>,
+) -> Result<Ended, AppFault>
+    requires rows { row_intakes.IsFresh rows.old }
+    requires outlet { outlets.IsFresh outlet.old }
+    ensures same_reader { IsSameDevice (row_intakes.counted_of rows.old) (row_intakes.counted_of rows.new) }
+    ensures same_writer { IsSameDevice (outlets.counted_of outlet.old) (outlets.counted_of outlet.new) }
+    ensures did { Does config.now (over R.remaining (source.Draw rows.old) (source.Draw rows.new))
+        (over W.contents outlet.old outlet.new) result }
+{
+    let fields = draw(config, rows, outlet);
+    drawing_end(fields)
 }
 
 /// The job's answer to a run of drawing.
