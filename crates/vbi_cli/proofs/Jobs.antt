@@ -50,25 +50,18 @@ with_read t Back reads {c = c} {input = input} {n = n} {result = result} numbers
 }
 
 -- what a run of `extract` did, with its answer, by whether it recovers words
-pub did_document : {c : ConfigView} {input0 input output0 output : Option (List ℕ)} {n : Counts}
-    {result : Result Summary RunFault} {answer : Result Ended AppFault} → IsConfig c
-    → Ran input0 input output0 output n (Extracts document c input n result) → IsEndedBy result answer
-    → Did c input0 input output0 output n Extract false answer
-did_document {result = result} numbers ran answered = record {
-  result = result;
-  ran = with_read document ReadsBack extracted numbers ran;
-  answered = answered;
-}
+module _ {c : ConfigView} {input0 input output0 output : Option (List ℕ)} {n : Counts}
+    {result : Result Summary RunFault} {answer : Result Ended AppFault} (numbers : IsConfig c) where
+  pub did_document : Ran input0 input output0 output n (Extracts document c input n result)
+      → IsEndedBy result answer → Did c input0 input output0 output n Extract false answer
+  did_document ran is =
+      record { result = result; ran = with_read document ReadsBack extracted numbers ran; answered = is }
 
-pub did_recovered : {c : ConfigView} {input0 input output0 output : Option (List ℕ)} {n : Counts}
-    {result : Result Summary RunFault} {answer : Result Ended AppFault} → IsConfig c
-    → Ran input0 input output0 output n (Extracts recovered_document c input n result) → IsEndedBy result answer
-    → Did c input0 input output0 output n Extract true answer
-did_recovered {result = result} numbers ran answered = record {
-  result = result;
-  ran = with_read recovered_document RecoversBack extracted_recovered numbers ran;
-  answered = answered;
-}
+  pub did_recovered : Ran input0 input output0 output n (Extracts recovered_document c input n result)
+      → IsEndedBy result answer → Did c input0 input output0 output n Extract true answer
+  did_recovered ran is =
+      let read = with_read recovered_document RecoversBack extracted_recovered numbers ran in
+      record { result = result; ran = read; answered = is }
 
 -- what a command did that recovers words if it can and is asked to
 does_verb : (c : ConfigView) (input0 input output0 output : Option (List ℕ)) (n : Counts) (verb : Verb) (asked : Bool)

@@ -1,6 +1,7 @@
 -- What a line's reading gives to a document: numbers of 64 bits, and a cause in UTF-8 with nothing to escape.
 use Rattle.vbi_meta.proofs.Common.{◌≡◌, ℕ, ◌<◌, ◌≤◌, ◌^◌, Bool, List, [], ◌∷◌, ◌++◌, length, decimal, ◌∙◌, refl, ap}
-use Rattle.vbi_meta.proofs.Common.{ap₂, inl, inr, arith, lit<, true, decimal_is_IsNumeral, IsUtf8-append}
+use Rattle.vbi_meta.proofs.Common.{sym}
+use Rattle.vbi_meta.proofs.Common.{ap₂, subst, inl, inr, arith, lit<, true, decimal_is_IsNumeral, IsUtf8-append}
 use Rattle.vbi_meta.proofs.Common.{digit_from_value, codes, AllDigits, are_ascii, IsUtf8-are_ascii, escape, Outcome}
 use Rattle.vbi_meta.proofs.Common.{Word, Blank, Unfinished, Change, Hold, cause_text_of, Reading, reading_at}
 use Rattle.vbi_meta.proofs.Common.{readings_at, row_levels, line_at, FieldReadings, System, ConfigView, Ntsc, Pal}
@@ -14,7 +15,8 @@ use Rattle.vbi_field.specs.ConfigView.{line_bytes}
 use Rattle.vbi_words.specs.Outcomes.{FirstHopeless, IsOutcome}
 use Rattle.vbi_words.specs.Readings.{Reads}
 use Rattle.vbi_line.specs.OneReading.{reading_of}
-use Rattle.vbi_meta.proofs.{BytesOf.then, PrintedBytes.Printed, PrintedBytes.known, PrintedBytes.count}
+use Rattle.vbi_meta.proofs.BytesOf.{then, are}
+use Rattle.vbi_meta.proofs.PrintedBytes.{Printed, is_printed, known, count}
 
 -- a reading that a line of a stream can have
 pub record IsShown (reading : Reading) : Type 0 where
@@ -61,6 +63,19 @@ small_column : (system : System) (levels : List Bool) (column : ℕ) → length 
     → column < 2 ^ 64
 small_column system levels column short is = omega (arith, is.inside)
 
+-- what shows it, and its column after its name
+with_column : (outcome : Outcome) (name : List ℕ) (column pass : ℕ) → value_of outcome < 2 ^ 64
+    → cause_text_of outcome ≡ name ++ decimal column → escape (name ++ decimal column) ≡ name ++ escape (decimal column)
+    → are_ascii name ≡ true → are is_printed name ≡ true → pass < 2 ^ 64 → column < 2 ^ 64
+    → IsShown (record { outcome = outcome; pass = pass })
+with_column outcome name column pass value text free ascii printed small few = record {
+  value = value;
+  pass = small;
+  free = subst (λ t. escape t ≡ t) (sym text) (column_free name column free few);
+  utf8 = subst IsUtf8 (sym text) (column_utf8 name column ascii few);
+  printed = subst Printed (sym text) (then (known name printed) (count column few));
+}
+
 -- a word, in whatever pass
 pub word_shown : (word pass : ℕ) → IsWord word → pass < 2 ^ 64 → IsShown (record { outcome = Word word; pass = pass })
 unfolding escape_byte
@@ -93,23 +108,11 @@ outcome_shown system levels short Unfinished pass is small = record {
   printed = known (codes "unfinished") refl;
 }
 outcome_shown system levels short (Change c) pass is small =
-    let column = small_column system levels c short is.2 in
-    record {
-      value = lit< tt;
-      pass = small;
-      free = column_free (codes "change ") c refl column;
-      utf8 = column_utf8 (codes "change ") c refl column;
-      printed = then (known (codes "change ") refl) (count c column);
-    }
+    with_column (Change c) (codes "change ") c pass (lit< tt) refl refl refl refl small
+    (small_column system levels c short is.2)
 outcome_shown system levels short (Hold c) pass is small =
-    let column = small_column system levels c short is.2 in
-    record {
-      value = lit< tt;
-      pass = small;
-      free = column_free (codes "hold ") c refl column;
-      utf8 = column_utf8 (codes "hold ") c refl column;
-      printed = then (known (codes "hold ") refl) (count c column);
-    }
+    with_column (Hold c) (codes "hold ") c pass (lit< tt) refl refl refl refl small
+    (small_column system levels c short is.2)
 
 pub is_shown : (system : System) (levels : List Bool) → length levels < 2 ^ 64 → (outcome : Outcome) (pass : ℕ)
     → Reads system levels outcome pass → IsShown (record { outcome = outcome; pass = pass })

@@ -214,6 +214,13 @@ lead_unsaid sums line limit lead code unit columns is chosen not slicing lines c
     let stands = stands_for sums line limit lead is slicing lines costs near row are code chosen in
     unsaid unit columns limit near code stands not
 
+-- the same where the limit is computed
+pub lead_unsaid_by : (sums : Sums) (line limit close : ℕ) (lead : Found) (code : Near) (unit columns : ℕ)
+    → limit ≡ close → IsLeadWithin sums line limit (starts sums.system) lead → IsCodeChosen lead 0 0 code
+    → may_say unit columns limit code ≡ false → IsUnsaid sums line unit columns close
+lead_unsaid_by sums line limit close lead code unit columns same is chosen not =
+    subst (IsUnsaid sums line unit columns) same (lead_unsaid sums line limit lead code unit columns is chosen not)
+
 module _ (lines : Lines) (margins : Margins) (count : ℕ) (word : Nearest)
     (has : HasWord lines.system lines.slicing lines.samples word) (near : Nears) (is : HasNear lines near) where
   same : near.word ≡ word.near
