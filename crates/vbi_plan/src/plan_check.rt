@@ -12,7 +12,7 @@ ghost use Rattle.vbi_plan.specs.Plans.{IsGood, IsDone, Breaks, IsFirstFault, Sho
 ghost use Rattle.vbi_plan.specs.Plans.{IsReached, is_both, out_at, place_of, rank_at, rank_of};
 
 use crate::plan::{
-    Capture, Layout, Plan, PlanFault, PlanRule, Spacing, RankedField, Stretch, counts_on, rank_at,
+    Capture, Layout, Plan, PlanFault, PlanRule, RankedField, Spacing, Stretch, counts_on, rank_at,
 };
 use vbi_side::believed_at;
 

@@ -20,7 +20,7 @@ ghost use Rattle.vbi_seek.specs.{FieldLines.side_of, FieldLines.side_in, Spots.I
 
 use crate::halving::{LEFT, halve, sweep};
 use crate::narrowing::{Between, may_read};
-use crate::search::{Target, Looked, Search};
+use crate::search::{Looked, Search, Target};
 use crate::side_bytes::{FoundField, Setup, SideBytes};
 use crate::spots::{NO_NUMBER, NOTHING_SEEN, SPOT, see_from};
 use vbi_side::{BELIEVED, Number, REACH, judge_chapters};

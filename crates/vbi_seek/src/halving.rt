@@ -16,7 +16,7 @@ ghost use Rattle.vbi_seek.specs.{ChapterSearch.placed_most, Targets.most_of, Tar
 ghost use Rattle.vbi_seek.specs.{declared.asked.Judging.Judging, declared.search.Target.TheVariants.Number};
 
 use crate::narrowing::{Between, Spot, Told, ask_beside, narrow, narrow_between, narrow_either};
-use crate::search::{Target, Looked, Search};
+use crate::search::{Looked, Search, Target};
 use crate::spots::{LONGEST, NOTHING_SEEN};
 
 /// Halving ends when no more fields than these are left: so few are judged at once.

@@ -31,7 +31,7 @@ use crate::asked::{Judging, pace_for};
 use crate::halving::{LEFT, halve, sweep};
 use crate::narrowing::Between;
 use crate::neighbours::{Neighbour, first_higher, last_lower, neighbour_at};
-use crate::search::{Target, Looked, Search, Seek};
+use crate::search::{Looked, Search, Seek, Target};
 use crate::side_bytes::SideBytes;
 use crate::spots::{NO_NUMBER, NOTHING_SEEN, PROBE, see_from};
 use vbi_side::{Number, PART, Pace, REACH, first_of, judge};

@@ -20,7 +20,7 @@ ghost use Rattle.vbi_seek.specs.{Searches.shown_from, Searches.AreSeenFrom, Sear
 ghost use Rattle.vbi_side.specs.{Beliefs.sighting_weight, Sightings.IsSeen};
 
 use crate::field_lines::{chapters_at, numbers_at};
-use crate::search::{Target, Looked, Search};
+use crate::search::{Looked, Search, Target};
 use crate::side_bytes::SideBytes;
 use vbi_side::{NOTHING, Number, Pace, Sighting, Sightings, support};
 

@@ -9,7 +9,7 @@ returns-in_err-here-clause-none c = λ e placed.
     let n = c.in-Some.place.number in
     let plan = plan_of check.plan in
     let shows = shows_here plan check.at c.args.step n check.stretch check.there c.requires.taken c.requires.step
-        c.in-Some.ensures.some.1 in
+    c.in-Some.ensures.some.1 in
     let here = placed c.args.step n shows in
     c.in_place.ensures.none c.in_err-here.was here.own (counts_if_placed plan check.at c.args.step n
     c.args.last.field c.args.last.rank c.requires.reached here)
@@ -20,7 +20,7 @@ returns-clause-some c =
     let n = c.in-Some.place.number in
     let plan = plan_of check.plan in
     let shows = shows_here plan check.at c.args.step n check.stretch check.there c.requires.taken c.requires.step
-        c.in-Some.ensures.some.1 in
+    c.in-Some.ensures.some.1 in
     let here = c.in_ok-here.ensures.some in
     went_on plan check.at c.args.step n c.args.last.field c.args.last.rank c.next_last.result.field
     c.next_last.result.rank c.requires.reached shows here.0 here.1
